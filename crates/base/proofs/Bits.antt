@@ -4,14 +4,14 @@ use mathlib.Core.Path.{_≡_, refl, sym, ap, ap₂, subst, subst₂, _∙_}
 use mathlib.Core.Logic.{_⊎_, inl, inr}
 use mathlib.Core.Bool.{Bool, true, false, cond, not, _&&_, _||_, true≢false, false≢true, and-true, and-false, or-false}
 use Prim.Native.Nat.{ℕ, zero, suc, _+_, _-_, _*_, _/_, _%_, _^_, _≤_, _<_}
-use native.Mathlib.Nat.{zero-div, div-eq-of-lt, add-zero, zero-add, add-suc, add-comm, mul-one, one-mul, pow-suc, lt-of-lt-of-le, le-of-lt, mod-lt, div-one, le-refl, not-suc-le-zero, suc-mul}
+use native.Mathlib.Nat.{zero-div, div-eq-of-lt, add-zero, zero-add, add-suc, add-comm, mul-one, one-mul, pow-suc, lt-of-lt-of-le, le-of-lt, mod-lt, div-one, mod-eq-of-lt, le-refl, not-suc-le-zero, suc-mul}
 use native.Mathlib.Numerals.{add-one, one-add}
 use native.Mathlib.Omega.{arith}
 use lib.Dec.{eqb, ltb, lit<, eqb·zero-suc, eqb·suc-zero, eqb·suc-suc}
 use lib.Pow.{pow-pos, pow-mono, pow-lt, shr-shr, shr-lt, split, field, mod-mod-pow, pow-add, shl-shr}
 use lib.Arith.{lt-of-le-ne, digits-div}
-use lib.Bits.{bitAnd, bitOr, and-shr, or-shr, and-mod, or-mod, and-le-r, or-lt, or-add-and, or-disjoint}
-use borrow.Author.Tests.{eq-eqb, ne-eqb, eqb-true, eqb-false, lt-ltb}
+use lib.Bits.{bitAnd, bitOr, and-shr, or-shr, and-mod, or-mod, and-le-r, or-lt, or-add-and, or-disjoint, or-zero-l}
+use borrow.Author.Tests.{eqb-true, eqb-false, ne-eqb, ltb-true, ltb-false}
 use Rattle.base.specs.Bits.{bit, wordOf, withBit}
 
 -- a digit is 0 or 1
@@ -126,6 +126,14 @@ and-there x w there =
     bit-ext (suc w) (bitAnd x (2 ^ w)) (2 ^ w) (and-pow-lt x w) (omega (arith, pow-suc 2 w, pow-pos w))
     (λ i h. and-bit x w i ∙ ap (λ (b : Bool). b && eqb i w) there ∙ sym (bit-pow w i))
 
+-- `a | b` is 0 just when both are
+pub or-zero : (a b : ℕ) → eqb (bitOr a b) 0 ≡ (eqb a 0 && eqb b 0)
+or-zero a b = go (eqb a 0) refl
+  where
+    go : (t : Bool) → eqb a 0 ≡ t → eqb (bitOr a b) 0 ≡ (t && eqb b 0)
+    go true e = ap (λ (x : ℕ). eqb (bitOr x b) 0) (eqb-true a 0 e) ∙ ap (λ (x : ℕ). eqb x 0) (or-zero-l b)
+    go false e = ne-eqb (bitOr a b) 0 (λ z. eqb-false a 0 e (omega (arith, or-add-and a b, and-le-r a b)))
+
 -- `x | 1 << w` sets bit w
 pub or-with : (x w : ℕ) → bitOr x (2 ^ w) ≡ withBit w x
 unfolding withBit
@@ -140,6 +148,18 @@ bit-with w x i = ap (λ (q : ℕ). bit q i) (sym (or-with x w)) ∙ bit-or x (2 
 
 pub with-lt : (k w x : ℕ) → x < 2 ^ k → w < k → withBit w x < 2 ^ k
 with-lt k w x h g = subst (λ (q : ℕ). q < 2 ^ k) (or-with x w) (or-lt k x (2 ^ w) h (pow-lt g))
+
+-- `1 << w` at a width that holds it
+pub shl-one : (width w : ℕ) → w < width → 1 * 2 ^ w % 2 ^ width ≡ 2 ^ w
+shl-one width w h = ap (λ (x : ℕ). x % 2 ^ width) (one-mul (2 ^ w)) ∙ mod-eq-of-lt (pow-lt h)
+
+-- a bit that is there stands below the width
+pub bit-below : (k x i : ℕ) → x < 2 ^ k → bit x i ≡ true → i < k
+bit-below k x i h there = go (ltb i k) refl
+  where
+    go : (b : Bool) → ltb i k ≡ b → i < k
+    go true e = ltb-true i k e
+    go false e = absurd (true≢false (sym there ∙ bit-high k x i h (ltb-false i k e)))
 
 -- adding a bit that is not there sets it and no other
 pub bit-add : (x w i : ℕ) → bit x w ≡ false → bit (x + 2 ^ w) i ≡ (bit x i || eqb i w)
@@ -159,6 +179,10 @@ taken-clear x w there =
       omega arith,
       ap (λ (k : ℕ). eqb (k % 2) 1) (ap (λ (k : ℕ). k / 2 ^ w) rest ∙ digits-div p (mod-lt x (pow-pos w))) ∙ ap (λ (k : ℕ). eqb k 1) even,
     )
+
+-- a word is at least each of its bits
+pub bit-le : (x w : ℕ) → bit x w ≡ true → 2 ^ w ≤ x
+bit-le x w there = taken-clear x w there .0
 
 -- taking a bit away that is there clears it and no other
 pub bit-take : (x w i : ℕ) → bit x w ≡ true → bit (x - 2 ^ w) i ≡ (bit x i && not (eqb i w))

@@ -1,0 +1,254 @@
+-- The test by ranks decides a total order: each rank's requester must beat exactly those of the ranks before.
+-- Assumes nothing.
+use mathlib.Core.Path.{_≡_, refl, sym, ap, ap₂, subst, subst₂, _∙_}
+use mathlib.Core.Logic.{_⊎_, inl, inr}
+use mathlib.Core.Bool.{Bool, true, false, not, _||_, true≢false, false≢true, or-false, or-true}
+use mathlib.Core.List.{List}
+use Prim.Native.Nat.{ℕ, zero, suc, _-_, _^_, _≤_, _<_}
+use native.Mathlib.Nat.{le-refl}
+use native.Mathlib.Omega.{arith}
+use lib.Arith.{lt-of-le-ne}
+use lib.Count.{ones}
+use lib.Dec.{eqb, ltb}
+use lib.ListN.{getD}
+use lib.Pow.{pow-pos}
+use borrow.Author.Tests.{eqb-true, eqb-false, eq-eqb, ltb-true, ltb-false, lt-ltb, le-ltb}
+use Rattle.base.specs.Bits.{bit, withBit}
+use Rattle.base.proofs.Bits.{bit-ext, bit-zero, bit-with, with-lt}
+use Rattle.base.proofs.Count.{count, count-ext, count-lt, count-more, count-all, ones-count}
+use Rattle.arbiter.specs.Matrix.{beats}
+use Rattle.arbiter.proofs.Ranks.{rankOf}
+use Rattle.arbiter.proofs.TotalOrder.{Order}
+
+-- the word of the requesters of the first r ranks
+unfoldable pub lower : (ℕ → ℕ) → ℕ → ℕ
+lower at zero = 0
+lower at (suc r) = withBit (at r) (lower at r)
+
+pub lower-lt : (n : ℕ) (at : ℕ → ℕ) → ((k : ℕ) → at k < n) → (r : ℕ) → lower at r < 2 ^ n
+unfolding lower
+lower-lt n at inside zero = pow-pos n
+lower-lt n at inside (suc r) = with-lt n (at r) (lower at r) (lower-lt n at inside r) (inside r)
+
+lower-more : (at : ℕ → ℕ) (r j : ℕ) → bit (lower at (suc r)) j ≡ (bit (lower at r) j || eqb j (at r))
+unfolding lower
+lower-more at r j = bit-with (at r) (lower at r) j
+
+lower-has : (at : ℕ → ℕ) (r k : ℕ) → k < r → bit (lower at r) (at k) ≡ true
+lower-has at zero k h = absurd (omega arith)
+lower-has at (suc r) k h = lower-more at r (at k) ∙ go (eqb k r) refl (lower-has at r k)
+  where
+    go : (b : Bool) → eqb k r ≡ b → (k < r → bit (lower at r) (at k) ≡ true) → (bit (lower at r) (at k) || eqb (at k) (at r)) ≡ true
+    go true e rest =
+        ap (λ (b : Bool). bit (lower at r) (at k) || b) (eq-eqb (at k) (at r) (ap at (eqb-true k r e))) ∙ or-true (bit (lower at r) (at k))
+    go false e rest = ap (λ (b : Bool). b || eqb (at k) (at r)) (rest (lt-of-le-ne (omega arith) (eqb-false k r e)))
+
+lower-found : (at : ℕ → ℕ) (r j : ℕ) → bit (lower at r) j ≡ true → (k : ℕ) × (k < r) × (at k ≡ j)
+unfolding lower
+lower-found at zero j p = absurd (false≢true (sym (bit-zero j) ∙ p))
+lower-found at (suc r) j p = go (eqb j (at r)) refl (bit (lower at r) j) refl (lower-found at r j)
+  where
+    go : (b : Bool) → eqb j (at r) ≡ b → (d : Bool) → bit (lower at r) j ≡ d → (bit (lower at r) j ≡ true → (k : ℕ) × (k < r) × (at k ≡ j))
+        → (k : ℕ) × (k < suc r) × (at k ≡ j)
+    go true e d f rest = (r, le-refl (suc r), sym (eqb-true j (at r) e))
+    go false e true f rest = let q = rest f in (q .0, omega (arith, q .1), q .2)
+    go false e false f rest = absurd (false≢true (sym (ap₂ _||_ f e) ∙ sym (lower-more at r j) ∙ p))
+
+-- rank k's requester beats exactly those of the ranks before, and is not one of them
+pub record Link (rows : List ℕ) (at : ℕ → ℕ) (k : ℕ) : Type 0 where
+  pub row : getD rows (at k) 0 ≡ lower at k
+  pub new : bit (lower at k) (at k) ≡ false
+
+-- ---- links at every rank below n, which name all n, make a total order
+module _ (n : ℕ) (rows : List ℕ) (at : ℕ → ℕ) (inside : (k : ℕ) → at k < n) (links : (k : ℕ) → k < n → Link rows at k)
+  (full : (i : ℕ) → i < n → bit (lower at n) i ≡ true) where
+  -- who has a rank beats who has a lower one
+  by-rank : (a b : ℕ) → a < n → b < n → beats rows (at a) (at b) ≡ ltb b a
+  unfolding beats
+  by-rank a b h g = ap (λ (x : ℕ). bit x (at b)) (links a h .row) ∙ go (ltb b a) refl (bit (lower at a) (at b)) refl
+    where
+      go : (t : Bool) → ltb b a ≡ t → (d : Bool) → bit (lower at a) (at b) ≡ d → d ≡ t
+      go true e d f = sym f ∙ lower-has at a b (ltb-true b a e)
+      go false e true f =
+          let k = lower-found at a (at b) f in
+          let l : k .0 < b = let q = k .1 in let m = ltb-false b a e in omega arith in
+          absurd (true≢false (sym (lower-has at b (k .0) l) ∙ ap (bit (lower at b)) (k .2) ∙ links b g .new))
+      go false e false f = refl
+
+  rank : (i : ℕ) → i < n → (k : ℕ) × (k < n) × (at k ≡ i)
+  rank i h = lower-found at n i (full i h)
+
+  beats-rank : (i j : ℕ) (h : i < n) (g : j < n) → beats rows i j ≡ ltb (rank j g .0) (rank i h .0)
+  beats-rank i j h g =
+      sym (ap₂ (beats rows) (rank i h .2) (rank j g .2)) ∙ by-rank (rank i h .0) (rank j g .0) (rank i h .1) (rank j g .1)
+
+  pub links-order : Order n rows
+  links-order =
+      record {
+        irreflexive = λ i h. beats-rank i i h h ∙ le-ltb (rank i h .0) (rank i h .0) (le-refl (rank i h .0));
+        total = λ i j h g d. either i j h g d (ltb (rank j g .0) (rank i h .0)) refl;
+        asymmetric = λ i j h g p.
+            let l = ltb-true (rank j g .0) (rank i h .0) (sym (beats-rank i j h g) ∙ p) in
+            beats-rank j i g h ∙ le-ltb (rank i h .0) (rank j g .0) (omega arith);
+        transitive = λ i j k h g l p q.
+            let a = ltb-true (rank j g .0) (rank i h .0) (sym (beats-rank i j h g) ∙ p) in
+            let b = ltb-true (rank k l .0) (rank j g .0) (sym (beats-rank j k g l) ∙ q) in
+            beats-rank i k h l ∙ lt-ltb (rank k l .0) (rank i h .0) (omega arith)
+      }
+    where
+      either : (i j : ℕ) (h : i < n) (g : j < n) → (i ≡ j → ⊥) → (b : Bool) → ltb (rank j g .0) (rank i h .0) ≡ b
+          → (beats rows i j ≡ true) ⊎ (beats rows j i ≡ true)
+      either i j h g d true e = inl (beats-rank i j h g ∙ e)
+      either i j h g d false e =
+          let l : rank i h .0 < rank j g .0 =
+              lt-of-le-ne (ltb-false (rank j g .0) (rank i h .0) e) (λ q. d (sym (rank i h .2) ∙ ap at q ∙ rank j g .2)) in
+          inr (beats-rank j i g h ∙ lt-ltb (rank i h .0) (rank j g .0) l)
+
+  pub links-within : (i : ℕ) → i < n → getD rows i 0 < 2 ^ n
+  links-within i h =
+      subst (λ (x : ℕ). x < 2 ^ n) (sym (ap (λ (m : ℕ). getD rows m 0) (sym (rank i h .2)) ∙ links (rank i h .0) (rank i h .1) .row))
+      (lower-lt n at inside (rank i h .0))
+
+-- ---- a total order, with a table that names for each rank in use one of that rank, has a link at every rank and names all n
+module _ (n : ℕ) (rows : List ℕ) (at : ℕ → ℕ) (o : Order n rows) (narrow : (i : ℕ) → i < n → getD rows i 0 < 2 ^ n)
+  (inside : (k : ℕ) → at k < n) (ranked : (i : ℕ) → i < n → rankOf rows (at (rankOf rows i)) ≡ rankOf rows i) where
+  count-rank : (i : ℕ) → i < n → rankOf rows i ≡ count (beats rows i) n
+  unfolding beats
+  count-rank i h = ones-count n (getD rows i 0) (narrow i h)
+
+  -- who beats another beats more
+  higher : (i j : ℕ) → i < n → j < n → beats rows i j ≡ true → rankOf rows j < rankOf rows i
+  higher i j h g b =
+      subst₂ _<_ (sym (count-rank j g)) (sym (count-rank i h))
+      (count-lt (beats rows j) (beats rows i) n j (λ k l p. o .transitive i j k h g l b p) g (o .irreflexive j g) b)
+
+  rank-injective : (i j : ℕ) → i < n → j < n → rankOf rows i ≡ rankOf rows j → i ≡ j
+  rank-injective i j h g e = go (eqb i j) refl
+    where
+      differ : (beats rows i j ≡ true) ⊎ (beats rows j i ≡ true) → ⊥
+      differ (inl b) = let l = higher i j h g b in omega arith
+      differ (inr b) = let l = higher j i g h b in omega arith
+      go : (b : Bool) → eqb i j ≡ b → i ≡ j
+      go true q = eqb-true i j q
+      go false q = absurd (differ (o .total i j h g (eqb-false i j q)))
+
+  -- among the numbers below k that pass a test, the one that all others beat
+  record Least (test : ℕ → Bool) (k m : ℕ) : Type 0 where
+    below : m < k
+    passes : test m ≡ true
+    others : (x : ℕ) → x < k → test x ≡ true → (x ≡ m → ⊥) → beats rows x m ≡ true
+
+  least : (test : ℕ → Bool) (k : ℕ) → k ≤ n → ((x : ℕ) → x < k → test x ≡ false) ⊎ ((m : ℕ) × Least test k m)
+  least test zero h = inl (λ x l. absurd (omega arith))
+  least test (suc k) h = go (test k) refl (least test k (omega arith))
+    where
+      under : (x : ℕ) → x < suc k → (x ≡ k → ⊥) → x < k
+      under x l d = lt-of-le-ne (omega arith) d
+      go : (b : Bool) → test k ≡ b → ((x : ℕ) → x < k → test x ≡ false) ⊎ ((m : ℕ) × Least test k m)
+          → ((x : ℕ) → x < suc k → test x ≡ false) ⊎ ((m : ℕ) × Least test (suc k) m)
+      go false e (inl none) = inl (λ x l. last x l (eqb x k) refl)
+        where
+          last : (x : ℕ) → x < suc k → (b : Bool) → eqb x k ≡ b → test x ≡ false
+          last x l true q = ap test (eqb-true x k q) ∙ e
+          last x l false q = none x (under x l (eqb-false x k q))
+      go false e (inr (m, q)) =
+          inr (m,
+          record {
+            below = let l = q .below in omega arith;
+            passes = q .passes;
+            others = λ x g t d. q .others x (under x g (λ same. true≢false (sym t ∙ ap test same ∙ e))) t d
+          })
+      go true e (inl none) =
+          inr (k, record { below = le-refl (suc k); passes = e; others = λ x g t d. absurd (true≢false (sym t ∙ none x (under x g d))) })
+      go true e (inr (m, q)) = by-order (o .total k m h (let l = q .below in omega arith) (λ same. let l = q .below in omega arith))
+        where
+          by-order : (beats rows k m ≡ true) ⊎ (beats rows m k ≡ true) → ((x : ℕ) → x < suc k → test x ≡ false) ⊎ ((m : ℕ) × Least test (suc k) m)
+          by-order (inl b) =
+              inr (m, record { below = let l = q .below in omega arith; passes = q .passes; others = λ x g t d. keep x g t d (eqb x k) refl })
+            where
+              keep : (x : ℕ) → x < suc k → test x ≡ true → (x ≡ m → ⊥) → (b : Bool) → eqb x k ≡ b → beats rows x m ≡ true
+              keep x g t d true same = ap (λ (y : ℕ). beats rows y m) (eqb-true x k same) ∙ b
+              keep x g t d false differs = q .others x (under x g (eqb-false x k differs)) t d
+          by-order (inr b) = inr (k, record { below = le-refl (suc k); passes = e; others = λ x g t d. past x (under x g d) t (eqb x m) refl })
+            where
+              past : (x : ℕ) → x < k → test x ≡ true → (b : Bool) → eqb x m ≡ b → beats rows x k ≡ true
+              past x g t true same = ap (λ (y : ℕ). beats rows y k) (eqb-true x m same) ∙ b
+              past x g t false differs =
+                  o .transitive x m k (omega arith) (let l = q .below in omega arith) h (q .others x g t (eqb-false x m differs)) b
+
+  -- the first r ranks: r requesters, each beaten by all others
+  record Lowest (r : ℕ) : Type 0 where
+    many : count (bit (lower at r)) n ≡ r
+    beaten : (s x : ℕ) → s < n → x < n → bit (lower at r) s ≡ true → bit (lower at r) x ≡ false → beats rows x s ≡ true
+
+  next : (r : ℕ) → r < n → Lowest r → Link rows at r × Lowest (suc r)
+  unfolding beats
+  next r h low = go (least (λ (x : ℕ). not (bit (lower at r) x)) n (le-refl n))
+    where
+      S : ℕ → Bool
+      S = bit (lower at r)
+      in-set : (b : Bool) → not b ≡ false → b ≡ true
+      in-set true q = refl
+      in-set false q = absurd (true≢false q)
+      out-set : (b : Bool) → not b ≡ true → b ≡ false
+      out-set true q = absurd (false≢true q)
+      out-set false q = refl
+      go : ((x : ℕ) → x < n → not (S x) ≡ false) ⊎ ((m : ℕ) × Least (λ (x : ℕ). not (S x)) n m) → Link rows at r × Lowest (suc r)
+      go (inl none) = absurd (let e = sym (low .many) ∙ count-all S n (λ i l. in-set (S i) (none i l)) in omega arith)
+      go (inr (m, q)) =
+          (record { row = ap (λ (i : ℕ). getD rows i 0) named ∙ row; new = ap S named ∙ out-set (S m) (q .passes) },
+          record { many = many; beaten = beaten })
+        where
+          -- m beats those of the lower ranks and nobody else
+          exact : (j : ℕ) → j < n → beats rows m j ≡ S j
+          exact j g = by-set (S j) refl (eqb j m) refl
+            where
+              by-set : (b : Bool) → S j ≡ b → (d : Bool) → eqb j m ≡ d → beats rows m j ≡ b
+              by-set true e d f = low .beaten j m g (q .below) e (out-set (S m) (q .passes))
+              by-set false e true f = ap (beats rows m) (eqb-true j m f) ∙ o .irreflexive m (q .below)
+              by-set false e false f = o .asymmetric j m g (q .below) (q .others j g (ap not e) (eqb-false j m f))
+          row : getD rows m 0 ≡ lower at r
+          row = bit-ext n (getD rows m 0) (lower at r) (narrow m (q .below)) (lower-lt n at inside r) exact
+          rank : rankOf rows m ≡ r
+          rank = count-rank m (q .below) ∙ count-ext (beats rows m) S n exact ∙ low .many
+          named : at r ≡ m
+          named =
+              rank-injective (at r) m (inside r) (q .below)
+              (ap (λ (k : ℕ). rankOf rows (at k)) (sym rank) ∙ ranked m (q .below))
+          grown : (j : ℕ) → bit (lower at (suc r)) j ≡ (S j || eqb j m)
+          grown j = lower-more at r j ∙ ap (λ (k : ℕ). S j || eqb j k) named
+          many : count (bit (lower at (suc r))) n ≡ suc r
+          many =
+              count-ext (bit (lower at (suc r))) (λ (j : ℕ). S j || eqb j m) n (λ j g. grown j)
+              ∙ count-more S n m (q .below) (out-set (S m) (q .passes)) ∙ ap suc (low .many)
+          beaten : (s x : ℕ) → s < n → x < n → bit (lower at (suc r)) s ≡ true → bit (lower at (suc r)) x ≡ false → beats rows x s ≡ true
+          beaten s x g l p f = by-new (eqb s m) refl (neither (S x) (eqb x m) (sym (grown x) ∙ f))
+            where
+              neither : (a b : Bool) → (a || b) ≡ false → (a ≡ false) × (b ≡ false)
+              neither true b e = absurd (true≢false e)
+              neither false b e = (refl, e)
+              by-new : (b : Bool) → eqb s m ≡ b → (S x ≡ false) × (eqb x m ≡ false) → beats rows x s ≡ true
+              by-new true e (off, d) = ap (beats rows x) (eqb-true s m e) ∙ q .others x l (ap not off) (eqb-false x m d)
+              by-new false e (off, d) = low .beaten s x g l (sym (or-false (S s)) ∙ ap (λ (b : Bool). S s || b) (sym e) ∙ sym (grown s) ∙ p) off
+
+  lowest : (r : ℕ) → r ≤ n → Lowest r
+  unfolding lower ones
+  lowest zero h =
+      record {
+        many = sym (ones-count n 0 (pow-pos n));
+        beaten = λ s x g l p f. absurd (false≢true (sym (bit-zero s) ∙ p))
+      }
+  lowest (suc r) h = next r h (lowest r (omega arith)) .1
+
+  pub order-links : (r : ℕ) → r < n → Link rows at r
+  order-links r h = next r h (lowest r (omega arith)) .0
+
+  -- and in the end all n are named
+  pub order-full : (i : ℕ) → i < n → bit (lower at n) i ≡ true
+  order-full i h = go (bit (lower at n) i) refl
+    where
+      go : (b : Bool) → bit (lower at n) i ≡ b → b ≡ true
+      go true e = refl
+      go false e =
+          absurd (let l = count-lt (bit (lower at n)) (λ (j : ℕ). true) n i (λ j g p. refl) h e refl in
+          let m = lowest n (le-refl n) .many in let a = count-all (λ (j : ℕ). true) n (λ j g. refl) in omega arith)

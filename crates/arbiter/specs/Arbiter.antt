@@ -1,0 +1,69 @@
+-- One arbiter of either kind, with room for `places` requesters and used for n of them: its choice, its move, fresh, sound.
+-- Where the width, the kind or the pointer is out of range the document has no number: nothing is chosen and nothing moves.
+-- Assumes nothing.
+use mathlib.Core.Bool.{Bool, cond, _&&_, _||_}
+use mathlib.Core.List.{List}
+use mathlib.Core.Option.{Option, some, none}
+use Prim.Native.Nat.{ℕ}
+use lib.Dec.{eqb, leb, ltb}
+use lib.ListN.{replicate}
+use Rattle.arbiter.specs.declared.Narrow.{Narrow}
+use Rattle.arbiter.specs.declared.Wide.{Wide}
+use Rattle.arbiter.specs.RoundRobin.{nextInTurn, pointerAfter}
+use Rattle.arbiter.specs.Matrix.{champion, defeated, freshRows, totalOrder, blankFrom, within}
+
+-- what both structs hold
+pub record Arbiter : Type 0 where
+  pub pointer : ℕ
+  pub rows : List ℕ
+
+abbrev pub ofNarrow : Narrow → Arbiter
+ofNarrow a = record { pointer = a .pointer; rows = a .rows }
+
+abbrev pub ofWide : Wide → Arbiter
+ofWide a = record { pointer = a .pointer; rows = a .rows }
+
+-- "Arbiter code 1 (round robin) or 2 (matrix)" (01, sizes)
+abbrev pub roundRobin : ℕ
+roundRobin = 1
+
+abbrev pub matrix : ℕ
+matrix = 2
+
+-- a known code, and a width that is at least 1 and within the room
+unfoldable pub known : ℕ → ℕ → ℕ → Bool
+known places code n = (eqb code roundRobin || eqb code matrix) && (leb 1 n && leb n places)
+
+-- known, and the pointer is below the width
+unfoldable pub usable : ℕ → ℕ → ℕ → Arbiter → Bool
+usable places code n a = known places code n && ltb (a .pointer) n
+
+-- who wins among those of the n that ask
+unfoldable pub choice : ℕ → ℕ → ℕ → (ℕ → Bool) → Arbiter → Option ℕ
+choice places code n ask a =
+    cond (usable places code n a) (cond (eqb code roundRobin) (nextInTurn n ask (a .pointer)) (champion n ask (a .rows))) none
+
+-- the arbiter after requester w has won
+unfoldable pub moved : ℕ → ℕ → ℕ → ℕ → Arbiter → Arbiter
+moved places code n w a =
+    cond (usable places code n a && ltb w n)
+    (cond (eqb code roundRobin) (record { pointer = pointerAfter n w; rows = a .rows })
+    (record { pointer = a .pointer; rows = defeated n w (a .rows) })) a
+
+-- "No request: no winner, nothing moves."
+unfoldable pub after : ℕ → ℕ → ℕ → Option ℕ → Arbiter → Arbiter
+after places code n none a = a
+after places code n (some w) a = moved places code n w a
+
+-- a fresh arbiter; the rows of round robin, and of an arbiter that is not known, are zero
+unfoldable pub fresh : ℕ → ℕ → ℕ → Arbiter
+fresh places code n =
+    record { pointer = 0; rows = cond (known places code n && eqb code matrix) (freshRows places n) (replicate places 0) }
+
+-- "round-robin pointers are below their width and matrices are a total order, no requester beating itself"; rows and bits beyond
+-- the width, and the other kind's state, are zero (01, sound states)
+unfoldable pub sound : ℕ → ℕ → ℕ → Arbiter → Bool
+sound places code n a =
+    known places code n
+    && cond (eqb code roundRobin) (ltb (a .pointer) n && blankFrom 0 places (a .rows))
+    (eqb (a .pointer) 0 && (totalOrder n (a .rows) && within n (a .rows) && blankFrom n places (a .rows)))

@@ -1,0 +1,4 @@
+pub mod Requests
+pub mod RoundRobin
+pub mod Matrix
+pub mod Arbiter
