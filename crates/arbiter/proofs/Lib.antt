@@ -1,5 +1,7 @@
+pub mod ByKind
 pub mod Champion
 pub mod Examples
+pub mod OrderTest
 pub mod RankTest
 pub mod Ranks
 pub mod RoundRobin

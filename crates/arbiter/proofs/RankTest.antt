@@ -21,62 +21,62 @@ use Rattle.arbiter.proofs.Ranks.{rankOf}
 use Rattle.arbiter.proofs.TotalOrder.{Order}
 
 -- the word of the requesters of the first r ranks
-unfoldable pub lower : (ℕ → ℕ) → ℕ → ℕ
-lower at zero = 0
-lower at (suc r) = withBit (at r) (lower at r)
+unfoldable pub ranksBelow : (ℕ → ℕ) → ℕ → ℕ
+ranksBelow at zero = 0
+ranksBelow at (suc r) = withBit (at r) (ranksBelow at r)
 
-pub lower-lt : (n : ℕ) (at : ℕ → ℕ) → ((k : ℕ) → at k < n) → (r : ℕ) → lower at r < 2 ^ n
-unfolding lower
-lower-lt n at inside zero = pow-pos n
-lower-lt n at inside (suc r) = with-lt n (at r) (lower at r) (lower-lt n at inside r) (inside r)
+pub ranks-lt : (n : ℕ) (at : ℕ → ℕ) → ((k : ℕ) → at k < n) → (r : ℕ) → ranksBelow at r < 2 ^ n
+unfolding ranksBelow
+ranks-lt n at inside zero = pow-pos n
+ranks-lt n at inside (suc r) = with-lt n (at r) (ranksBelow at r) (ranks-lt n at inside r) (inside r)
 
-lower-more : (at : ℕ → ℕ) (r j : ℕ) → bit (lower at (suc r)) j ≡ (bit (lower at r) j || eqb j (at r))
-unfolding lower
-lower-more at r j = bit-with (at r) (lower at r) j
+ranks-more : (at : ℕ → ℕ) (r j : ℕ) → bit (ranksBelow at (suc r)) j ≡ (bit (ranksBelow at r) j || eqb j (at r))
+unfolding ranksBelow
+ranks-more at r j = bit-with (at r) (ranksBelow at r) j
 
-lower-has : (at : ℕ → ℕ) (r k : ℕ) → k < r → bit (lower at r) (at k) ≡ true
-lower-has at zero k h = absurd (omega arith)
-lower-has at (suc r) k h = lower-more at r (at k) ∙ go (eqb k r) refl (lower-has at r k)
+ranks-has : (at : ℕ → ℕ) (r k : ℕ) → k < r → bit (ranksBelow at r) (at k) ≡ true
+ranks-has at zero k h = absurd (omega arith)
+ranks-has at (suc r) k h = ranks-more at r (at k) ∙ go (eqb k r) refl (ranks-has at r k)
   where
-    go : (b : Bool) → eqb k r ≡ b → (k < r → bit (lower at r) (at k) ≡ true) → (bit (lower at r) (at k) || eqb (at k) (at r)) ≡ true
+    go : (b : Bool) → eqb k r ≡ b → (k < r → bit (ranksBelow at r) (at k) ≡ true) → (bit (ranksBelow at r) (at k) || eqb (at k) (at r)) ≡ true
     go true e rest =
-        ap (λ (b : Bool). bit (lower at r) (at k) || b) (eq-eqb (at k) (at r) (ap at (eqb-true k r e))) ∙ or-true (bit (lower at r) (at k))
+        ap (λ (b : Bool). bit (ranksBelow at r) (at k) || b) (eq-eqb (at k) (at r) (ap at (eqb-true k r e))) ∙ or-true (bit (ranksBelow at r) (at k))
     go false e rest = ap (λ (b : Bool). b || eqb (at k) (at r)) (rest (lt-of-le-ne (omega arith) (eqb-false k r e)))
 
-lower-found : (at : ℕ → ℕ) (r j : ℕ) → bit (lower at r) j ≡ true → (k : ℕ) × (k < r) × (at k ≡ j)
-unfolding lower
-lower-found at zero j p = absurd (false≢true (sym (bit-zero j) ∙ p))
-lower-found at (suc r) j p = go (eqb j (at r)) refl (bit (lower at r) j) refl (lower-found at r j)
+ranks-found : (at : ℕ → ℕ) (r j : ℕ) → bit (ranksBelow at r) j ≡ true → (k : ℕ) × (k < r) × (at k ≡ j)
+unfolding ranksBelow
+ranks-found at zero j p = absurd (false≢true (sym (bit-zero j) ∙ p))
+ranks-found at (suc r) j p = go (eqb j (at r)) refl (bit (ranksBelow at r) j) refl (ranks-found at r j)
   where
-    go : (b : Bool) → eqb j (at r) ≡ b → (d : Bool) → bit (lower at r) j ≡ d → (bit (lower at r) j ≡ true → (k : ℕ) × (k < r) × (at k ≡ j))
+    go : (b : Bool) → eqb j (at r) ≡ b → (d : Bool) → bit (ranksBelow at r) j ≡ d → (bit (ranksBelow at r) j ≡ true → (k : ℕ) × (k < r) × (at k ≡ j))
         → (k : ℕ) × (k < suc r) × (at k ≡ j)
     go true e d f rest = (r, le-refl (suc r), sym (eqb-true j (at r) e))
     go false e true f rest = let q = rest f in (q .0, omega (arith, q .1), q .2)
-    go false e false f rest = absurd (false≢true (sym (ap₂ _||_ f e) ∙ sym (lower-more at r j) ∙ p))
+    go false e false f rest = absurd (false≢true (sym (ap₂ _||_ f e) ∙ sym (ranks-more at r j) ∙ p))
 
 -- rank k's requester beats exactly those of the ranks before, and is not one of them
 pub record Link (rows : List ℕ) (at : ℕ → ℕ) (k : ℕ) : Type 0 where
-  pub row : getD rows (at k) 0 ≡ lower at k
-  pub new : bit (lower at k) (at k) ≡ false
+  pub row : getD rows (at k) 0 ≡ ranksBelow at k
+  pub new : bit (ranksBelow at k) (at k) ≡ false
 
 -- ---- links at every rank below n, which name all n, make a total order
 module _ (n : ℕ) (rows : List ℕ) (at : ℕ → ℕ) (inside : (k : ℕ) → at k < n) (links : (k : ℕ) → k < n → Link rows at k)
-  (full : (i : ℕ) → i < n → bit (lower at n) i ≡ true) where
+  (full : (i : ℕ) → i < n → bit (ranksBelow at n) i ≡ true) where
   -- who has a rank beats who has a lower one
   by-rank : (a b : ℕ) → a < n → b < n → beats rows (at a) (at b) ≡ ltb b a
   unfolding beats
-  by-rank a b h g = ap (λ (x : ℕ). bit x (at b)) (links a h .row) ∙ go (ltb b a) refl (bit (lower at a) (at b)) refl
+  by-rank a b h g = ap (λ (x : ℕ). bit x (at b)) (links a h .row) ∙ go (ltb b a) refl (bit (ranksBelow at a) (at b)) refl
     where
-      go : (t : Bool) → ltb b a ≡ t → (d : Bool) → bit (lower at a) (at b) ≡ d → d ≡ t
-      go true e d f = sym f ∙ lower-has at a b (ltb-true b a e)
+      go : (t : Bool) → ltb b a ≡ t → (d : Bool) → bit (ranksBelow at a) (at b) ≡ d → d ≡ t
+      go true e d f = sym f ∙ ranks-has at a b (ltb-true b a e)
       go false e true f =
-          let k = lower-found at a (at b) f in
+          let k = ranks-found at a (at b) f in
           let l : k .0 < b = let q = k .1 in let m = ltb-false b a e in omega arith in
-          absurd (true≢false (sym (lower-has at b (k .0) l) ∙ ap (bit (lower at b)) (k .2) ∙ links b g .new))
+          absurd (true≢false (sym (ranks-has at b (k .0) l) ∙ ap (bit (ranksBelow at b)) (k .2) ∙ links b g .new))
       go false e false f = refl
 
   rank : (i : ℕ) → i < n → (k : ℕ) × (k < n) × (at k ≡ i)
-  rank i h = lower-found at n i (full i h)
+  rank i h = ranks-found at n i (full i h)
 
   beats-rank : (i j : ℕ) (h : i < n) (g : j < n) → beats rows i j ≡ ltb (rank j g .0) (rank i h .0)
   beats-rank i j h g =
@@ -107,7 +107,7 @@ module _ (n : ℕ) (rows : List ℕ) (at : ℕ → ℕ) (inside : (k : ℕ) → 
   pub links-within : (i : ℕ) → i < n → getD rows i 0 < 2 ^ n
   links-within i h =
       subst (λ (x : ℕ). x < 2 ^ n) (sym (ap (λ (m : ℕ). getD rows m 0) (sym (rank i h .2)) ∙ links (rank i h .0) (rank i h .1) .row))
-      (lower-lt n at inside (rank i h .0))
+      (ranks-lt n at inside (rank i h .0))
 
 -- ---- a total order, with a table that names for each rank in use one of that rank, has a link at every rank and names all n
 module _ (n : ℕ) (rows : List ℕ) (at : ℕ → ℕ) (o : Order n rows) (narrow : (i : ℕ) → i < n → getD rows i 0 < 2 ^ n)
@@ -178,15 +178,15 @@ module _ (n : ℕ) (rows : List ℕ) (at : ℕ → ℕ) (o : Order n rows) (narr
 
   -- the first r ranks: r requesters, each beaten by all others
   record Lowest (r : ℕ) : Type 0 where
-    many : count (bit (lower at r)) n ≡ r
-    beaten : (s x : ℕ) → s < n → x < n → bit (lower at r) s ≡ true → bit (lower at r) x ≡ false → beats rows x s ≡ true
+    many : count (bit (ranksBelow at r)) n ≡ r
+    beaten : (s x : ℕ) → s < n → x < n → bit (ranksBelow at r) s ≡ true → bit (ranksBelow at r) x ≡ false → beats rows x s ≡ true
 
   next : (r : ℕ) → r < n → Lowest r → Link rows at r × Lowest (suc r)
   unfolding beats
-  next r h low = go (least (λ (x : ℕ). not (bit (lower at r) x)) n (le-refl n))
+  next r h low = go (least (λ (x : ℕ). not (bit (ranksBelow at r) x)) n (le-refl n))
     where
       S : ℕ → Bool
-      S = bit (lower at r)
+      S = bit (ranksBelow at r)
       in-set : (b : Bool) → not b ≡ false → b ≡ true
       in-set true q = refl
       in-set false q = absurd (true≢false q)
@@ -207,21 +207,21 @@ module _ (n : ℕ) (rows : List ℕ) (at : ℕ → ℕ) (o : Order n rows) (narr
               by-set true e d f = low .beaten j m g (q .below) e (out-set (S m) (q .passes))
               by-set false e true f = ap (beats rows m) (eqb-true j m f) ∙ o .irreflexive m (q .below)
               by-set false e false f = o .asymmetric j m g (q .below) (q .others j g (ap not e) (eqb-false j m f))
-          row : getD rows m 0 ≡ lower at r
-          row = bit-ext n (getD rows m 0) (lower at r) (narrow m (q .below)) (lower-lt n at inside r) exact
+          row : getD rows m 0 ≡ ranksBelow at r
+          row = bit-ext n (getD rows m 0) (ranksBelow at r) (narrow m (q .below)) (ranks-lt n at inside r) exact
           rank : rankOf rows m ≡ r
           rank = count-rank m (q .below) ∙ count-ext (beats rows m) S n exact ∙ low .many
           named : at r ≡ m
           named =
               rank-injective (at r) m (inside r) (q .below)
               (ap (λ (k : ℕ). rankOf rows (at k)) (sym rank) ∙ ranked m (q .below))
-          grown : (j : ℕ) → bit (lower at (suc r)) j ≡ (S j || eqb j m)
-          grown j = lower-more at r j ∙ ap (λ (k : ℕ). S j || eqb j k) named
-          many : count (bit (lower at (suc r))) n ≡ suc r
+          grown : (j : ℕ) → bit (ranksBelow at (suc r)) j ≡ (S j || eqb j m)
+          grown j = ranks-more at r j ∙ ap (λ (k : ℕ). S j || eqb j k) named
+          many : count (bit (ranksBelow at (suc r))) n ≡ suc r
           many =
-              count-ext (bit (lower at (suc r))) (λ (j : ℕ). S j || eqb j m) n (λ j g. grown j)
+              count-ext (bit (ranksBelow at (suc r))) (λ (j : ℕ). S j || eqb j m) n (λ j g. grown j)
               ∙ count-more S n m (q .below) (out-set (S m) (q .passes)) ∙ ap suc (low .many)
-          beaten : (s x : ℕ) → s < n → x < n → bit (lower at (suc r)) s ≡ true → bit (lower at (suc r)) x ≡ false → beats rows x s ≡ true
+          beaten : (s x : ℕ) → s < n → x < n → bit (ranksBelow at (suc r)) s ≡ true → bit (ranksBelow at (suc r)) x ≡ false → beats rows x s ≡ true
           beaten s x g l p f = by-new (eqb s m) refl (neither (S x) (eqb x m) (sym (grown x) ∙ f))
             where
               neither : (a b : Bool) → (a || b) ≡ false → (a ≡ false) × (b ≡ false)
@@ -232,7 +232,7 @@ module _ (n : ℕ) (rows : List ℕ) (at : ℕ → ℕ) (o : Order n rows) (narr
               by-new false e (off, d) = low .beaten s x g l (sym (or-false (S s)) ∙ ap (λ (b : Bool). S s || b) (sym e) ∙ sym (grown s) ∙ p) off
 
   lowest : (r : ℕ) → r ≤ n → Lowest r
-  unfolding lower ones
+  unfolding ranksBelow ones
   lowest zero h =
       record {
         many = sym (ones-count n 0 (pow-pos n));
@@ -244,11 +244,11 @@ module _ (n : ℕ) (rows : List ℕ) (at : ℕ → ℕ) (o : Order n rows) (narr
   order-links r h = next r h (lowest r (omega arith)) .0
 
   -- and in the end all n are named
-  pub order-full : (i : ℕ) → i < n → bit (lower at n) i ≡ true
-  order-full i h = go (bit (lower at n) i) refl
+  pub order-full : (i : ℕ) → i < n → bit (ranksBelow at n) i ≡ true
+  order-full i h = go (bit (ranksBelow at n) i) refl
     where
-      go : (b : Bool) → bit (lower at n) i ≡ b → b ≡ true
+      go : (b : Bool) → bit (ranksBelow at n) i ≡ b → b ≡ true
       go true e = refl
       go false e =
-          absurd (let l = count-lt (bit (lower at n)) (λ (j : ℕ). true) n i (λ j g p. refl) h e refl in
+          absurd (let l = count-lt (bit (ranksBelow at n)) (λ (j : ℕ). true) n i (λ j g p. refl) h e refl in
           let m = lowest n (le-refl n) .many in let a = count-all (λ (j : ℕ). true) n (λ j g. refl) in omega arith)

@@ -35,18 +35,18 @@ unfoldable pub known : ℕ → ℕ → ℕ → Bool
 known places code n = (eqb code roundRobin || eqb code matrix) && (leb 1 n && leb n places)
 
 -- known, and the pointer is below the width
-unfoldable pub usable : ℕ → ℕ → ℕ → Arbiter → Bool
-usable places code n a = known places code n && ltb (a .pointer) n
+unfoldable pub usable : ℕ → ℕ → ℕ → ℕ → Bool
+usable places code n pointer = known places code n && ltb pointer n
 
 -- who wins among those of the n that ask
 unfoldable pub choice : ℕ → ℕ → ℕ → (ℕ → Bool) → Arbiter → Option ℕ
 choice places code n ask a =
-    cond (usable places code n a) (cond (eqb code roundRobin) (nextInTurn n ask (a .pointer)) (champion n ask (a .rows))) none
+    cond (usable places code n (a .pointer)) (cond (eqb code roundRobin) (nextInTurn n ask (a .pointer)) (champion n ask (a .rows))) none
 
 -- the arbiter after requester w has won
 unfoldable pub moved : ℕ → ℕ → ℕ → ℕ → Arbiter → Arbiter
 moved places code n w a =
-    cond (usable places code n a && ltb w n)
+    cond (usable places code n (a .pointer) && ltb w n)
     (cond (eqb code roundRobin) (record { pointer = pointerAfter n w; rows = a .rows })
     (record { pointer = a .pointer; rows = defeated n w (a .rows) })) a
 

@@ -31,21 +31,34 @@ fn is_known(places: u32, code: u8, n: u32) -> bool
     code == MATRIX
 }
 
+fn is_usable(places: u32, code: u8, n: u32, pointer: u32) -> bool
+    ensures { λ r. ⌜ r ≡ usable places code n pointer ⌝ }
+{
+    if !is_known(places, code, n) {
+        return false;
+    }
+    pointer < n
+}
+
 // The rows of a fresh arbiter, over rows that are zero.
 pub(crate) fn fill(places: u32, code: u8, n: u32, rows: &mut [u32])
     requires { ⌜ (places ≤ 32) × (now rows ≡ replicate places 0) ⌝ }
     ensures { λ _. ⌜ now (rows .exit) ≡ fresh places code n .rows ⌝ }
 {
-    if is_known(places, code, n) && code == MATRIX {
-        matrix::order(n, rows);
+    if !is_known(places, code, n) {
+        return;
     }
+    if code == ROUND_ROBIN {
+        return;
+    }
+    matrix::order(n, rows);
 }
 
 pub(crate) fn choose(places: u32, code: u8, n: u32, requests: Requests, pointer: u32, rows: &[u32]) -> Pick
     requires { ⌜ (places ≤ 32) × (length (now rows) ≡ places) ⌝ }
     ensures { λ r. ⌜ winnerOf r ≡ choice places code n (asks requests) (record { pointer = pointer; rows = now (rows .entry) }) ⌝ }
 {
-    if !is_known(places, code, n) || n <= pointer {
+    if !is_usable(places, code, n, pointer) {
         return Pick::Nobody;
     }
     let asking = asking::below(n, requests.set);
@@ -60,7 +73,10 @@ pub(crate) fn settle(places: u32, code: u8, n: u32, w: u32, pointer: u32, rows: 
     requires { ⌜ (places ≤ 32) × (length (now rows) ≡ places) ⌝ }
     ensures { λ r. ⌜ _≡_ {A = Arbiter} (record { pointer = r; rows = now (rows .exit) }) (moved places code n w (record { pointer = pointer; rows = now (rows .entry) })) ⌝ }
 {
-    if !is_known(places, code, n) || n <= pointer || n <= w {
+    if !is_usable(places, code, n, pointer) {
+        return pointer;
+    }
+    if n <= w {
         return pointer;
     }
     if code == ROUND_ROBIN {
@@ -78,9 +94,15 @@ pub(crate) fn is_sound(places: u32, code: u8, n: u32, pointer: u32, rows: &[u32]
         return false;
     }
     if code == ROUND_ROBIN {
-        return pointer < n && are_blank(0, rows);
+        if n <= pointer {
+            return false;
+        }
+        return are_blank(0, rows);
     }
-    if pointer != 0 || !are_blank(n, rows) {
+    if pointer != 0 {
+        return false;
+    }
+    if !are_blank(n, rows) {
         return false;
     }
     order::is_total(n, rows)

@@ -10,8 +10,8 @@ use native.Mathlib.Omega.{arith}
 use lib.Dec.{eqb, ltb, lit<, eqb·zero-suc, eqb·suc-zero, eqb·suc-suc}
 use lib.Pow.{pow-pos, pow-mono, pow-lt, shr-shr, shr-lt, split, field, mod-mod-pow, pow-add, shl-shr}
 use lib.Arith.{lt-of-le-ne, digits-div}
-use lib.Bits.{bitAnd, bitOr, and-shr, or-shr, and-mod, or-mod, and-le-r, or-lt, or-add-and, or-disjoint, or-zero-l}
-use borrow.Author.Tests.{eqb-true, eqb-false, ne-eqb, ltb-true, ltb-false}
+use lib.Bits.{bitAnd, bitOr, and-shr, or-shr, and-mod, or-mod, and-le-r, or-lt, or-add-and, or-disjoint, or-zero-l, and-mask}
+use borrow.Author.Tests.{eqb-true, eqb-false, eq-eqb, ne-eqb, ltb-true, ltb-false}
 use Rattle.base.specs.Bits.{bit, wordOf, withBit}
 
 -- a digit is 0 or 1
@@ -121,6 +121,11 @@ and-clear x w clear =
     bit-ext (suc w) (bitAnd x (2 ^ w)) 0 (and-pow-lt x w) (pow-pos (suc w))
     (λ i h. and-bit x w i ∙ ap (λ (b : Bool). b && eqb i w) clear ∙ sym (bit-zero i))
 
+pub clear-and : (x w : ℕ) → bitAnd x (2 ^ w) ≡ 0 → bit x w ≡ false
+clear-and x w e =
+    sym (and-true (bit x w)) ∙ ap (λ (b : Bool). bit x w && b) (sym (eq-eqb w w refl)) ∙ sym (and-bit x w w) ∙ ap (λ (q : ℕ). bit q w) e
+    ∙ bit-zero w
+
 and-there : (x w : ℕ) → bit x w ≡ true → bitAnd x (2 ^ w) ≡ 2 ^ w
 and-there x w there =
     bit-ext (suc w) (bitAnd x (2 ^ w)) (2 ^ w) (and-pow-lt x w) (omega (arith, pow-suc 2 w, pow-pos w))
@@ -152,6 +157,13 @@ with-lt k w x h g = subst (λ (q : ℕ). q < 2 ^ k) (or-with x w) (or-lt k x (2 
 -- `1 << w` at a width that holds it
 pub shl-one : (width w : ℕ) → w < width → 1 * 2 ^ w % 2 ^ width ≡ 2 ^ w
 shl-one width w h = ap (λ (x : ℕ). x % 2 ^ width) (one-mul (2 ^ w)) ∙ mod-eq-of-lt (pow-lt h)
+
+-- `2 ^ k - 1`: all bits below k
+pub bit-all : (k i : ℕ) → i < k → bit (2 ^ k - 1) i ≡ true
+bit-all k i h =
+    let own : bit (2 ^ i) i ≡ true = bit-pow i i ∙ eq-eqb i i refl in
+    let kept : bitAnd (2 ^ i) (2 ^ k - 1) ≡ 2 ^ i = and-mask (2 ^ i) k ∙ mod-eq-of-lt (pow-lt h) in
+    ap (λ (b : Bool). b && bit (2 ^ k - 1) i) (sym own) ∙ sym (bit-and (2 ^ i) (2 ^ k - 1) i) ∙ ap (λ (x : ℕ). bit x i) kept ∙ own
 
 -- a bit that is there stands below the width
 pub bit-below : (k x i : ℕ) → x < 2 ^ k → bit x i ≡ true → i < k
