@@ -2,7 +2,7 @@
 -- Assumes nothing.
 use mathlib.Core.Path.{_≡_, refl, sym, ap, ap₂, _∙_}
 use mathlib.Core.Logic.{_⊎_, inl, inr}
-use mathlib.Core.Bool.{Bool, true, false, cond, not, _&&_, _||_, true≢false, false≢true, and-true, and-false}
+use mathlib.Core.Bool.{Bool, true, false, cond, not, _&&_, _||_, true≢false, false≢true, and-true, and-false, or-true}
 use mathlib.Core.List.{List}
 use mathlib.Core.Option.{Option, none}
 use Prim.Native.Nat.{ℕ, _-_, _%_, _^_, _≤_, _<_}
@@ -11,7 +11,7 @@ use native.Mathlib.Omega.{arith}
 use lib.Dec.{eqb, leb, ltb}
 use lib.ListN.{length, replicate}
 use lib.Pow.{pow-pos}
-use borrow.Author.Tests.{eqb-true, eqb-false, eq-eqb, ne-eqb, leb-true, ltb-true, lt-ltb, le-ltb}
+use borrow.Author.Tests.{eqb-true, eqb-false, eq-eqb, ne-eqb, leb-true, le-leb, ltb-true, lt-ltb, le-ltb}
 use Rattle.base.specs.Bits.{bit}
 use Rattle.base.specs.Search.{firstFrom, every, orElse}
 use Rattle.base.proofs.Bits.{bit-mod}
@@ -38,6 +38,14 @@ known-is places code n e =
     go true f r = inl (eqb-true code 1 f)
     go false f r = inr (eqb-true code 2 r)
 
+pub known-holds : (places code n : ℕ) → Known places code n → known places code n ≡ true
+unfolding known
+known-holds places code n k = ap₂ _&&_ (go (k .kind)) (ap₂ _&&_ (le-leb 1 n (k .some)) (le-leb n places (k .room)))
+  where
+    go : (code ≡ 1) ⊎ (code ≡ 2) → (eqb code 1 || eqb code 2) ≡ true
+    go (inl e) = rw (eq-eqb code 1 e)
+    go (inr e) = rw (eq-eqb code 2 e, or-true (eqb code 1))
+
 -- a known code that is not 1 is 2
 pub known-matrix : (places code n : ℕ) → known places code n ≡ true → (code ≡ 1 → ⊥) → code ≡ 2
 known-matrix places code n e d = go (known-is places code n e .kind)
@@ -49,6 +57,10 @@ known-matrix places code n e d = go (known-is places code n e .kind)
 pub usable-is : (places code n pointer : ℕ) → usable places code n pointer ≡ true → (known places code n ≡ true) × (pointer < n)
 unfolding usable
 usable-is places code n pointer e = let p = both (known places code n) (ltb pointer n) e in (p .0, ltb-true pointer n (p .1))
+
+pub usable-holds : (places code n pointer : ℕ) → Known places code n → pointer < n → usable places code n pointer ≡ true
+unfolding usable
+usable-holds places code n pointer k h = ap₂ _&&_ (known-holds places code n k) (lt-ltb pointer n h)
 
 -- ---- only those below n count
 
@@ -125,6 +137,11 @@ module _ (places code n : ℕ) where
   unfolding fresh
   fresh-order e k = rw (e, eq-eqb code 2 (known-matrix places code n e k))
 
+  -- the rows are all that is to be made
+  pub fresh-is : (rows : List ℕ) → rows ≡ fresh places code n .rows → _≡_ {A = Arbiter} (record { pointer = 0; rows = rows }) (fresh places code n)
+  unfolding fresh
+  fresh-is rows e = ap (λ (l : List ℕ). record { pointer = 0; rows = l }) e
+
 -- ---- sound
 
 module _ (places code n : ℕ) (a : Arbiter) where
@@ -132,26 +149,42 @@ module _ (places code n : ℕ) (a : Arbiter) where
   unfolding sound
   sound-unknown e = rw e
 
-  -- round robin
-  pub sound-past : known places code n ≡ true → code ≡ 1 → n ≤ a .pointer → false ≡ sound places code n a
-  unfolding sound
-  sound-past e k h = rw (e, eq-eqb code 1 k, le-ltb (a .pointer) n h)
+  module _ (e : known places code n ≡ true) (long : length (a .rows) ≡ places) where
+    -- round robin
+    pub sound-past : code ≡ 1 → n ≤ a .pointer → false ≡ sound places code n a
+    unfolding sound
+    sound-past k h = rw (e, eq-eqb (length (a .rows)) places long, eq-eqb code 1 k, le-ltb (a .pointer) n h)
 
-  pub sound-turn : known places code n ≡ true → code ≡ 1 → a .pointer < n → blankFrom 0 places (a .rows) ≡ sound places code n a
-  unfolding sound
-  sound-turn e k h = rw (e, eq-eqb code 1 k, lt-ltb (a .pointer) n h)
+    pub sound-turn : code ≡ 1 → a .pointer < n → blankFrom 0 places (a .rows) ≡ sound places code n a
+    unfolding sound
+    sound-turn k h = rw (e, eq-eqb (length (a .rows)) places long, eq-eqb code 1 k, lt-ltb (a .pointer) n h)
 
-  -- matrix
-  pub sound-pointer : known places code n ≡ true → (code ≡ 1 → ⊥) → (a .pointer ≡ 0 → ⊥) → false ≡ sound places code n a
-  unfolding sound
-  sound-pointer e k d = rw (e, ne-eqb code 1 k, ne-eqb (a .pointer) 0 d)
+    -- matrix
+    pub sound-pointer : (code ≡ 1 → ⊥) → (a .pointer ≡ 0 → ⊥) → false ≡ sound places code n a
+    unfolding sound
+    sound-pointer k d = rw (e, eq-eqb (length (a .rows)) places long, ne-eqb code 1 k, ne-eqb (a .pointer) 0 d)
 
-  pub sound-beyond : known places code n ≡ true → (code ≡ 1 → ⊥) → blankFrom n places (a .rows) ≡ false → false ≡ sound places code n a
-  unfolding sound
-  sound-beyond e k b =
-      rw (e, ne-eqb code 1 k, b, and-false (totalOrder n (a .rows) && within n (a .rows)), and-false (eqb (a .pointer) 0))
+    pub sound-beyond : (code ≡ 1 → ⊥) → blankFrom n places (a .rows) ≡ false → false ≡ sound places code n a
+    unfolding sound
+    sound-beyond k b =
+        rw (
+          e,
+          eq-eqb (length (a .rows)) places long,
+          ne-eqb code 1 k,
+          b,
+          and-false (totalOrder n (a .rows) && within n (a .rows)),
+          and-false (eqb (a .pointer) 0),
+        )
 
-  pub sound-order : known places code n ≡ true → (code ≡ 1 → ⊥) → a .pointer ≡ 0 → blankFrom n places (a .rows) ≡ true
-      → (totalOrder n (a .rows) && within n (a .rows)) ≡ sound places code n a
-  unfolding sound
-  sound-order e k z b = rw (e, ne-eqb code 1 k, eq-eqb (a .pointer) 0 z, b, and-true (totalOrder n (a .rows) && within n (a .rows)))
+    pub sound-order : (code ≡ 1 → ⊥) → a .pointer ≡ 0 → blankFrom n places (a .rows) ≡ true
+        → (totalOrder n (a .rows) && within n (a .rows)) ≡ sound places code n a
+    unfolding sound
+    sound-order k z b =
+        rw (
+          e,
+          eq-eqb (length (a .rows)) places long,
+          ne-eqb code 1 k,
+          eq-eqb (a .pointer) 0 z,
+          b,
+          and-true (totalOrder n (a .rows) && within n (a .rows)),
+        )

@@ -47,6 +47,7 @@ module _ (n asking : ℕ) (rows : List ℕ) (i : ℕ) (h : asking < 2 ^ n) (asks
     where
       low : covered asking rows i < 2 ^ n
       low = or-lt n (bitAnd asking (getD rows i 0)) (2 ^ i) (lt-of-le-of-lt (and-le-l asking (getD rows i 0)) h) (pow-lt (bit-below n asking i h asks))
+
       go : (j : ℕ) (q : Bool) → eqb j i ≡ q → (a : Bool) → bit asking j ≡ a → (not a || q || beats rows i j) ≡ true → (a && beats rows i j || q) ≡ a
       go j true f a g p = or-true (a && beats rows i j) ∙ sym asks ∙ ap (bit asking) (sym (eqb-true j i f)) ∙ g
       go j false f true g p = or-false (beats rows i j) ∙ p
@@ -82,7 +83,7 @@ module _ (n asking : ℕ) (rows : List ℕ) (left : ℕ) (w : n ≤ 32) (h : ask
         from = omega arith;
         below = let l = trying-below in omega arith;
         passes = ap₂ _&&_ (trying-first .passes) (covers-beats n asking rows (trailingZeros 32 left) h asks e);
-        before = λ j l g. ap (λ (b : Bool). b && beatsEveryOther n (bit asking) rows j) (trying-first .before j l g)
+        before = λ j l g. ap (λ (b : Bool). b && beatsEveryOther n (bit asking) rows j) (trying-first .before j l g);
       })) ∙ t .rest
 
   pub trying-less : (covered asking rows (trailingZeros 32 left) ≡ asking → ⊥) → Trying n asking rows (left - 2 ^ trailingZeros 32 left)
@@ -90,20 +91,22 @@ module _ (n asking : ℕ) (rows : List ℕ) (left : ℕ) (w : n ≤ 32) (h : ask
       record {
         low = lt-of-le-of-lt (omega arith) (t .low);
         among = λ j p. t .among j (both (bit left j) (not (eqb j i)) (sym (bit-take left i j (trying-first .passes)) ∙ p) .0);
-        rest = first-ext _ _ n 0 (λ j l g. same j (eqb j i) refl) ∙ t .rest
+        rest = first-ext _ _ n 0 (λ j l g. same j (eqb j i) refl) ∙ t .rest;
       }
     where
       i : ℕ
       i = trailingZeros 32 left
+
       loses : (b : Bool) → beatsEveryOther n (bit asking) rows i ≡ b → b ≡ false
       loses true e = absurd (d (beats-covers n asking rows i h asks e))
       loses false e = refl
+
       same : (j : ℕ) (q : Bool) → eqb j i ≡ q
           → (bit (left - 2 ^ i) j && beatsEveryOther n (bit asking) rows j) ≡ (bit left j && beatsEveryOther n (bit asking) rows j)
       same j true e =
           let j≡i : j ≡ i = eqb-true j i e in
           let lost : beatsEveryOther n (bit asking) rows j ≡ false =
-              ap (beatsEveryOther n (bit asking) rows) j≡i ∙ loses (beatsEveryOther n (bit asking) rows i) refl in
+          ap (beatsEveryOther n (bit asking) rows) j≡i ∙ loses (beatsEveryOther n (bit asking) rows i) refl in
           ap (λ (b : Bool). bit (left - 2 ^ i) j && b) lost ∙ and-false (bit (left - 2 ^ i) j)
           ∙ sym (ap (λ (b : Bool). bit left j && b) lost ∙ and-false (bit left j))
       same j false e =
@@ -114,4 +117,3 @@ pub trying-none : (n asking : ℕ) (rows : List ℕ) (left : ℕ) → Trying n a
 trying-none n asking rows left t e =
     sym (first-none (λ (j : ℕ). bit left j && beatsEveryOther n (bit asking) rows j) n 0
     (λ j l g. ap (λ (b : Bool). b && beatsEveryOther n (bit asking) rows j) (ap (λ (x : ℕ). bit x j) e ∙ bit-zero j))) ∙ t .rest
-

@@ -53,5 +53,5 @@ starred =
       pointer-moves = refl;
       lowest-first = refl;
       winner-now-loses = refl;
-      both-now-lose = refl
+      both-now-lose = refl;
     }

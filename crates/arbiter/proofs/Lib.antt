@@ -6,4 +6,7 @@ pub mod RankTest
 pub mod Ranks
 pub mod RoundRobin
 pub mod Rows
+pub mod Soundness
+pub mod Top
 pub mod TotalOrder
+pub mod Winners

@@ -62,7 +62,7 @@ passed-more n rows at word rank h p l =
     record {
       low = omega arith;
       named = or-with word (at rank) ∙ ap (withBit (at rank)) (p .named) ∙ ap (ranksBelow at) (sym (add-one rank));
-      links = λ k g. at-rank k g (eqb k rank) refl
+      links = λ k g. at-rank k g (eqb k rank) refl;
     }
   where
     at-rank : (k : ℕ) → k < rank + 1 → (b : Bool) → eqb k rank ≡ b → Link rows at k
@@ -92,10 +92,11 @@ module _ (n : ℕ) (rows : List ℕ) (at : ℕ → ℕ) (inside : (k : ℕ) → 
           let p = both (totalOrder n rows) (within n rows) e in
           bit-ext n (ranksBelow at n) (2 ^ n - 1) (ranks-lt n at inside n) (ones-lt n)
           (λ i h. order-full n rows at (order-of n rows (p .0)) (within-at n rows (p .1)) inside ranked i h ∙ sym (bit-all n i h))
+
       go : (b : Bool) → eqb (ranksBelow at n) (2 ^ n - 1) ≡ b → b ≡ asked
       go true e =
           let full : (i : ℕ) → i < n → bit (ranksBelow at n) i ≡ true =
-              λ i h. ap (λ (x : ℕ). bit x i) (eqb-true (ranksBelow at n) (2 ^ n - 1) e) ∙ bit-all n i h in
+          λ i h. ap (λ (x : ℕ). bit x i) (eqb-true (ranksBelow at n) (2 ^ n - 1) e) ∙ bit-all n i h in
           sym (ap₂ _&&_ (order-holds n rows (links-order n rows at inside links full)) (all-within n rows (links-within n rows at inside links full)))
       go false e = sym (unnamed asked refl)
         where

@@ -18,6 +18,7 @@ use Rattle.base.proofs.Bits.{bit-ext, bit-zero, bit-with, with-lt}
 use Rattle.base.proofs.Count.{count, count-ext, count-lt, count-more, count-all, ones-count}
 use Rattle.arbiter.specs.Matrix.{beats}
 use Rattle.arbiter.proofs.Ranks.{rankOf}
+use Rattle.arbiter.proofs.Top.{Top, None, top}
 use Rattle.arbiter.proofs.TotalOrder.{Order}
 
 -- the word of the requesters of the first r ranks
@@ -61,7 +62,7 @@ pub record Link (rows : List ℕ) (at : ℕ → ℕ) (k : ℕ) : Type 0 where
 
 -- ---- links at every rank below n, which name all n, make a total order
 module _ (n : ℕ) (rows : List ℕ) (at : ℕ → ℕ) (inside : (k : ℕ) → at k < n) (links : (k : ℕ) → k < n → Link rows at k)
-  (full : (i : ℕ) → i < n → bit (ranksBelow at n) i ≡ true) where
+    (full : (i : ℕ) → i < n → bit (ranksBelow at n) i ≡ true) where
   -- who has a rank beats who has a lower one
   by-rank : (a b : ℕ) → a < n → b < n → beats rows (at a) (at b) ≡ ltb b a
   unfolding beats
@@ -93,7 +94,7 @@ module _ (n : ℕ) (rows : List ℕ) (at : ℕ → ℕ) (inside : (k : ℕ) → 
         transitive = λ i j k h g l p q.
             let a = ltb-true (rank j g .0) (rank i h .0) (sym (beats-rank i j h g) ∙ p) in
             let b = ltb-true (rank k l .0) (rank j g .0) (sym (beats-rank j k g l) ∙ q) in
-            beats-rank i k h l ∙ lt-ltb (rank k l .0) (rank i h .0) (omega arith)
+            beats-rank i k h l ∙ lt-ltb (rank k l .0) (rank i h .0) (omega arith);
       }
     where
       either : (i j : ℕ) (h : i < n) (g : j < n) → (i ≡ j → ⊥) → (b : Bool) → ltb (rank j g .0) (rank i h .0) ≡ b
@@ -101,7 +102,7 @@ module _ (n : ℕ) (rows : List ℕ) (at : ℕ → ℕ) (inside : (k : ℕ) → 
       either i j h g d true e = inl (beats-rank i j h g ∙ e)
       either i j h g d false e =
           let l : rank i h .0 < rank j g .0 =
-              lt-of-le-ne (ltb-false (rank j g .0) (rank i h .0) e) (λ q. d (sym (rank i h .2) ∙ ap at q ∙ rank j g .2)) in
+          lt-of-le-ne (ltb-false (rank j g .0) (rank i h .0) e) (λ q. d (sym (rank i h .2) ∙ ap at q ∙ rank j g .2)) in
           inr (beats-rank j i g h ∙ lt-ltb (rank i h .0) (rank j g .0) l)
 
   pub links-within : (i : ℕ) → i < n → getD rows i 0 < 2 ^ n
@@ -111,7 +112,7 @@ module _ (n : ℕ) (rows : List ℕ) (at : ℕ → ℕ) (inside : (k : ℕ) → 
 
 -- ---- a total order, with a table that names for each rank in use one of that rank, has a link at every rank and names all n
 module _ (n : ℕ) (rows : List ℕ) (at : ℕ → ℕ) (o : Order n rows) (narrow : (i : ℕ) → i < n → getD rows i 0 < 2 ^ n)
-  (inside : (k : ℕ) → at k < n) (ranked : (i : ℕ) → i < n → rankOf rows (at (rankOf rows i)) ≡ rankOf rows i) where
+    (inside : (k : ℕ) → at k < n) (ranked : (i : ℕ) → i < n → rankOf rows (at (rankOf rows i)) ≡ rankOf rows i) where
   count-rank : (i : ℕ) → i < n → rankOf rows i ≡ count (beats rows i) n
   unfolding beats
   count-rank i h = ones-count n (getD rows i 0) (narrow i h)
@@ -128,53 +129,10 @@ module _ (n : ℕ) (rows : List ℕ) (at : ℕ → ℕ) (o : Order n rows) (narr
       differ : (beats rows i j ≡ true) ⊎ (beats rows j i ≡ true) → ⊥
       differ (inl b) = let l = higher i j h g b in omega arith
       differ (inr b) = let l = higher j i g h b in omega arith
+
       go : (b : Bool) → eqb i j ≡ b → i ≡ j
       go true q = eqb-true i j q
       go false q = absurd (differ (o .total i j h g (eqb-false i j q)))
-
-  -- among the numbers below k that pass a test, the one that all others beat
-  record Least (test : ℕ → Bool) (k m : ℕ) : Type 0 where
-    below : m < k
-    passes : test m ≡ true
-    others : (x : ℕ) → x < k → test x ≡ true → (x ≡ m → ⊥) → beats rows x m ≡ true
-
-  least : (test : ℕ → Bool) (k : ℕ) → k ≤ n → ((x : ℕ) → x < k → test x ≡ false) ⊎ ((m : ℕ) × Least test k m)
-  least test zero h = inl (λ x l. absurd (omega arith))
-  least test (suc k) h = go (test k) refl (least test k (omega arith))
-    where
-      under : (x : ℕ) → x < suc k → (x ≡ k → ⊥) → x < k
-      under x l d = lt-of-le-ne (omega arith) d
-      go : (b : Bool) → test k ≡ b → ((x : ℕ) → x < k → test x ≡ false) ⊎ ((m : ℕ) × Least test k m)
-          → ((x : ℕ) → x < suc k → test x ≡ false) ⊎ ((m : ℕ) × Least test (suc k) m)
-      go false e (inl none) = inl (λ x l. last x l (eqb x k) refl)
-        where
-          last : (x : ℕ) → x < suc k → (b : Bool) → eqb x k ≡ b → test x ≡ false
-          last x l true q = ap test (eqb-true x k q) ∙ e
-          last x l false q = none x (under x l (eqb-false x k q))
-      go false e (inr (m, q)) =
-          inr (m,
-          record {
-            below = let l = q .below in omega arith;
-            passes = q .passes;
-            others = λ x g t d. q .others x (under x g (λ same. true≢false (sym t ∙ ap test same ∙ e))) t d
-          })
-      go true e (inl none) =
-          inr (k, record { below = le-refl (suc k); passes = e; others = λ x g t d. absurd (true≢false (sym t ∙ none x (under x g d))) })
-      go true e (inr (m, q)) = by-order (o .total k m h (let l = q .below in omega arith) (λ same. let l = q .below in omega arith))
-        where
-          by-order : (beats rows k m ≡ true) ⊎ (beats rows m k ≡ true) → ((x : ℕ) → x < suc k → test x ≡ false) ⊎ ((m : ℕ) × Least test (suc k) m)
-          by-order (inl b) =
-              inr (m, record { below = let l = q .below in omega arith; passes = q .passes; others = λ x g t d. keep x g t d (eqb x k) refl })
-            where
-              keep : (x : ℕ) → x < suc k → test x ≡ true → (x ≡ m → ⊥) → (b : Bool) → eqb x k ≡ b → beats rows x m ≡ true
-              keep x g t d true same = ap (λ (y : ℕ). beats rows y m) (eqb-true x k same) ∙ b
-              keep x g t d false differs = q .others x (under x g (eqb-false x k differs)) t d
-          by-order (inr b) = inr (k, record { below = le-refl (suc k); passes = e; others = λ x g t d. past x (under x g d) t (eqb x m) refl })
-            where
-              past : (x : ℕ) → x < k → test x ≡ true → (b : Bool) → eqb x m ≡ b → beats rows x k ≡ true
-              past x g t true same = ap (λ (y : ℕ). beats rows y k) (eqb-true x m same) ∙ b
-              past x g t false differs =
-                  o .transitive x m k (omega arith) (let l = q .below in omega arith) h (q .others x g t (eqb-false x m differs)) b
 
   -- the first r ranks: r requesters, each beaten by all others
   record Lowest (r : ℕ) : Type 0 where
@@ -183,21 +141,33 @@ module _ (n : ℕ) (rows : List ℕ) (at : ℕ → ℕ) (o : Order n rows) (narr
 
   next : (r : ℕ) → r < n → Lowest r → Link rows at r × Lowest (suc r)
   unfolding beats
-  next r h low = go (least (λ (x : ℕ). not (bit (ranksBelow at r) x)) n (le-refl n))
+  next r h low =
+      go (top n beaten-by (λ i j h g d. swapped (o .total i j h g d)) (λ i j k h g l p q. o .transitive k j i l g h q p) (λ (x : ℕ). not (bit (ranksBelow at r) x)) n (le-refl n))
     where
+      beaten-by : ℕ → ℕ → Bool
+      beaten-by i j = beats rows j i
+
+      swapped : {A B : Type 0} → A ⊎ B → B ⊎ A
+      swapped (inl p) = inr p
+      swapped (inr p) = inl p
+
       S : ℕ → Bool
       S = bit (ranksBelow at r)
+
       in-set : (b : Bool) → not b ≡ false → b ≡ true
       in-set true q = refl
       in-set false q = absurd (true≢false q)
+
       out-set : (b : Bool) → not b ≡ true → b ≡ false
       out-set true q = absurd (false≢true q)
       out-set false q = refl
-      go : ((x : ℕ) → x < n → not (S x) ≡ false) ⊎ ((m : ℕ) × Least (λ (x : ℕ). not (S x)) n m) → Link rows at r × Lowest (suc r)
+
+      go : None (λ (x : ℕ). not (S x)) n ⊎ ((m : ℕ) × Top beaten-by (λ (x : ℕ). not (S x)) n m) → Link rows at r × Lowest (suc r)
       go (inl none) = absurd (let e = sym (low .many) ∙ count-all S n (λ i l. in-set (S i) (none i l)) in omega arith)
-      go (inr (m, q)) =
-          (record { row = ap (λ (i : ℕ). getD rows i 0) named ∙ row; new = ap S named ∙ out-set (S m) (q .passes) },
-          record { many = many; beaten = beaten })
+      go (inr (m, q)) = (
+        record { row = ap (λ (i : ℕ). getD rows i 0) named ∙ row; new = ap S named ∙ out-set (S m) (q .passes) },
+        record { many = many; beaten = beaten },
+      )
         where
           -- m beats those of the lower ranks and nobody else
           exact : (j : ℕ) → j < n → beats rows m j ≡ S j
@@ -207,26 +177,33 @@ module _ (n : ℕ) (rows : List ℕ) (at : ℕ → ℕ) (o : Order n rows) (narr
               by-set true e d f = low .beaten j m g (q .below) e (out-set (S m) (q .passes))
               by-set false e true f = ap (beats rows m) (eqb-true j m f) ∙ o .irreflexive m (q .below)
               by-set false e false f = o .asymmetric j m g (q .below) (q .others j g (ap not e) (eqb-false j m f))
+
           row : getD rows m 0 ≡ ranksBelow at r
           row = bit-ext n (getD rows m 0) (ranksBelow at r) (narrow m (q .below)) (ranks-lt n at inside r) exact
+
           rank : rankOf rows m ≡ r
           rank = count-rank m (q .below) ∙ count-ext (beats rows m) S n exact ∙ low .many
+
           named : at r ≡ m
           named =
               rank-injective (at r) m (inside r) (q .below)
               (ap (λ (k : ℕ). rankOf rows (at k)) (sym rank) ∙ ranked m (q .below))
+
           grown : (j : ℕ) → bit (ranksBelow at (suc r)) j ≡ (S j || eqb j m)
           grown j = ranks-more at r j ∙ ap (λ (k : ℕ). S j || eqb j k) named
+
           many : count (bit (ranksBelow at (suc r))) n ≡ suc r
           many =
               count-ext (bit (ranksBelow at (suc r))) (λ (j : ℕ). S j || eqb j m) n (λ j g. grown j)
               ∙ count-more S n m (q .below) (out-set (S m) (q .passes)) ∙ ap suc (low .many)
+
           beaten : (s x : ℕ) → s < n → x < n → bit (ranksBelow at (suc r)) s ≡ true → bit (ranksBelow at (suc r)) x ≡ false → beats rows x s ≡ true
           beaten s x g l p f = by-new (eqb s m) refl (neither (S x) (eqb x m) (sym (grown x) ∙ f))
             where
               neither : (a b : Bool) → (a || b) ≡ false → (a ≡ false) × (b ≡ false)
               neither true b e = absurd (true≢false e)
               neither false b e = (refl, e)
+
               by-new : (b : Bool) → eqb s m ≡ b → (S x ≡ false) × (eqb x m ≡ false) → beats rows x s ≡ true
               by-new true e (off, d) = ap (beats rows x) (eqb-true s m e) ∙ q .others x l (ap not off) (eqb-false x m d)
               by-new false e (off, d) = low .beaten s x g l (sym (or-false (S s)) ∙ ap (λ (b : Bool). S s || b) (sym e) ∙ sym (grown s) ∙ p) off
@@ -236,7 +213,7 @@ module _ (n : ℕ) (rows : List ℕ) (at : ℕ → ℕ) (o : Order n rows) (narr
   lowest zero h =
       record {
         many = sym (ones-count n 0 (pow-pos n));
-        beaten = λ s x g l p f. absurd (false≢true (sym (bit-zero s) ∙ p))
+        beaten = λ s x g l p f. absurd (false≢true (sym (bit-zero s) ∙ p));
       }
   lowest (suc r) h = next r h (lowest r (omega arith)) .1
 

@@ -41,14 +41,18 @@ ranked-more n rows at i w h r t =
   where
     fits : rankOf rows i < length at
     fits = let e = t .room in omega arith
+
     small : i % 256 ≡ i
     small = mod-eq-of-lt (omega arith)
+
     here : getD (set at (rankOf rows i) (i % 256)) (rankOf rows i) 0 ≡ i
     here = getD-set-same at (rankOf rows i) (i % 256) 0 fits ∙ small
+
     inside : (k : ℕ) (b : Bool) → eqb k (rankOf rows i) ≡ b → getD (set at (rankOf rows i) (i % 256)) k 0 < n
     inside k true e = subst (λ (x : ℕ). x < n) (sym (ap (λ (m : ℕ). getD (set at (rankOf rows i) (i % 256)) m 0) (eqb-true k (rankOf rows i) e) ∙ here)) h
     inside k false e =
         subst (λ (x : ℕ). x < n) (sym (getD-set-other at (rankOf rows i) k (i % 256) 0 (eqb-false k (rankOf rows i) e))) (t .inside k)
+
     same : (k : ℕ) → k < i + 1 → (b : Bool) → eqb (rankOf rows k) (rankOf rows i) ≡ b → (d : Bool) → eqb k i ≡ d
         → rankOf rows (getD (set at (rankOf rows i) (i % 256)) (rankOf rows k) 0) ≡ rankOf rows k
     same k l true e d f =

@@ -4,7 +4,7 @@ use mathlib.Core.Path.{_≡_, refl, sym, ap, ap₂, subst, _∙_}
 use mathlib.Core.Bool.{Bool, true, false, true≢false}
 use mathlib.Core.Option.{Option, some, none}
 use Prim.Native.Nat.{ℕ, zero, suc, _+_, _-_, _/_, _%_, _^_, _≤_, _<_}
-use native.Mathlib.Nat.{lt-of-le-of-lt, lt-of-lt-of-le, mod-self, mod-eq-of-lt, one-mul, div-lt-iff-lt-mul}
+use native.Mathlib.Nat.{lt-of-le-of-lt, lt-of-lt-of-le, mod-self, mod-lt, mod-eq-of-lt, one-mul, div-lt-iff-lt-mul}
 use native.Mathlib.Omega.{arith}
 use lib.Arith.{lt-of-le-ne}
 use lib.Count.{trailingZeros}
@@ -34,7 +34,7 @@ module _ (n asking p : ℕ) (w : n ≤ 32) (q : p < n) (h : asking < 2 ^ n) wher
         from = omega arith;
         below = omega arith;
         passes = there;
-        before = λ j l g. shifted-bit asking p j l ∙ f .before (j - p) (omega arith) (omega arith)
+        before = λ j l g. shifted-bit asking p j l ∙ f .before (j - p) (omega arith) (omega arith);
       }
 
   pub turn-after : 0 < asking / 2 ^ p → some (p + trailingZeros 32 (asking / 2 ^ p)) ≡ nextInTurn n (bit asking) p
@@ -70,3 +70,7 @@ next-wraps n w e = sym (ap (λ (x : ℕ). x % n) e ∙ mod-self n)
 pub next-moves : (n w : ℕ) → w < n → (w + 1 ≡ n → ⊥) → w + 1 ≡ pointerAfter n w
 unfolding pointerAfter
 next-moves n w h d = sym (mod-eq-of-lt (lt-of-le-ne (omega arith) d))
+
+pub pointer-after : (n w : ℕ) → 1 ≤ n → pointerAfter n w < n
+unfolding pointerAfter
+pointer-after n w h = mod-lt (w + 1) h

@@ -49,10 +49,12 @@ module _ (n : ℕ) (rows : List ℕ) where
           let p = both (every n nobodyItself && every n (λ (i : ℕ). every n (exactlyOne i))) (every n (λ (i : ℕ). every n (λ (j : ℕ). every n (carriesOver i j)))) e in
           let q = both (every n nobodyItself) (every n (λ (i : ℕ). every n (exactlyOne i))) (p .0) in
           (q .0, q .1, p .1)
+
       one-wins : (i j : ℕ) → i < n → j < n → (i ≡ j → ⊥) → xor (beats rows i j) (beats rows j i) ≡ true
       one-wins i j h g d =
           subst (λ (b : Bool). (b || xor (beats rows i j) (beats rows j i)) ≡ true) (ne-eqb i j d)
           (every-at n (exactlyOne i) (every-at n (λ (i : ℕ). every n (exactlyOne i)) (parts .1) i h) j g)
+
       either : (a b : Bool) → xor a b ≡ true → (a ≡ true) ⊎ (b ≡ true)
       either true b q = inl refl
       either false b q = inr (subst (λ (x : Bool). x ≡ true) (not-beq b) q)
@@ -60,16 +62,20 @@ module _ (n : ℕ) (rows : List ℕ) where
           not-beq : (b : Bool) → not (Bool·beq false b) ≡ b
           not-beq true = refl
           not-beq false = refl
+
       total : (i j : ℕ) → i < n → j < n → (i ≡ j → ⊥) → (beats rows i j ≡ true) ⊎ (beats rows j i ≡ true)
       total i j h g d = either (beats rows i j) (beats rows j i) (one-wins i j h g d)
+
       not-both : (a b : Bool) → xor a b ≡ true → a ≡ true → b ≡ false
       not-both true true q p = absurd (false≢true q)
       not-both true false q p = refl
       not-both false b q p = absurd (false≢true p)
+
       asymmetric : (i j : ℕ) → i < n → j < n → beats rows i j ≡ true → beats rows j i ≡ false
       asymmetric i j h g b =
           not-both (beats rows i j) (beats rows j i)
           (one-wins i j h g (λ same. true≢false (sym b ∙ ap (beats rows i) (sym same) ∙ off (beats rows i i) (every-at n nobodyItself (parts .0) i h)))) b
+
       transitive : (i j k : ℕ) → i < n → j < n → k < n → beats rows i j ≡ true → beats rows j k ≡ true → beats rows i k ≡ true
       transitive i j k h g l p q =
           subst (λ (b : Bool). (not b || beats rows i k) ≡ true) (ap₂ _&&_ p q)
@@ -88,6 +94,7 @@ module _ (n : ℕ) (rows : List ℕ) where
       over true true c t = t refl refl
       over true false c t = refl
       over false b c t = refl
+
       one : (i j : ℕ) → i < n → j < n → (b : Bool) → eqb i j ≡ b → (b || xor (beats rows i j) (beats rows j i)) ≡ true
       one i j h g true e = refl
       one i j h g false e = go (o .total i j h g (eqb-false i j e))

@@ -6,7 +6,7 @@ use mathlib.Core.List.{List}
 use mathlib.Core.Option.{Option, some, none}
 use Prim.Native.Nat.{ℕ}
 use lib.Dec.{eqb, leb, ltb}
-use lib.ListN.{replicate}
+use lib.ListN.{length, replicate}
 use Rattle.arbiter.specs.declared.Narrow.{Narrow}
 use Rattle.arbiter.specs.declared.Wide.{Wide}
 use Rattle.arbiter.specs.RoundRobin.{nextInTurn, pointerAfter}
@@ -60,10 +60,10 @@ unfoldable pub fresh : ℕ → ℕ → ℕ → Arbiter
 fresh places code n =
     record { pointer = 0; rows = cond (known places code n && eqb code matrix) (freshRows places n) (replicate places 0) }
 
--- "round-robin pointers are below their width and matrices are a total order, no requester beating itself"; rows and bits beyond
--- the width, and the other kind's state, are zero (01, sound states)
+-- "one row of priority bits for each requester" there is room for; "round-robin pointers are below their width and matrices are a total
+-- order, no requester beating itself"; rows and bits beyond the width, and the other kind's state, are zero (01, sound states)
 unfoldable pub sound : ℕ → ℕ → ℕ → Arbiter → Bool
 sound places code n a =
-    known places code n
+    known places code n && eqb (length (a .rows)) places
     && cond (eqb code roundRobin) (ltb (a .pointer) n && blankFrom 0 places (a .rows))
     (eqb (a .pointer) 0 && (totalOrder n (a .rows) && within n (a .rows) && blankFrom n places (a .rows)))

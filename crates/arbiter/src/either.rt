@@ -14,6 +14,7 @@ ghost use Rattle.arbiter.specs.Arbiter.{Arbiter, known, usable, choice, 
 
 // "Arbiter code 1 (round robin) or 2 (matrix)".
 const ROUND_ROBIN: u8 = 1;
+
 const MATRIX: u8 = 2;
 
 fn is_known(places: u32, code: u8, n: u32) -> bool
@@ -54,7 +55,14 @@ pub(crate) fn fill(places: u32, code: u8, n: u32, rows: &mut [u32])
     matrix::order(n, rows);
 }
 
-pub(crate) fn choose(places: u32, code: u8, n: u32, requests: Requests, pointer: u32, rows: &[u32]) -> Pick
+pub(crate) fn choose(
+    places: u32,
+    code: u8,
+    n: u32,
+    requests: Requests,
+    pointer: u32,
+    rows: &[u32],
+) -> Pick
     requires { ⌜ (places ≤ 32) × (length (now rows) ≡ places) ⌝ }
     ensures { λ r. ⌜ winnerOf r ≡ choice places code n (asks requests) (record { pointer = pointer; rows = now (rows .entry) }) ⌝ }
 {

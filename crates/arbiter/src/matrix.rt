@@ -1,6 +1,6 @@
 // Matrix: the champion among those that ask, and its fall behind all others.
-use crate::asking;
 use crate::Pick;
+use crate::asking;
 ghost use mathlib.Core.Path.{_≡_};
 ghost use Prim.Native.Nat.{_^_, _<_, _≤_};
 ghost use lib.ListN.{length};

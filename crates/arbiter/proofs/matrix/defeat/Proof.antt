@@ -52,10 +52,11 @@ loop-less c = search needs
 loop-again : tie.Need-loop-again Inv-loop μ-loop
 loop-again c =
     let a = c .before .before .before .before .before .args in
-    let i = c .before .before .loop .inv in
-    (search needs,
-    simp length-set (i .1),
-    rw (c .before .before .before .only .ensures) (raised-more (a .w) (c .before .before .loop .j) (a .rows .now) (c .before .before .loop .rows) (i .2)))
+    let i = c .before .before .loop .inv in (
+      search needs,
+      simp length-set (i .1),
+      rw (c .before .before .before .only .ensures) (raised-more (a .w) (c .before .before .loop .j) (a .rows .now) (c .before .before .loop .rows) (i .2)),
+    )
 
 mul-rows-3 : tie.Need-mul-rows-3 Inv-loop μ-loop
 mul-rows-3 c = search needs
