@@ -62,7 +62,7 @@ impl Narrow {
         Narrow { pointer, rows }
     }
 
-    // Whether this is an arbiter of this kind and width that a fresh one can lead to.
+    // Whether this is a sound arbiter of this kind and width.
     pub fn is_sound(self, code: u8, n: u32) -> bool
         ensures { λ r. ⌜ r ≡ sound 8 code n (ofNarrow self) ⌝ }
     {
@@ -98,7 +98,7 @@ impl Wide {
         Wide { pointer, rows }
     }
 
-    // Whether this is an arbiter of this kind and width that a fresh one can lead to.
+    // Whether this is a sound arbiter of this kind and width.
     pub fn is_sound(self, code: u8, n: u32) -> bool
         ensures { λ r. ⌜ r ≡ sound 32 code n (ofWide self) ⌝ }
     {

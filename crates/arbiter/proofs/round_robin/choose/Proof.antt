@@ -25,7 +25,7 @@ returns-2 : tie.Need-returns-2
 returns-2 c =
     let a = c .before .before .args in
     let p = c .before .before .pre in
-    turn-before (a .n) (a .asking) (a .pointer) (p .0) (p .1) (p .2) (c .before .if1 .left) (omega (arith, c .if2 .taken))
+    turn-before (a .n) (a .asking) (a .pointer) (p .0) (p .1) (p .2) (omega (arith, c .before .if1 .left)) (omega (arith, c .if2 .taken))
 
 returns-3 : tie.Need-returns-3
 returns-3 c =
