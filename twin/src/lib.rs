@@ -1,4 +1,7 @@
 //! The twin: a second, independent model of the router of document 01.
 
+pub mod fast;
+pub mod generate;
 pub mod plain;
+pub mod random;
 pub mod sizes;

@@ -1,0 +1,8 @@
+//! The hand-optimised model: the yardstick for speed. Tests hold it to the plain one, byte for byte.
+
+pub mod any;
+mod arbiters;
+pub mod lines;
+mod router;
+mod rows;
+pub mod run;
