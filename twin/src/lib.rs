@@ -1,5 +1,6 @@
 //! The twin: a second, independent model of the router of document 01.
 
+pub mod cli;
 pub mod fast;
 pub mod generate;
 pub mod plain;

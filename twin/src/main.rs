@@ -1,1 +1,114 @@
-fn main() {}
+//! `twin`: one command each for running, making, reading, writing, comparing and timing traces.
+
+use std::fs::File;
+use std::io::{self, Read, Write};
+use std::os::fd::AsFd;
+use std::process::ExitCode;
+use twin::cli::{BadUsage, Words};
+use twin::generate::{self, fault::Fault};
+use twin::{fast, plain};
+
+const USAGE: &str = "\
+twin: the second model of the router
+
+  twin run [--plain]             read a trace on standard input, write its list; with the
+                                 hand-optimised model, or with the plain one
+  twin gen --seed N [--fault NAME | --whole]
+                                 write the trace of a seed; half of the seeds have a fault.
+                                 --fault: this one; --whole: none
+  twin faults                    list the names of the faults and the numbers they lead to
+";
+
+fn main() -> ExitCode {
+    let mut words = std::env::args().skip(1);
+    let command = words.next().unwrap_or_default();
+    match act(&command, Words::new(&command, words)) {
+        Ok(code) => code,
+        Err(Trouble::Usage(BadUsage(what))) => {
+            eprintln!("twin: {what}\n\n{USAGE}");
+            ExitCode::from(2)
+        }
+        // whoever reads our output has had enough
+        Err(Trouble::Io(fault)) if fault.kind() == io::ErrorKind::BrokenPipe => ExitCode::from(1),
+        Err(Trouble::Io(fault)) => {
+            eprintln!("twin: {fault}");
+            ExitCode::from(1)
+        }
+    }
+}
+
+enum Trouble {
+    Usage(BadUsage),
+    Io(io::Error),
+}
+
+impl From<BadUsage> for Trouble {
+    fn from(bad: BadUsage) -> Self {
+        Trouble::Usage(bad)
+    }
+}
+
+impl From<io::Error> for Trouble {
+    fn from(fault: io::Error) -> Self {
+        Trouble::Io(fault)
+    }
+}
+
+fn act(command: &str, mut words: Words) -> Result<ExitCode, Trouble> {
+    match command {
+        "run" => {
+            let plainly = words.flag("--plain");
+            words.done()?;
+            let (mut input, mut output) = (unbuffered_input()?, unbuffered_output()?);
+            if plainly {
+                let mut output = io::BufWriter::new(output);
+                plain::run::run(&mut io::BufReader::new(input), &mut output)?;
+                output.flush()?;
+            } else {
+                fast::run::run(&mut input, &mut output)?;
+            }
+        }
+        "gen" => {
+            let seed = words.needed("--seed")?;
+            let seed = seed
+                .parse()
+                .map_err(|_| BadUsage(format!("--seed wants a whole number, not '{seed}'")))?;
+            let whole = words.flag("--whole");
+            let fault = words.option("--fault")?;
+            words.done()?;
+            let trace = match fault {
+                Some(name) => {
+                    let fault = Fault::named(&name).ok_or_else(|| {
+                        BadUsage(format!("no fault is named '{name}'; see twin faults"))
+                    })?;
+                    generate::trace_with_fault(seed, Some(fault))
+                }
+                None if whole => generate::trace_with_fault(seed, None),
+                None => generate::trace(seed),
+            };
+            unbuffered_output()?.write_all(&trace)?;
+        }
+        "faults" => {
+            words.done()?;
+            let mut text = String::new();
+            for fault in Fault::ALL {
+                let number = fault.number().map_or("any".into(), |n| n.to_string());
+                text += &format!("{:22} {number}\n", fault.name());
+            }
+            unbuffered_output()?.write_all(text.as_bytes())?;
+        }
+        "help" | "-h" | "--help" => print!("{USAGE}"),
+        "" => return Err(BadUsage("which command?".into()).into()),
+        other => return Err(BadUsage(format!("no command is named '{other}'")).into()),
+    }
+    Ok(ExitCode::SUCCESS)
+}
+
+/// Standard input and output as files: both models read and write in large pieces themselves.
+fn unbuffered_input() -> io::Result<File> {
+    Ok(File::from(io::stdin().as_fd().try_clone_to_owned()?))
+}
+
+fn unbuffered_output() -> io::Result<File> {
+    Ok(File::from(io::stdout().as_fd().try_clone_to_owned()?))
+}

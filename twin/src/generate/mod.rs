@@ -2,6 +2,7 @@
 
 pub mod bench;
 pub mod fault;
+pub mod load;
 mod spoil_cycle;
 mod spoil_file;
 
