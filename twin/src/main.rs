@@ -1,7 +1,7 @@
 //! `twin`: one command each for running, making, reading, writing, comparing and timing traces.
 
 use std::fs::File;
-use std::io::{self, Read, Write};
+use std::io::{self, Write};
 use std::os::fd::AsFd;
 use std::process::ExitCode;
 use twin::cli::{BadUsage, Words};

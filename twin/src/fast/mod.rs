@@ -2,6 +2,7 @@
 
 pub mod any;
 mod arbiters;
+mod counts;
 pub mod lines;
 mod router;
 mod rows;

@@ -2,6 +2,7 @@
 //! 4·port + VC; a set of channels is a u32, so a port is a nibble. A flit is kept as its row, the eight bytes as read.
 
 use super::arbiters::{nonzero_nibbles, Arbiters};
+use super::counts::Counts;
 use super::lines::Lines;
 use super::rows::{Reader, Rows};
 use crate::sizes::{Config, Refusal, CYCLE_LIMIT};
@@ -13,19 +14,20 @@ pub struct Router<A> {
     reader: Reader,
     arbiters: A,
 
-    /// Input VCs: sender credits, with the sets that have some and that have a packet open.
-    sender_credit: [u8; 32],
-    funded: u32,
+    sender_credit: Counts,
+    /// Senders with a packet open.
     open: u32,
 
-    /// Queues: rings of 16 places, whatever D is; the counts run on and are cut to a place.
+    /// Each input VC's flits from offer to departure, wire and queue in one ring: together they are at most D, so at most
+    /// 16. The first and the place behind the last are counts that run on.
     store: [u64; 512],
     first: [u8; 32],
     behind: [u8; 32],
-    queued: u32,
+    /// How many of them are queued.
+    queue: Counts,
 
-    /// Wires and lines home: rings of F and B stages, the stage of this cycle being the oldest one.
-    wire: [[u64; 8]; 8],
+    /// By stage, the VCs whose flit joins its queue and whose credit arrives: rings of F and B stages, that of this cycle
+    /// being the oldest.
     on_wire: [u32; 8],
     wire_stage: usize,
     going_home: [u32; 8],
@@ -38,13 +40,14 @@ pub struct Router<A> {
     free: u32,
     /// Bound input VCs whose output VC has credit.
     paid: u32,
-    /// By output, the unbound input VCs with a head for it in front; and the outputs with any, by the nibble's lowest bit.
+    /// By output, the unbound input VCs that ask; all of them; and the outputs asked, by their nibble's lowest bit.
     asks: [u32; 8],
+    asking: u32,
     asked: u32,
 
-    output_credit: [u8; 32],
-    /// Output VCs that have E.
-    full: u32,
+    output_credit: Counts,
+    /// E everywhere.
+    most: Counts,
 }
 
 /// The numbers of the bits that are set, rising.
@@ -79,14 +82,12 @@ impl<A: Arbiters> Router<A> {
             flits: 0,
             reader: Reader::new(&config),
             arbiters: A::fresh(),
-            sender_credit: [config.depth as u8; 32],
-            funded: channels,
+            sender_credit: Counts::all(config.depth),
             open: 0,
             store: [0; 512],
             first: [0; 32],
             behind: [0; 32],
-            queued: 0,
-            wire: [[0; 8]; 8],
+            queue: Counts::all(0),
             on_wire: [0; 8],
             wire_stage: 0,
             going_home: [0; 8],
@@ -97,9 +98,10 @@ impl<A: Arbiters> Router<A> {
             free: channels,
             paid: 0,
             asks: [0; 8],
+            asking: 0,
             asked: 0,
-            output_credit: [config.downstream as u8; 32],
-            full: channels,
+            output_credit: Counts::all(config.downstream),
+            most: Counts::all(config.downstream),
         }
     }
 
@@ -114,14 +116,19 @@ impl<A: Arbiters> Router<A> {
         };
         let rows = self.reader.read(part)?;
         let arriving = self.going_home[self.home_stage & 7];
-        self.judge(&rows, arriving)?;
-
-        self.credits_reach_senders(arriving, lines);
-        self.credits_from_downstream(rows.credits);
-        self.flits_join_queues();
-        self.offers(&rows);
-        self.allocate_vcs();
-        self.switch_and_leave(lines);
+        let landing = self.on_wire[self.wire_stage & 7];
+        // nothing comes, nothing is due and nothing is queued: only time passes
+        let quiet = arriving | landing | self.queue.some() == 0 && rows.is_empty();
+        if !quiet {
+            self.judge(&rows, arriving)?;
+            self.sender_credit.add(arriving);
+            each_bit!(arriving, channel, { lines.credit(channel) });
+            self.credits_from_downstream(rows.credits);
+            self.flits_join_queues(landing);
+            self.offers(&rows);
+            self.allocate_vcs();
+            self.switch_and_leave(lines);
+        }
 
         self.wire_stage = next_stage(self.wire_stage, self.config.forward);
         self.home_stage = next_stage(self.home_stage, self.config.back);
@@ -133,9 +140,9 @@ impl<A: Arbiters> Router<A> {
     /// 6, 4, 5 over all ports at once; the lowest channel of the first set that isn't empty has the lowest port.
     #[inline(always)]
     fn judge(&self, rows: &Rows, arriving: u32) -> Result<(), Refusal> {
-        let past_room = rows.credits & self.full;
+        let past_room = rows.credits & self.output_credit.same(&self.most);
         let out_of_turn = rows.offers & !(rows.starts ^ self.open);
-        let no_credit = rows.offers & !(self.funded | arriving);
+        let no_credit = rows.offers & !(self.sender_credit.some() | arriving);
         if past_room | out_of_turn | no_credit == 0 {
             return Ok(());
         }
@@ -150,62 +157,38 @@ impl<A: Arbiters> Router<A> {
     }
 
     #[inline(always)]
-    fn credits_reach_senders(&mut self, arriving: u32, lines: &mut Lines) {
-        self.funded |= arriving;
-        each_bit!(arriving, channel, {
-            self.sender_credit[channel as usize] += 1;
-            lines.credit(channel);
-        });
-    }
-
-    #[inline(always)]
     fn credits_from_downstream(&mut self, credits: u32) {
-        each_bit!(credits, channel, {
-            let to = channel as usize;
-            self.output_credit[to] += 1;
-            let filled = usize::from(self.output_credit[to]) == self.config.downstream;
-            self.full |= u32::from(filled) << channel;
-            self.paid |= self.owner[to];
+        let woken = credits & !self.output_credit.some();
+        self.output_credit.add(credits);
+        each_bit!(woken, to, {
+            self.paid |= self.owner[to as usize];
         });
     }
 
+    /// A flit in front of an unbound VC is a head; if it doesn't ask yet, it does from now on. This finds those behind a
+    /// tail of the cycle before, too.
     #[inline(always)]
-    fn flits_join_queues(&mut self) {
-        let stage = self.wire_stage & 7;
-        let landing = self.on_wire[stage];
-        // a flit in front of an unbound VC is a head, and asks
-        let asking = landing & !(self.queued | self.bound);
-        self.queued |= landing;
-        each_bit!(landing, channel, {
+    fn flits_join_queues(&mut self, landing: u32) {
+        self.queue.add(landing);
+        let begin = self.queue.some() & !(self.bound | self.asking);
+        self.asking |= begin;
+        each_bit!(begin, channel, {
             let from = channel as usize;
-            self.store[place(from, self.behind[from])] = self.wire[stage][from >> 2];
-            self.behind[from] = self.behind[from].wrapping_add(1);
+            let output = destination(self.store[place(from, self.first[from])]);
+            self.asks[output] |= 1 << channel;
+            self.asked |= 1 << (4 * output);
         });
-        each_bit!(asking, channel, {
-            self.ask(channel, self.wire[stage][channel as usize >> 2]);
-        });
-    }
-
-    #[inline(always)]
-    fn ask(&mut self, channel: u32, head: u64) {
-        let output = destination(head);
-        self.asks[output] |= 1 << channel;
-        self.asked |= 1 << (4 * output);
     }
 
     #[inline(always)]
     fn offers(&mut self, rows: &Rows) {
-        let stage = self.wire_stage & 7;
-        self.on_wire[stage] = rows.offers;
-        if rows.offers == 0 {
-            return;
-        }
-        self.wire[stage] = rows.rows;
+        self.on_wire[self.wire_stage & 7] = rows.offers;
+        self.sender_credit.take(rows.offers);
         self.open = (self.open & !rows.offers) | rows.leaves_open;
         each_bit!(rows.offers, channel, {
-            let credit = &mut self.sender_credit[channel as usize];
-            *credit -= 1;
-            self.funded &= !(u32::from(*credit == 0) << channel);
+            let from = channel as usize;
+            self.store[place(from, self.behind[from])] = rows.rows[from >> 2];
+            self.behind[from] = self.behind[from].wrapping_add(1);
         });
     }
 
@@ -214,25 +197,24 @@ impl<A: Arbiters> Router<A> {
         let outputs = self.asked & nonzero_nibbles(self.free);
         each_bit!(outputs, nibble, {
             let output = nibble as usize >> 2;
-            let channel = self.arbiters.pick_vc(output, self.asks[output]);
-            let vc = (self.free >> nibble).trailing_zeros();
-            let to = (nibble + vc) & 31;
+            let channel = self.arbiters.pick_vc(output, self.asks[output]) & 31;
+            let to = (nibble + (self.free >> nibble).trailing_zeros()) & 31;
             self.free &= !(1 << to);
             self.asks[output] &= !(1 << channel);
             self.asked &= !(u32::from(self.asks[output] == 0) << nibble);
+            self.asking &= !(1 << channel);
             self.bound |= 1 << channel;
-            self.bound_to[channel as usize & 31] = to as u8;
+            self.bound_to[channel as usize] = to as u8;
             self.owner[to as usize] = 1 << channel;
-            let has_credit = self.output_credit[to as usize] != 0;
-            self.paid |= u32::from(has_credit) << channel;
+            self.paid |= ((self.output_credit.some() >> to) & 1) << channel;
         });
     }
 
-    /// Phases 6 and 7; `bound`, `queued` and `paid` together are the ready ones.
+    /// Phases 6 and 7.
     #[inline(always)]
     fn switch_and_leave(&mut self, lines: &mut Lines) {
-        let ready = self.bound & self.queued & self.paid;
-        let mut home = 0;
+        let ready = self.bound & self.paid & self.queue.some();
+        let mut left = 0;
         if ready != 0 {
             let mut picked = [0; 8];
             let mut table = 0u64;
@@ -244,40 +226,38 @@ impl<A: Arbiters> Router<A> {
             });
             let winners = self.arbiters.pick_outputs(table);
             self.flits += u64::from(winners.count_ones());
+            let mut used = 0;
             each_bit!(winners, bit, {
-                let channel = picked[bit as usize & 7];
-                home |= 1 << channel;
-                self.leave(channel, lines);
+                let channel = picked[bit as usize & 7] & 31;
+                left |= 1 << channel;
+                used |= 1 << self.leave(channel, lines);
+            });
+            self.queue.take(left);
+            self.output_credit.take(used);
+            let spent = used & !self.output_credit.some();
+            each_bit!(spent, to, {
+                self.paid &= !self.owner[to as usize];
             });
         }
-        self.going_home[self.home_stage & 7] = home;
+        self.going_home[self.home_stage & 7] = left;
     }
 
+    /// The front flit of a winner goes out; gives the output VC it used.
     #[inline(always)]
-    fn leave(&mut self, channel: u32, lines: &mut Lines) {
-        let from = channel as usize & 31;
-        let bit = 1u32 << (channel & 31);
+    fn leave(&mut self, channel: u32, lines: &mut Lines) -> u8 {
+        let from = channel as usize;
         let to = self.bound_to[from] & 31;
         let row = self.store[place(from, self.first[from])];
-        lines.flit(to.into(), channel, row);
-
         self.first[from] = self.first[from].wrapping_add(1);
-        let emptied = self.first[from] == self.behind[from];
-        self.queued &= !(u32::from(emptied) << (channel & 31));
-        let credit = &mut self.output_credit[usize::from(to)];
-        *credit -= 1;
-        self.full &= !(1 << to);
-        self.paid &= !(u32::from(*credit == 0) << (channel & 31));
+        lines.flit(to.into(), channel, row);
         let ends = row & 7 >= 3;
         if ends {
-            self.bound &= !bit;
-            self.paid &= !bit;
+            self.bound &= !(1 << channel);
+            self.paid &= !(1 << channel);
             self.free |= 1 << to;
             self.owner[usize::from(to)] = 0;
-            if !emptied {
-                self.ask(channel, self.store[place(from, self.first[from])]);
-            }
         }
+        to
     }
 
     pub fn cycles(&self) -> u64 {
@@ -291,7 +271,7 @@ impl<A: Arbiters> Router<A> {
     pub fn sender_credit(&self, port: usize, vc: usize) -> usize {
         let channel = 4 * port + vc;
         let arriving = (self.going_home[self.home_stage & 7] >> channel) & 1;
-        usize::from(self.sender_credit[channel]) + arriving as usize
+        self.sender_credit.of(channel) + arriving as usize
     }
 
     pub fn packet_open(&self, port: usize, vc: usize) -> bool {
@@ -299,7 +279,7 @@ impl<A: Arbiters> Router<A> {
     }
 
     pub fn credits_owed(&self, port: usize, vc: usize) -> usize {
-        self.config.downstream - usize::from(self.output_credit[4 * port + vc])
+        self.config.downstream - self.output_credit.of(4 * port + vc)
     }
 }
 

@@ -14,6 +14,13 @@ pub struct Rows {
     pub credits: u32,
 }
 
+impl Rows {
+    #[inline(always)]
+    pub fn is_empty(&self) -> bool {
+        self.offers | self.credits == 0
+    }
+}
+
 const HIGH: u32 = 0x8080_8080;
 const KIND: u64 = 0xff;
 const CREDIT: u64 = 0xff00_0000;
