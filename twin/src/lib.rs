@@ -6,3 +6,4 @@ pub mod generate;
 pub mod plain;
 pub mod random;
 pub mod sizes;
+pub mod text;

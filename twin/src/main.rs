@@ -1,12 +1,12 @@
 //! `twin`: one command each for running, making, reading, writing, comparing and timing traces.
 
 use std::fs::File;
-use std::io::{self, Write};
+use std::io::{self, Read, Write};
 use std::os::fd::AsFd;
 use std::process::ExitCode;
 use twin::cli::{BadUsage, Words};
 use twin::generate::{self, fault::Fault};
-use twin::{fast, plain};
+use twin::{fast, plain, text};
 
 const USAGE: &str = "\
 twin: the second model of the router
@@ -16,6 +16,10 @@ twin: the second model of the router
   twin gen --seed N [--fault NAME | --whole]
                                  write the trace of a seed; half of the seeds have a fault.
                                  --fault: this one; --whole: none
+  twin show                      read a trace on standard input, write it as text. A block that
+                                 is damaged beyond words is written as raw bytes, with the rest of it
+  twin pack                      read text as show writes it, write the trace; pack undoes show for
+                                 every file, damaged ones too. Bad text: the line, what was expected
   twin faults                    list the names of the faults and the numbers they lead to
 ";
 
@@ -87,6 +91,23 @@ fn act(command: &str, mut words: Words) -> Result<ExitCode, Trouble> {
                 None => generate::trace(seed),
             };
             unbuffered_output()?.write_all(&trace)?;
+        }
+        "show" => {
+            words.done()?;
+            let mut trace = Vec::new();
+            unbuffered_input()?.read_to_end(&mut trace)?;
+            unbuffered_output()?.write_all(text::show::show(&trace).as_bytes())?;
+        }
+        "pack" => {
+            words.done()?;
+            let text = io::read_to_string(io::stdin())?;
+            match text::pack::pack(&text) {
+                Ok(trace) => unbuffered_output()?.write_all(&trace)?,
+                Err(bad) => {
+                    eprintln!("twin: line {}: expected {}", bad.line, bad.expected);
+                    return Ok(ExitCode::from(1));
+                }
+            }
         }
         "faults" => {
             words.done()?;
