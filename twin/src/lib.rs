@@ -1,8 +1,11 @@
 //! The twin: a second, independent model of the router of document 01.
 
+pub mod bench;
 pub mod cli;
+pub mod compare;
 pub mod fast;
 pub mod generate;
+pub mod launch;
 pub mod plain;
 pub mod random;
 pub mod sizes;

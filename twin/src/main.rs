@@ -2,10 +2,16 @@
 
 use std::fs::File;
 use std::io::{self, Read, Write};
+use std::ops::Range;
 use std::os::fd::AsFd;
+use std::path::Path;
 use std::process::ExitCode;
+use std::time::Duration;
+use twin::bench::Bench;
 use twin::cli::{BadUsage, Words};
+use twin::compare::compare_lists;
 use twin::generate::{self, fault::Fault};
+use twin::launch::{self, Start};
 use twin::{fast, plain, text};
 
 const USAGE: &str = "\
@@ -20,6 +26,12 @@ twin: the second model of the router
                                  is damaged beyond words is written as raw bytes, with the rest of it
   twin pack                      read text as show writes it, write the trace; pack undoes show for
                                  every file, damaged ones too. Bad text: the line, what was expected
+  twin compare --program PATH --seeds A..B [--timeout SECONDS] [--keep FOLDER]
+                                 run PATH on the traces of seeds A to B-1 and compare its lists with
+                                 the plain model's. On a difference: seed and line, exit status 1,
+                                 and the trace kept in FOLDER (this one). Timeout: 10 s a trace
+  twin bench --program PATH [--cycles N] [--rounds N]
+                                 time PATH beside 'twin run', trace to list, best of 5 rounds
   twin faults                    list the names of the faults and the numbers they lead to
 ";
 
@@ -109,6 +121,30 @@ fn act(command: &str, mut words: Words) -> Result<ExitCode, Trouble> {
                 }
             }
         }
+        "compare" => {
+            let program = words.needed("--program")?;
+            let seeds = words.seeds()?;
+            let timeout = Duration::from_secs(words.number("--timeout", 10)?);
+            let keep = words.option("--keep")?.unwrap_or_else(|| ".".into());
+            words.done()?;
+            return compare(&program, seeds, timeout, Path::new(&keep));
+        }
+        "bench" => {
+            let program = words.needed("--program")?;
+            let cycles = words.number("--cycles", 200_000)? as usize;
+            let rounds = words.number("--rounds", 5)? as usize;
+            words.done()?;
+            let bench = Bench {
+                own: std::env::current_exe()?,
+                program: start_of(&program)?,
+                cycles,
+                rounds,
+            };
+            if let Err(why) = bench.run(&mut |line| println!("{line}")) {
+                eprintln!("twin: {why}");
+                return Ok(ExitCode::from(1));
+            }
+        }
         "faults" => {
             words.done()?;
             let mut text = String::new();
@@ -123,6 +159,45 @@ fn act(command: &str, mut words: Words) -> Result<ExitCode, Trouble> {
         other => return Err(BadUsage(format!("no command is named '{other}'")).into()),
     }
     Ok(ExitCode::SUCCESS)
+}
+
+fn start_of(program: &str) -> Result<Start, Trouble> {
+    Start::of(Path::new(program)).map_err(|why| BadUsage(why).into())
+}
+
+/// More than any list of a generated trace, so that a program which writes without end is seen.
+const SPARE_OUTPUT: usize = 1 << 20;
+
+fn compare(
+    program: &str,
+    seeds: Range<u64>,
+    timeout: Duration,
+    keep: &Path,
+) -> Result<ExitCode, Trouble> {
+    let start = start_of(program)?;
+    let subject = |trace: &[u8], expected: usize| {
+        launch::run(&start, trace, expected + SPARE_OUTPUT, timeout)
+    };
+    let (from, to) = (seeds.start, seeds.end);
+    match compare_lists(seeds, &subject) {
+        Ok(tally) => {
+            println!(
+                "twin: seeds {from}..{to}: {} traces, {} cycles, {} lines, no difference",
+                tally.traces, tally.cycles, tally.lines
+            );
+            Ok(ExitCode::SUCCESS)
+        }
+        Err(finding) => {
+            let kept = keep.join(format!("seed-{}.trace", finding.seed));
+            println!("twin: {program}: {finding}");
+            std::fs::write(&kept, &finding.trace)?;
+            println!(
+                "twin: the trace is kept: twin show < {0}; twin run --plain < {0}",
+                kept.display()
+            );
+            Ok(ExitCode::from(1))
+        }
+    }
 }
 
 /// Standard input and output as files: both models read and write in large pieces themselves.

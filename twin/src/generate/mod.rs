@@ -32,7 +32,7 @@ fn trace_with(random: &mut Random, seed: u64, fault: Option<Fault>) -> Vec<u8> {
         0 => 0,
         1..=6 => random.between(1, 30),
         7..=16 => random.between(30, 400),
-        _ => random.between(400, 2_000),
+        _ => random.between(400, 4_000),
     };
     let of_cycle = fault.filter(|fault| fault.is_of_cycle());
     let parts = parts_with(random, config, length, of_cycle);
