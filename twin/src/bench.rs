@@ -38,14 +38,15 @@ impl Bench {
     fn line(&self, load: Load, arbiter: ArbiterKind) -> Result<String, String> {
         let name = format!("twin-bench-{}.trace", std::process::id());
         let trace = std::env::temp_dir().join(name);
-        fs::write(&trace, load_trace(load, arbiter, self.cycles))
+        let cycles = self.cycles * load.stretch;
+        fs::write(&trace, load_trace(load, arbiter, cycles))
             .map_err(|fault| format!("{}: {fault}", trace.display()))?;
         let timed = self.time_both(&trace);
         // the folder is for passing files; one that can't be removed does no harm
         let _ = fs::remove_file(&trace);
         let (own, program) = timed?;
         let shown = |time: Duration| {
-            let seconds = time.as_secs_f64() / self.cycles as f64;
+            let seconds = time.as_secs_f64() / cycles as f64;
             format!("{:.2} M/s {:8.1} ns", 1e-6 / seconds, 1e9 * seconds)
         };
         let arbiter = match arbiter {

@@ -131,7 +131,7 @@ fn act(command: &str, mut words: Words) -> Result<ExitCode, Trouble> {
         }
         "bench" => {
             let program = words.needed("--program")?;
-            let cycles = words.number("--cycles", 200_000)? as usize;
+            let cycles = words.number("--cycles", 300_000)? as usize;
             let rounds = words.number("--rounds", 5)? as usize;
             words.done()?;
             let bench = Bench {

@@ -15,14 +15,16 @@ pub struct Lines {
 }
 
 impl Lines {
-    pub fn new() -> Self {
+    /// An empty buffer, for lines from this cycle on.
+    pub fn at_cycle(cycle: u64) -> Self {
+        let text = format!("? {cycle} ");
         let mut prefix = [0; 16];
-        prefix[..4].copy_from_slice(b"? 0 ");
+        prefix[..text.len()].copy_from_slice(text.as_bytes());
         Lines {
             buffer: Box::new([0; SIZE]),
             at: 0,
             prefix,
-            prefix_length: 4,
+            prefix_length: text.len(),
         }
     }
 
@@ -110,12 +112,6 @@ impl Lines {
         let text = line.to_string();
         self.buffer[self.at..self.at + text.len()].copy_from_slice(text.as_bytes());
         self.at += text.len();
-    }
-}
-
-impl Default for Lines {
-    fn default() -> Self {
-        Lines::new()
     }
 }
 

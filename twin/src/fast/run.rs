@@ -74,7 +74,7 @@ struct Night {
 pub fn run(input: &mut dyn Read, output: &mut dyn Write) -> io::Result<()> {
     let mut night = Night {
         router: None,
-        lines: Lines::new(),
+        lines: Lines::at_cycle(0),
         number: 0,
     };
     let mut buffer = vec![0; READ];

@@ -36,6 +36,12 @@ impl Habits {
         hot: None,
     };
 
+    /// Nothing is offered and all that is owed comes back.
+    pub const REST: Habits = Habits {
+        offer: 0,
+        ..Habits::FLOW
+    };
+
     fn draw(random: &mut Random, config: &Config) -> Habits {
         let hot = random.percent(30);
         Habits {
@@ -76,7 +82,7 @@ impl Bench {
             habits,
             stretch: None,
             to_come: [0; PORTS * VCS],
-            lines: Lines::new(),
+            lines: Lines::at_cycle(0),
         }
     }
 

@@ -9,6 +9,8 @@ use crate::sizes::{ArbiterKind, Config};
 pub struct Load {
     pub name: &'static str,
     pub offer: usize,
+    /// So many times the cycles, where a cycle takes little time: a program's start must not count.
+    pub stretch: usize,
 }
 
 /// High: each port offers whenever some VC has credit, so nearly all slots are full.
@@ -16,14 +18,17 @@ pub const LOADS: [Load; 3] = [
     Load {
         name: "high",
         offer: 100,
+        stretch: 1,
     },
     Load {
         name: "40 %",
         offer: 40,
+        stretch: 1,
     },
     Load {
         name: "idle",
         offer: 0,
+        stretch: 4,
     },
 ];
 

@@ -14,19 +14,27 @@ use fault::Fault;
 use spoil_cycle::spoil_cycle;
 use spoil_file::spoil_file;
 
-/// The trace of a seed: half of them are whole, the others have one fault.
+/// The trace of a seed. Half of them are whole.
 pub fn trace(seed: u64) -> Vec<u8> {
-    let mut random = Random::new(seed);
-    let fault = random.percent(50).then(|| random.pick(Fault::ALL));
-    trace_with(&mut random, seed, fault)
+    trace_with_fault(seed, fault_of(seed))
+}
+
+/// Of eight seeds one has several faults in one cycle, as the order of the tests shows only there; three have one fault,
+/// all kinds in turn, so that about a hundred seeds have them all.
+fn fault_of(seed: u64) -> Option<Fault> {
+    match seed % 8 {
+        0 => Some(Fault::SeveralInCycle),
+        k @ (2 | 5 | 7) => {
+            let turn = seed / 8 * 3 + k / 3;
+            Some(Fault::ALL[(turn % Fault::ALL.len() as u64) as usize])
+        }
+        _ => None,
+    }
 }
 
 /// A seed's trace with the given fault, or with none.
 pub fn trace_with_fault(seed: u64, fault: Option<Fault>) -> Vec<u8> {
-    trace_with(&mut Random::new(seed), seed, fault)
-}
-
-fn trace_with(random: &mut Random, seed: u64, fault: Option<Fault>) -> Vec<u8> {
+    let random = &mut Random::new(seed);
     let config = draw_config(random, seed);
     let length = match random.below(20) {
         0 => 0,
@@ -46,7 +54,7 @@ fn trace_with(random: &mut Random, seed: u64, fault: Option<Fault>) -> Vec<u8> {
 /// By the seed: anything legal; P·V no power of two; all small; each field at an end of its range.
 fn draw_config(random: &mut Random, seed: u64) -> Config {
     let mut values = LARGEST.map(|most| random.between(1, most.into()) as u8);
-    match seed % 4 {
+    match (seed / 8 + seed) % 4 {
         0 => {}
         1 => {
             values[0] = random.pick(&[3, 5, 6, 7]);
@@ -76,7 +84,7 @@ fn parts_with(
         return parts;
     };
     add_legal(&mut bench, &mut parts, random.between(0, length));
-    for wait in 0..500 {
+    for wait in 0..600 {
         let mut part = bench.next_part();
         if spoil_cycle(&mut bench, &mut part, fault).is_some() {
             parts.push(part);
@@ -84,9 +92,10 @@ fn parts_with(
             return parts;
         }
         // no chance so far: make one
-        match wait % 100 {
+        match wait % 150 {
             30 => bench.settle(Habits::PRESS),
             80 => bench.settle(Habits::FLOW),
+            130 => bench.settle(Habits::REST),
             _ => {}
         }
         bench.accept(&part).expect("the bench's cycles are legal");

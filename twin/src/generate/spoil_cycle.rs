@@ -24,20 +24,28 @@ pub fn spoil_cycle(bench: &mut Bench, part: &mut Part, fault: Fault) -> Option<u
     None
 }
 
-/// Two to five faults, at whatever ports they find room; which one is told is for the order to decide.
+/// Faults of two numbers or more, at whatever ports they find room; which one is told is for the order to decide.
 fn spoil_several(bench: &mut Bench, part: &mut Part) -> Option<usize> {
-    let mut faults = Fault::of_cycle();
-    faults.retain(|&fault| fault != Fault::SeveralInCycle);
-    let wanted = bench.random.between(2, 5);
-    let mut ports = Vec::new();
-    for _ in 0..4 * wanted {
+    // often without 3, which would come before all others
+    let numbers: &[u8] = bench
+        .random
+        .pick(&[&[3, 6, 4, 5], &[6, 4, 5], &[6, 4], &[4, 5], &[6, 5]]);
+    let legal = *part;
+    let mut told = Vec::new();
+    for _ in 0..bench.random.between(2, 5) {
+        let number = bench.random.pick(numbers);
+        let mut faults = Fault::of_cycle();
+        faults.retain(|fault| fault.number() == Some(number));
         let fault = bench.random.pick(&faults);
-        ports.extend(spoil_cycle(bench, part, fault));
-        if ports.len() >= wanted {
-            break;
+        if let Some(port) = spoil_cycle(bench, part, fault) {
+            told.push((number, port));
         }
     }
-    (ports.len() > 1).then(|| ports[0])
+    if told.iter().all(|&(number, _)| number == told[0].0) {
+        *part = legal;
+        return None;
+    }
+    Some(told[0].1)
 }
 
 fn spoil_row(bench: &mut Bench, row: &mut [u8; ROW], port: usize, fault: Fault) -> Option<()> {
