@@ -1,0 +1,3 @@
+#!/bin/sh
+# Dies before its first line.
+kill -9 $$

@@ -1,0 +1,3 @@
+#!/bin/sh
+# Never ends.
+exec sleep 60

@@ -1,0 +1,3 @@
+#!/bin/sh
+# The fast model, as any program.
+exec "$TWIN" run
