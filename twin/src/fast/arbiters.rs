@@ -14,25 +14,63 @@ pub trait Arbiters {
     fn pick_outputs(&mut self, table: u64) -> u64;
 }
 
-const NIBBLES: u32 = 0x1111_1111;
-const BYTES: u64 = 0x0101_0101_0101_0101;
+/// Picks in all lanes of a word at once; the lanes are so many bits wide.
+macro_rules! lanes {
+    ($name:ident, $word:ty, $width:literal) => {
+        mod $name {
+            const LANE: $word = (1 << $width) - 1;
+            pub const ONES: $word = <$word>::MAX / LANE;
+            const LOW: $word = ONES * (LANE >> 1);
 
-/// The lowest bit of each nibble that isn't zero.
-#[inline(always)]
-pub fn nonzero_nibbles(x: u32) -> u32 {
-    let pairs = x | (x >> 1);
-    (pairs | (pairs >> 2)) & NIBBLES
+            /// The lowest bit of each lane that isn't zero.
+            #[inline(always)]
+            pub fn nonzero(x: $word) -> $word {
+                ((((x & LOW) + LOW) | x) >> ($width - 1)) & ONES
+            }
+
+            /// `from_pointer` has each lane's requesters at or after its pointer. After a win these are the ones above the
+            /// winner; with none of them asking the search starts again at the lowest, as from pointer 0.
+            #[inline(always)]
+            pub fn round_robin(from_pointer: &mut $word, requests: $word) -> $word {
+                let after = requests & *from_pointer;
+                let has_after = nonzero(after) * LANE;
+                let searched = (after & has_after) | (requests & !has_after);
+                let asked = nonzero(searched);
+                let winners = searched & !(searched - asked);
+                let above = !(winners | (winners - asked));
+                *from_pointer = (*from_pointer & !(asked * LANE)) | (above & (asked * LANE));
+                winners
+            }
+
+            /// Fresh, a requester is beaten by those below it.
+            pub fn fresh_matrix<const N: usize>() -> [$word; N] {
+                std::array::from_fn(|requester| ONES * ((1 << requester) - 1))
+            }
+
+            /// `beaten_by` has for each requester, in each lane, the set of those that beat it.
+            #[inline(always)]
+            pub fn matrix<const N: usize>(beaten_by: &mut [$word; N], requests: $word) -> $word {
+                let mut winners = 0;
+                for (requester, better) in beaten_by.iter().enumerate() {
+                    let unbeaten = ONES & !nonzero(requests & better);
+                    winners |= requests & (unbeaten << requester);
+                }
+                for (requester, better) in beaten_by.iter_mut().enumerate() {
+                    let won = (winners >> requester) & ONES;
+                    *better = (*better & !winners) | ((won * LANE) & !(ONES << requester));
+                }
+                winners
+            }
+        }
+    };
 }
 
-/// The lowest bit of each byte that isn't zero.
-#[inline(always)]
-fn nonzero_bytes(x: u64) -> u64 {
-    const LOW: u64 = 0x7f * BYTES;
-    ((((x & LOW) + LOW) | x) >> 7) & BYTES
-}
+lanes!(nibbles, u32, 4);
+lanes!(bytes, u64, 8);
 
-/// For each requester set kept: the requesters at or after the pointer. After a win these are the numbers above the winner;
-/// with none of them asking the search starts again at the lowest, as from pointer 0.
+pub use nibbles::nonzero as nonzero_nibbles;
+
+/// The requesters at or after each pointer, as in `round_robin`.
 pub struct RoundRobin {
     vcs: [u32; 8],
     inputs: u32,
@@ -58,31 +96,16 @@ impl Arbiters for RoundRobin {
 
     #[inline(always)]
     fn pick_inputs(&mut self, ready: u32) -> u32 {
-        let after = ready & self.inputs;
-        let from_pointer = nonzero_nibbles(after) * 15;
-        let searched = (after & from_pointer) | (ready & !from_pointer);
-        let asked = nonzero_nibbles(searched);
-        let below = searched - asked;
-        let winners = searched & !below;
-        let above = !(winners | (winners - asked));
-        self.inputs = (self.inputs & !(asked * 15)) | (above & (asked * 15));
-        winners
+        nibbles::round_robin(&mut self.inputs, ready)
     }
 
     #[inline(always)]
     fn pick_outputs(&mut self, table: u64) -> u64 {
-        let after = table & self.outputs;
-        let from_pointer = nonzero_bytes(after) * 255;
-        let searched = (after & from_pointer) | (table & !from_pointer);
-        let asked = nonzero_bytes(searched);
-        let winners = searched & !(searched - asked);
-        let above = !(winners | (winners - asked));
-        self.outputs = (self.outputs & !(asked * 255)) | (above & (asked * 255));
-        winners
+        bytes::round_robin(&mut self.outputs, table)
     }
 }
 
-/// For each requester the set of those that beat it; lanes as above, one word per requester.
+/// For each requester the set of those that beat it; lanes as in `matrix`.
 pub struct Matrix {
     vcs: [[u32; 32]; 8],
     inputs: [u32; 4],
@@ -93,8 +116,8 @@ impl Arbiters for Matrix {
     fn fresh() -> Self {
         Matrix {
             vcs: [std::array::from_fn(|n| (1 << n) - 1); 8],
-            inputs: std::array::from_fn(|v| NIBBLES * ((1 << v) - 1)),
-            outputs: std::array::from_fn(|i| BYTES * ((1 << i) - 1)),
+            inputs: nibbles::fresh_matrix(),
+            outputs: bytes::fresh_matrix(),
         }
     }
 
@@ -120,29 +143,11 @@ impl Arbiters for Matrix {
 
     #[inline(always)]
     fn pick_inputs(&mut self, ready: u32) -> u32 {
-        let mut winners = 0;
-        for (vc, beaten_by) in self.inputs.iter().enumerate() {
-            let unbeaten = !nonzero_nibbles(ready & beaten_by);
-            winners |= ready & ((unbeaten & NIBBLES) << vc);
-        }
-        for (vc, beaten_by) in self.inputs.iter_mut().enumerate() {
-            let won = (winners >> vc) & NIBBLES;
-            *beaten_by = (*beaten_by & !winners) | ((won * 15) & !(NIBBLES << vc));
-        }
-        winners
+        nibbles::matrix(&mut self.inputs, ready)
     }
 
     #[inline(always)]
     fn pick_outputs(&mut self, table: u64) -> u64 {
-        let mut winners = 0;
-        for (input, beaten_by) in self.outputs.iter().enumerate() {
-            let unbeaten = !nonzero_bytes(table & beaten_by);
-            winners |= table & ((unbeaten & BYTES) << input);
-        }
-        for (input, beaten_by) in self.outputs.iter_mut().enumerate() {
-            let won = (winners >> input) & BYTES;
-            *beaten_by = (*beaten_by & !winners) | ((won * 255) & !(BYTES << input));
-        }
-        winners
+        bytes::matrix(&mut self.outputs, table)
     }
 }
