@@ -226,12 +226,18 @@ impl<A: Arbiters> Router<A> {
             });
             let winners = self.arbiters.pick_outputs(table);
             self.flits += u64::from(winners.count_ones());
-            let mut used = 0;
+            let (mut used, mut unbound, mut freed) = (0, 0, 0);
             each_bit!(winners, bit, {
                 let channel = picked[bit as usize & 7] & 31;
+                let (to, ends) = self.leave(channel, lines);
                 left |= 1 << channel;
-                used |= 1 << self.leave(channel, lines);
+                used |= 1 << to;
+                unbound |= ends << channel;
+                freed |= ends << to;
             });
+            self.bound &= !unbound;
+            self.paid &= !unbound;
+            self.free |= freed;
             self.queue.take(left);
             self.output_credit.take(used);
             let spent = used & !self.output_credit.some();
@@ -242,22 +248,18 @@ impl<A: Arbiters> Router<A> {
         self.going_home[self.home_stage & 7] = left;
     }
 
-    /// The front flit of a winner goes out; gives the output VC it used.
+    /// The front flit of a winner goes out; gives the output VC it used, and 1 if it ends its packet. No branch: whether it
+    /// does can't be guessed.
     #[inline(always)]
-    fn leave(&mut self, channel: u32, lines: &mut Lines) -> u8 {
+    fn leave(&mut self, channel: u32, lines: &mut Lines) -> (u8, u32) {
         let from = channel as usize;
         let to = self.bound_to[from] & 31;
         let row = self.store[place(from, self.first[from])];
         self.first[from] = self.first[from].wrapping_add(1);
         lines.flit(to.into(), channel, row);
-        let ends = row & 7 >= 3;
-        if ends {
-            self.bound &= !(1 << channel);
-            self.paid &= !(1 << channel);
-            self.free |= 1 << to;
-            self.owner[usize::from(to)] = 0;
-        }
-        to
+        let ends = u32::from(row & 7 >= 3);
+        self.owner[usize::from(to)] = (ends ^ 1) << channel;
+        (to, ends)
     }
 
     pub fn cycles(&self) -> u64 {
