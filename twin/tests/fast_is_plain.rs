@@ -7,16 +7,28 @@ use twin::fast::any::AnyRouter;
 use twin::fast::lines::Lines;
 use twin::fast::run::{list_of, run};
 use twin::generate::fault::Fault;
+use twin::generate::load::{load_trace, LOADS};
 use twin::generate::{trace, trace_with_fault};
 use twin::plain;
 use twin::plain::rules::Document;
-use twin::sizes::{Config, Refusal};
+use twin::sizes::{ArbiterKind, Config, Refusal};
 
 #[test]
 fn on_seeded_traces() {
     match compare_lists(0..2000, &|trace: &[u8], _| Ok(list_of(trace))) {
         Ok(tally) => assert!(tally.cycles > 200_000, "{tally:?}"),
         Err(finding) => panic!("{finding}"),
+    }
+}
+
+#[test]
+fn on_long_traces_at_each_load() {
+    for arbiter in [ArbiterKind::RoundRobin, ArbiterKind::Matrix] {
+        for load in LOADS {
+            let trace = load_trace(load, arbiter, 20_000);
+            let plain = plain::run::list_of(&Document, &trace);
+            assert!(list_of(&trace) == plain, "{} {arbiter:?}", load.name);
+        }
     }
 }
 

@@ -5,7 +5,7 @@ mod common;
 use common::*;
 use twin::fast;
 use twin::generate::fault::Fault;
-use twin::generate::trace_with_fault;
+use twin::generate::{fault_of, trace, trace_with_fault};
 use twin::plain::blocks::{configuration_block, cycles_block, end_block, file_of, seal, CycleView};
 use twin::plain::list::{write_cycle, write_end, write_refusal};
 use twin::plain::router::{Channel, Departure, Reply};
@@ -53,6 +53,26 @@ fn each_fault_leads_to_its_number() {
             tried += 1;
         }
         assert!(tried >= 12, "{}", fault.name());
+    }
+}
+
+/// So a program that leaves out one rule is found by comparing the first 250 seeds: each kind of fault stands there, and is
+/// what the trace ends with.
+#[test]
+fn each_fault_has_its_turn_among_250_seeds() {
+    let mut shown: Vec<Fault> = (0..250)
+        .filter(|&seed| {
+            let fault = fault_of(seed);
+            let number = fault.and_then(Fault::number);
+            let last = last_line(&trace(seed));
+            number.is_some_and(|number| last.starts_with(&format!("R {number} ")))
+        })
+        .filter_map(fault_of)
+        .collect();
+    shown.sort_by_key(|fault| fault.name());
+    shown.dedup();
+    for fault in Fault::ALL.iter().filter(|fault| fault.number().is_some()) {
+        assert!(shown.contains(fault), "{}", fault.name());
     }
 }
 

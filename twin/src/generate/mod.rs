@@ -21,7 +21,7 @@ pub fn trace(seed: u64) -> Vec<u8> {
 
 /// Of eight seeds one has several faults in one cycle, as the order of the tests shows only there; three have one fault,
 /// all kinds in turn, so that about a hundred seeds have them all.
-fn fault_of(seed: u64) -> Option<Fault> {
+pub fn fault_of(seed: u64) -> Option<Fault> {
     match seed % 8 {
         0 => Some(Fault::SeveralInCycle),
         k @ (2 | 5 | 7) => {
