@@ -1,6 +1,5 @@
 //! The twin: a second, independent model of the router of document 01.
 
-pub mod bench;
 pub mod cli;
 pub mod compare;
 pub mod fast;
@@ -10,3 +9,4 @@ pub mod plain;
 pub mod random;
 pub mod sizes;
 pub mod text;
+pub mod timing;

@@ -7,11 +7,12 @@ use std::os::fd::AsFd;
 use std::path::Path;
 use std::process::ExitCode;
 use std::time::Duration;
-use twin::bench::Bench;
+
 use twin::cli::{BadUsage, Words};
 use twin::compare::compare_lists;
 use twin::generate::{self, fault::Fault};
 use twin::launch::{self, Start};
+use twin::timing::Timing;
 use twin::{fast, plain, text};
 
 const USAGE: &str = "\
@@ -134,13 +135,13 @@ fn act(command: &str, mut words: Words) -> Result<ExitCode, Trouble> {
             let cycles = words.number("--cycles", 300_000)? as usize;
             let rounds = words.number("--rounds", 5)? as usize;
             words.done()?;
-            let bench = Bench {
+            let timing = Timing {
                 own: std::env::current_exe()?,
                 program: start_of(&program)?,
                 cycles,
                 rounds,
             };
-            if let Err(why) = bench.run(&mut |line| println!("{line}")) {
+            if let Err(why) = timing.run(&mut |line| println!("{line}")) {
                 eprintln!("twin: {why}");
                 return Ok(ExitCode::from(1));
             }

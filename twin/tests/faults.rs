@@ -11,7 +11,7 @@ use twin::plain::list::{write_cycle, write_end, write_refusal};
 use twin::plain::router::{Channel, Departure, Reply};
 use twin::plain::rules::Document;
 use twin::plain::run::list_of;
-use twin::sizes::{Kind, Refusal};
+use twin::sizes::{Kind, Refusal, LARGEST};
 
 fn list(file: &[u8]) -> String {
     let plain = list_of(&Document, file);
@@ -74,6 +74,21 @@ fn each_fault_has_its_turn_among_250_seeds() {
     for fault in Fault::ALL.iter().filter(|fault| fault.number().is_some()) {
         assert!(shown.contains(fault), "{}", fault.name());
     }
+}
+
+#[test]
+fn the_seeds_cover_the_ranges_of_the_configuration() {
+    let files: Vec<Vec<u8>> = (0..400).map(|seed| trace_with_fault(seed, None)).collect();
+    for (field, &most) in LARGEST.iter().enumerate() {
+        for value in 1..=most {
+            let drawn = files.iter().filter(|file| file[8 + field] == value);
+            assert!(drawn.count() > 0, "field {} never {value}", field + 1);
+        }
+    }
+    let uneven = files
+        .iter()
+        .filter(|file| file[9] == 3 && !(file[8] * 3).is_power_of_two());
+    assert!(uneven.count() > 80, "V=3, P·V no power of two");
 }
 
 #[test]

@@ -67,7 +67,7 @@ impl History {
             wire: offers_up_to(t) - offers_up_to(t - f),
             queue: offers_up_to(t - f) - departures_up_to(t),
             home: departures_up_to(t) - departures_up_to(t - b),
-            credit: depth - offers_up_to(t) + departures_up_to(t - b),
+            credit: depth + departures_up_to(t - b) - offers_up_to(t),
         }
     }
 }

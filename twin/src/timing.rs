@@ -9,7 +9,7 @@ use std::path::{Path, PathBuf};
 use std::process::{Command, Stdio};
 use std::time::{Duration, Instant};
 
-pub struct Bench {
+pub struct Timing {
     /// `twin` itself, which is run as `twin run`.
     pub own: PathBuf,
     pub program: Start,
@@ -17,7 +17,7 @@ pub struct Bench {
     pub rounds: usize,
 }
 
-impl Bench {
+impl Timing {
     /// A line for each load and arbiter, as soon as it is known.
     pub fn run(&self, say: &mut dyn FnMut(String)) -> Result<(), String> {
         if matches!(self.program, Start::Emulated { .. }) {
