@@ -293,3 +293,21 @@ fn next_stage(stage: usize, stages: usize) -> usize {
         stage + 1
     }
 }
+
+#[cfg(test)]
+mod tests {
+    use super::super::arbiters::RoundRobin;
+    use super::*;
+
+    #[test]
+    fn the_last_cycle_of_a_run_is_taken_and_the_next_gives_10_before_3() {
+        let config = Config::from_bytes(&[1; 7]).expect("legal");
+        let mut router = Router::<RoundRobin>::fresh(config);
+        router.cycle = CYCLE_LIMIT - 1;
+        let mut lines = Lines::at_cycle(router.cycle);
+        assert_eq!(router.step(&[0; 64], &mut lines), Ok(()));
+        for part in [&[0; 64][..], &[255; 64], &[]] {
+            assert_eq!(router.step(part, &mut lines), Err(Refusal::new(10, 0)));
+        }
+    }
+}
