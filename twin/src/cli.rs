@@ -42,6 +42,11 @@ impl Words {
             .ok_or_else(|| BadUsage(format!("{} wants {name}", self.command)))
     }
 
+    pub fn needed_number(&mut self, name: &str) -> Result<u64, BadUsage> {
+        let text = self.needed(name)?;
+        whole(name, &text)
+    }
+
     /// A number, or the default where the option isn't given.
     pub fn number(&mut self, name: &str, default: u64) -> Result<u64, BadUsage> {
         match self.option(name)? {

@@ -7,7 +7,6 @@ use std::os::fd::AsFd;
 use std::path::Path;
 use std::process::ExitCode;
 use std::time::Duration;
-
 use twin::cli::{BadUsage, Words};
 use twin::compare::compare_lists;
 use twin::generate::{self, fault::Fault};
@@ -32,7 +31,7 @@ twin: the second model of the router
                                  the plain model's. On a difference: seed and line, exit status 1,
                                  and the trace kept in FOLDER (this one). Timeout: 10 s a trace
   twin bench --program PATH [--cycles N] [--rounds N]
-                                 time PATH beside 'twin run', trace to list, best of 5 rounds
+                                 time PATH beside 'twin run', trace to list, best of 9 rounds
   twin faults                    list the names of the faults and the numbers they lead to
 ";
 
@@ -76,34 +75,28 @@ fn act(command: &str, mut words: Words) -> Result<ExitCode, Trouble> {
         "run" => {
             let plainly = words.flag("--plain");
             words.done()?;
-            let (mut input, mut output) = (unbuffered_input()?, unbuffered_output()?);
-            if plainly {
-                let mut output = io::BufWriter::new(output);
-                plain::run::run(&mut io::BufReader::new(input), &mut output)?;
-                output.flush()?;
-            } else {
-                fast::run::run(&mut input, &mut output)?;
-            }
+            run(plainly)?;
         }
         "gen" => {
-            let seed = words.needed("--seed")?;
-            let seed = seed
-                .parse()
-                .map_err(|_| BadUsage(format!("--seed wants a whole number, not '{seed}'")))?;
+            let seed = words.needed_number("--seed")?;
             let whole = words.flag("--whole");
             let fault = words.option("--fault")?;
             words.done()?;
             let trace = match fault {
-                Some(name) => {
-                    let fault = Fault::named(&name).ok_or_else(|| {
-                        BadUsage(format!("no fault is named '{name}'; see twin faults"))
-                    })?;
-                    generate::trace_with_fault(seed, Some(fault))
-                }
+                Some(name) => generate::trace_with_fault(seed, Some(fault_named(&name)?)),
                 None if whole => generate::trace_with_fault(seed, None),
                 None => generate::trace(seed),
             };
             unbuffered_output()?.write_all(&trace)?;
+        }
+        "faults" => {
+            words.done()?;
+            let line = |fault: &Fault| {
+                let number = fault.number().map_or("any".into(), |n| n.to_string());
+                format!("{:22} {number}\n", fault.name())
+            };
+            let text: String = Fault::ALL.iter().map(line).collect();
+            unbuffered_output()?.write_all(text.as_bytes())?;
         }
         "show" => {
             words.done()?;
@@ -113,8 +106,7 @@ fn act(command: &str, mut words: Words) -> Result<ExitCode, Trouble> {
         }
         "pack" => {
             words.done()?;
-            let text = io::read_to_string(io::stdin())?;
-            match text::pack::pack(&text) {
+            match text::pack::pack(&io::read_to_string(io::stdin())?) {
                 Ok(trace) => unbuffered_output()?.write_all(&trace)?,
                 Err(bad) => {
                     eprintln!("twin: line {}: expected {}", bad.line, bad.expected);
@@ -133,7 +125,7 @@ fn act(command: &str, mut words: Words) -> Result<ExitCode, Trouble> {
         "bench" => {
             let program = words.needed("--program")?;
             let cycles = words.number("--cycles", 300_000)? as usize;
-            let rounds = words.number("--rounds", 5)? as usize;
+            let rounds = words.number("--rounds", 9)? as usize;
             words.done()?;
             let timing = Timing {
                 own: std::env::current_exe()?,
@@ -146,20 +138,27 @@ fn act(command: &str, mut words: Words) -> Result<ExitCode, Trouble> {
                 return Ok(ExitCode::from(1));
             }
         }
-        "faults" => {
-            words.done()?;
-            let mut text = String::new();
-            for fault in Fault::ALL {
-                let number = fault.number().map_or("any".into(), |n| n.to_string());
-                text += &format!("{:22} {number}\n", fault.name());
-            }
-            unbuffered_output()?.write_all(text.as_bytes())?;
-        }
         "help" | "-h" | "--help" => print!("{USAGE}"),
         "" => return Err(BadUsage("which command?".into()).into()),
         other => return Err(BadUsage(format!("no command is named '{other}'")).into()),
     }
     Ok(ExitCode::SUCCESS)
+}
+
+fn run(plainly: bool) -> io::Result<()> {
+    let (mut input, mut output) = (unbuffered_input()?, unbuffered_output()?);
+    if plainly {
+        let mut output = io::BufWriter::new(output);
+        plain::run::run(&mut io::BufReader::new(input), &mut output)?;
+        output.flush()
+    } else {
+        fast::run::run(&mut input, &mut output)
+    }
+}
+
+fn fault_named(name: &str) -> Result<Fault, BadUsage> {
+    Fault::named(name)
+        .ok_or_else(|| BadUsage(format!("no fault is named '{name}'; see twin faults")))
 }
 
 fn start_of(program: &str) -> Result<Start, Trouble> {

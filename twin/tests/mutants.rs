@@ -65,32 +65,32 @@ mutants! {
         }
     }
 
-    six_before_three within 200 {
+    six_before_three within 100 {
         fn first_refused(&self, fails: &dyn Fn(u8, usize) -> bool) -> Option<(u8, usize)> {
             in_order([6, 3, 4, 5], fails)
         }
     }
 
-    four_before_six within 200 {
+    four_before_six within 100 {
         fn first_refused(&self, fails: &dyn Fn(u8, usize) -> bool) -> Option<(u8, usize)> {
             in_order([3, 4, 6, 5], fails)
         }
     }
 
-    five_before_four within 200 {
+    five_before_four within 100 {
         fn first_refused(&self, fails: &dyn Fn(u8, usize) -> bool) -> Option<(u8, usize)> {
             in_order([3, 6, 5, 4], fails)
         }
     }
 
-    ports_falling within 200 {
+    ports_falling within 100 {
         fn first_refused(&self, fails: &dyn Fn(u8, usize) -> bool) -> Option<(u8, usize)> {
             let falling = |number, port: usize| fails(number, 7 - port);
             in_order([3, 6, 4, 5], &falling).map(|(number, port)| (number, 7 - port))
         }
     }
 
-    port_by_port within 200 {
+    port_by_port within 100 {
         fn first_refused(&self, fails: &dyn Fn(u8, usize) -> bool) -> Option<(u8, usize)> {
             let pairs = (0..8).flat_map(|port| [3, 6, 4, 5].map(|number| (number, port)));
             pairs.into_iter().find(|&(number, port)| fails(number, port))
@@ -101,23 +101,23 @@ mutants! {
         fn arriving_credit_counts(&self) -> bool { false }
     }
 
-    seven_before_nine within 200 {
+    seven_before_nine within 100 {
         fn block_order(&self) -> [u8; 4] { [7, 9, 8, 1] }
     }
 
-    eight_before_seven within 200 {
+    eight_before_seven within 100 {
         fn block_order(&self) -> [u8; 4] { [9, 8, 7, 1] }
     }
 
-    one_before_eight within 200 {
+    one_before_eight within 100 {
         fn block_order(&self) -> [u8; 4] { [9, 7, 1, 8] }
     }
 
-    check_held_modulo within 200 {
+    check_held_modulo within 100 {
         fn check_holds(&self, stored: u32, sum: u32) -> bool { stored % 65_521 == sum }
     }
 
-    few_bytes_after_end_are_a_short_block within 200 {
+    few_bytes_after_end_are_a_short_block within 100 {
         fn after_end(&self, bytes: usize) -> u8 { if bytes < 512 { 9 } else { 8 } }
     }
 
