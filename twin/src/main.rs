@@ -31,7 +31,8 @@ twin: the second model of the router
                                  the plain model's. On a difference: seed and line, exit status 1,
                                  and the trace kept in FOLDER (this one). Timeout: 10 s a trace
   twin bench --program PATH [--cycles N] [--rounds N]
-                                 time PATH beside 'twin run', trace to list, best of 9 rounds
+                                 time PATH beside 'twin run', trace to list, best of 9 rounds;
+                                 a machine that is busy otherwise wants more of them
   twin faults                    list the names of the faults and the numbers they lead to
 ";
 

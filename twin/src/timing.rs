@@ -75,9 +75,15 @@ impl Timing {
             return Err("the program's list differs; see twin compare".into());
         }
         let (mut best_own, mut best_program) = (Duration::MAX, Duration::MAX);
-        for _ in 0..self.rounds {
-            best_own = best_own.min(time(own(), trace)?);
-            best_program = best_program.min(time(program(), trace)?);
+        for round in 0..self.rounds {
+            // each goes first in every other round
+            for turn in [round, round + 1] {
+                if turn % 2 == 0 {
+                    best_own = best_own.min(time(own(), trace)?);
+                } else {
+                    best_program = best_program.min(time(program(), trace)?);
+                }
+            }
         }
         Ok((best_own, best_program))
     }
