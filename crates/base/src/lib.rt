@@ -1,1 +1,40 @@
-// Shared words: what more than one crate speaks of. Sets of small numbers as the bits of a word, and the search for the first of them.
+// Shared words: what more than one crate speaks of. The configuration and its one test, a flit, the reply of a cycle, the numbers
+// of document 01's table and its bounds. In specs and proofs also sets of small numbers as the bits of a word.
+mod bounds;
+mod config;
+mod flit;
+mod numbers;
+mod reply;
+
+pub use bounds::CYCLE_LIMIT;
+pub use bounds::FLIT_LIMIT;
+pub use bounds::LARGEST_NUMBER;
+pub use bounds::LARGEST_PLACE;
+pub use bounds::PORTS;
+pub use bounds::ROOM;
+pub use bounds::VCS;
+pub use config::Config;
+pub use config::Judged;
+pub use flit::Flit;
+pub use flit::ends;
+pub use flit::letter;
+pub use flit::starts;
+pub use numbers::BLOCK_SHORT;
+pub use numbers::BLOCK_WRONG;
+pub use numbers::CHECK_WRONG;
+pub use numbers::CONFIGURATION_WRONG;
+pub use numbers::CREDIT_PAST_ROOM;
+pub use numbers::DONE;
+pub use numbers::NO_ROOM;
+pub use numbers::NO_SENDER_CREDIT;
+pub use numbers::NOT_SOUND;
+pub use numbers::OUT_OF_RANGE;
+pub use numbers::OUT_OF_TURN;
+pub use numbers::ROW_WRONG;
+pub use numbers::RUN_FULL;
+pub use reply::Departure;
+pub use reply::Left;
+pub use reply::Output;
+pub use reply::Reached;
+pub use reply::Reply;
+pub use reply::Sender;

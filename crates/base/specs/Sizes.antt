@@ -1,0 +1,58 @@
+-- "Sizes" (01): the configuration, its fields with their bounds, and the largest sizes there are.
+-- Assumes nothing.
+use mathlib.Core.Bool.{Bool, cond, _&&_}
+use mathlib.Core.List.{List, [], _∷_}
+use mathlib.Core.Option.{Option, some, none}
+use Prim.Native.Nat.{ℕ, suc}
+use lib.Dec.{leb}
+use Rattle.base.specs.declared.config.Config.{Config}
+use Rattle.base.specs.declared.config.Judged.{Judged}
+use Rattle.base.specs.declared.config.Judged.the-variants.{Legal, Illegal}
+
+-- "Ports P 1..8. VCs per port V 1..4."
+abbrev pub mostPorts : ℕ
+mostPorts = 8
+
+abbrev pub mostVcs : ℕ
+mostVcs = 4
+
+-- "At most 1,000,000,000 accepted cycles in a run"
+abbrev pub cycleLimit : ℕ
+cycleLimit = 1000000000
+
+-- "flits at most 8·10^9" (01, the list)
+abbrev pub flitLimit : ℕ
+flitLimit = 8000000000
+
+-- a value, and the range that it has to be in
+pub record Field : Type 0 where
+  pub value : ℕ
+  pub least : ℕ
+  pub most : ℕ
+
+abbrev pub field : ℕ → ℕ → ℕ → Field
+field value least most = record { value = value; least = least; most = most }
+
+-- "Ports P 1..8. VCs per port V 1..4. Input depth D 1..16 flits per VC. Downstream depth E 1..16 per output VC. Forward delay F 1..8,
+-- credit delay B 1..8 cycles. Arbiter code 1 (round robin) or 2 (matrix)."
+abbrev pub fieldsOf : Config → List Field
+fieldsOf c =
+    field (c .ports) 1 mostPorts ∷ field (c .vcs) 1 mostVcs ∷ field (c .depth) 1 16 ∷ field (c .downstream) 1 16 ∷ field (c .forward) 1 8
+    ∷ field (c .back) 1 8 ∷ field (c .arbiter) 1 2 ∷ []
+
+unfoldable pub inRange : Field → Bool
+inRange f = leb (f .least) (f .value) && leb (f .value) (f .most)
+
+-- the number of the first field out of its range, where they are counted from k
+unfoldable pub firstIllegal : ℕ → List Field → Option ℕ
+firstIllegal k [] = none
+firstIllegal k (f ∷ fs) = cond (inRange f) (firstIllegal (suc k) fs) (some k)
+
+-- "configuration value out of range; the first such field, 1..7"
+unfoldable pub illegalField : Config → Option ℕ
+illegalField c = firstIllegal 1 (fieldsOf c)
+
+-- the field that an answer names: none where the configuration is legal, else the field that goes with number 1
+abbrev pub fieldOf : Judged → Option ℕ
+fieldOf Legal = none
+fieldOf (Illegal k) = some k

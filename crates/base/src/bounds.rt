@@ -1,0 +1,17 @@
+// The bounds that more than one crate keeps, each under one name, since later requests move some of them.
+pub const PORTS: u8 = 8;
+
+pub const VCS: u8 = 4;
+
+// "At most 1,000,000,000 accepted cycles in a run"; "flits at most 8·10^9".
+pub const CYCLE_LIMIT: u64 = 1_000_000_000;
+
+pub const FLIT_LIMIT: u64 = 8_000_000_000;
+
+// Of an R line: "number 1..10, place 0..7".
+pub const LARGEST_NUMBER: u8 = 10;
+
+pub const LARGEST_PLACE: u8 = 7;
+
+// "Each write .. asks for 376 bytes."
+pub const ROOM: usize = 376;
