@@ -1,0 +1,16 @@
+pub mod Lists
+pub mod Sizes
+pub mod Flit
+pub mod Line
+pub mod Channel
+pub mod Router
+pub mod Cycle
+pub mod History
+pub mod Phases
+pub mod Step
+pub mod Send
+pub mod Legal
+pub mod Run
+pub mod Packets
+pub mod Demand3
+pub mod Times
