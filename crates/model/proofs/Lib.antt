@@ -1,0 +1,10 @@
+pub mod Lists
+pub mod Lines
+pub mod Numbers
+pub mod Entries
+pub mod Flow
+pub mod Reading
+pub mod Place
+pub mod Invariant
+pub mod Depth
+pub mod Demand3

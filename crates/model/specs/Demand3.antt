@@ -2,13 +2,13 @@
 -- Assumes nothing.
 use mathlib.Core.Path.{_≡_}
 use mathlib.Core.List.{List, _++_}
-use Prim.Native.Nat.{ℕ, _+_, _<_}
+use Prim.Native.Nat.{ℕ, suc, _+_, _<_}
 use lib.ListN.{length}
 use Rattle.model.specs.Sizes.{Config}
 use Rattle.model.specs.Flit.{Look}
 use Rattle.model.specs.Channel.{Channel, stored, onWire, goingHome}
 use Rattle.model.specs.Router.{Router}
-use Rattle.model.specs.History.{History, Departure, upTo, after, accepted, leftFrom, leftOn, flits}
+use Rattle.model.specs.History.{History, Numbered, Departure, upTo, after, accepted, leftFrom, leftOn, flits}
 use Rattle.model.specs.Packets.{Packets}
 
 -- leaving by the port that the packet's head named
@@ -37,6 +37,8 @@ pub record InputDemand {Flit : Type 0} (look : Look Flit) (c : Config) (ch : Cha
   pub ports : Packets look (ByHeadsPort look) (leftFrom i v h)
 
 pub record Demand3 {Flit : Type 0} (look : Look Flit) (c : Config) (s : Router Flit) (h : History Flit) (t : ℕ) : Type 0 where
+  -- the history has one entry for each of the cycles t, .., 1, 0
+  pub cycles : Numbered (suc t) h
   -- "After each accepted cycle, each input channel's ..": the two sentences above
   pub inputs : (i v : ℕ) → i < c .ports → v < c .vcs → InputDemand look c (s .channel i v) h t i v
   -- "On each output channel the flits form whole packets one after another, at most the last unfinished, none holding flits of two sources."

@@ -1,21 +1,19 @@
 -- When things happen: the words of what follows from demand 3.
 -- Assumes nothing.
-use mathlib.Core.Bool.{_&&_}
 use mathlib.Core.List.{List, [], _∷_, map}
 use Prim.Native.Nat.{ℕ, suc, _+_, _≤_}
-use lib.Dec.{eqb}
 use Rattle.model.specs.Lists.{keep}
 use Rattle.model.specs.Router.{InVc, OutVc}
-use Rattle.model.specs.History.{History, Entry, Offer, Departure, gather, offersOn, departuresFrom}
+use Rattle.model.specs.History.{History, Entry, same, Offer, Departure, gather, offersOn, departuresFrom}
 
 module _ {Flit : Type 0} where
   -- the credits of VC v of input i that reached their sender
   abbrev pub reachedFor : ℕ → ℕ → Entry Flit → List InVc
-  reachedFor i v e = keep (λ (r : InVc). eqb (r .input) i && eqb (r .vc) v) (e .reached)
+  reachedFor i v e = keep (λ (r : InVc). same (r .input) (r .vc) i v) (e .reached)
 
   -- the credits that came from downstream for VC w of output o
   abbrev pub creditsFor : ℕ → ℕ → Entry Flit → List OutVc
-  creditsFor o w e = keep (λ (r : OutVc). eqb (r .output) o && eqb (r .vc) w) (e .credits)
+  creditsFor o w e = keep (λ (r : OutVc). same (r .output) (r .vc) o w) (e .credits)
 
   -- the cycles in which the flits of VC v of input i were accepted, one for each flit, the oldest first
   abbrev pub acceptedIn : ℕ → ℕ → History Flit → List ℕ

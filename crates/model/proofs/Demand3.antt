@@ -1,0 +1,52 @@
+-- Demand 3 of every run.
+-- Assumes nothing.
+use mathlib.Core.Path.{_≡_, refl, ap, _∙_}
+use mathlib.Core.List.{List, _∷_, _++_}
+use Prim.Native.Nat.{ℕ, suc, _+_}
+use native.Mathlib.Omega.{arith}
+use lib.ListN.{length, drop, take}
+use Rattle.model.specs.Sizes.{Config, Delayed}
+use Rattle.model.specs.Flit.{Look}
+use Rattle.model.specs.Channel.{Channel, stored, onWire, goingHome}
+use Rattle.model.specs.Router.{Router, OutVc}
+use Rattle.model.specs.History.{Entry, History, Numbered, upTo, after, accepted, leftFrom, flits}
+use Rattle.model.specs.Run.{Run}
+use Rattle.model.specs.Demand3.{Demand3, InputDemand, ByHeadsPort}
+use Rattle.model.proofs.Numbers.{after-newest, upTo-older}
+use Rattle.model.proofs.Flow.{Flow, wire-newest, home-newest, queue-older, taken-is, all-in-order}
+use Rattle.model.proofs.Reading.{reading-packets}
+use Rattle.model.proofs.Invariant.{Inv, inv-run}
+use Rattle.model.proofs.Depth.{stored-and-taken}
+
+module _ {Flit : Type 0} (look : Look Flit) (c : Config) (delayed : Delayed c) {s : Router Flit} {h : History Flit} (run : Run look c s h) (t : ℕ) (cycles : Numbered (suc t) h) where
+  inv : Inv look c s h
+  inv = inv-run look c delayed run
+
+  input-demand : (i v : ℕ) → InputDemand look c (s .channel i v) h t i v
+  input-demand i v =
+      let ch = s .channel i v in
+      let flow = inv .flow i v in
+      let newest : (n : ℕ) → after t n h ≡ take n h = λ n. after-newest t n h cycles in
+      let older : (n : ℕ) → upTo t n h ≡ drop n h = λ n. upTo-older t n h cycles in
+      let sum = stored-and-taken look c run i v in
+      record {
+        wire = rw (newest (c .forward)) (ap length (wire-newest c delayed ch h i v flow));
+        buffered = rw (older (c .forward), older 0) (queue-older c delayed ch h i v flow);
+        home = rw (newest (c .back)) (home-newest c delayed ch h i v flow);
+        credits = rw (older (c .back), older 0) (omega (arith, flow .taken));
+        depth = omega (arith, taken-is c delayed ch h i v flow);
+        order = all-in-order c delayed ch h i v flow;
+        ports = reading-packets look (ByHeadsPort look) (inv .place i v .inside) (leftFrom i v h) (inv .place i v .left);
+      }
+
+-- After each accepted cycle of any run, whose entry is the newest of the history.
+pub demand3 : {Flit : Type 0} (look : Look Flit) (c : Config) → Delayed c → {s : Router Flit} {h : History Flit} {now : Entry Flit} → Run look c s (now ∷ h) → Demand3 look c s (now ∷ h) (now .cycle)
+demand3 look c delayed {h = h} {now = now} run =
+    record {
+      cycles = cycles;
+      inputs = λ i v p q. input-demand look c delayed run (now .cycle) cycles i v;
+      outputs = λ o w p q. inv-run look c delayed run .outputs (record { output = o; vc = w });
+    }
+  where
+    cycles : Numbered (suc (now .cycle)) (now ∷ h)
+    cycles = (refl, inv-run look c delayed run .numbered .1)

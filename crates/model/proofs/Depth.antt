@@ -1,0 +1,42 @@
+-- The private depth: all that demand 3 draws from the send rule. Another rule for sharing out an input's slots swaps this file.
+-- Assumes nothing.
+use mathlib.Core.Path.{_≡_, refl}
+use mathlib.Core.Bool.{Bool, true, false, cond}
+use mathlib.Core.Option.{Option, none, some}
+use mathlib.Core.List.{[], _∷_}
+use Prim.Native.Nat.{ℕ, _+_, _≤_, _<_}
+use native.Mathlib.Omega.{arith}
+use lib.Dec.{eqb}
+use lib.ListN.{length}
+use Rattle.model.specs.Sizes.{Config}
+use Rattle.model.specs.Flit.{Look}
+use Rattle.model.specs.Channel.{Channel, takenNow, stored}
+use Rattle.model.specs.Router.{Router}
+use Rattle.model.specs.Cycle.{Event, Choice, Brought}
+use Rattle.model.specs.History.{History}
+use Rattle.model.specs.Phases.{onVc, offered}
+use Rattle.model.specs.Legal.{Legal}
+use Rattle.model.specs.Run.{Run, start, accept}
+use Rattle.model.proofs.Lists.{eqb-true}
+
+module _ {Flit : Type 0} (look : Look Flit) (c : Config) where
+  -- A flit is taken only where a slot is left.
+  taken-more : (s : Router Flit) (e : Event Flit) (k : Choice) → Legal look c s e k → (i v : ℕ) → s .channel i v .taken ≤ c .depth → takenNow (s .channel i v) + length (offered e i v) ≤ c .depth
+  taken-more s e k legal i v fits = go (e .offer i) refl
+    where
+      go : (b : Option (Brought Flit)) → e .offer i ≡ b → takenNow (s .channel i v) + length (onVc v b) ≤ c .depth
+      go none q = omega arith
+      go (some b) q = test (eqb (b .vc) v) refl
+        where
+          test : (t : Bool) → eqb (b .vc) v ≡ t → takenNow (s .channel i v) + length (cond t (b .flit ∷ []) []) ≤ c .depth
+          test true t = let paid : takenNow (s .channel i v) < c .depth = rw (eqb-true (b .vc) v t) at (legal .paid i b q) in omega arith
+          test false t = omega arith
+
+  -- No more slots are taken than there are.
+  pub taken-fits : {s : Router Flit} {h : History Flit} → Run look c s h → (i v : ℕ) → s .channel i v .taken ≤ c .depth
+  taken-fits start i v = omega arith
+  taken-fits (accept {s = s} run e k legal) i v = taken-more s e k legal i v (taken-fits run i v)
+
+  -- "stored credits, D less [what is taken]", with nothing cut off.
+  pub stored-and-taken : {s : Router Flit} {h : History Flit} → Run look c s h → (i v : ℕ) → stored c (s .channel i v) + s .channel i v .taken ≡ c .depth
+  stored-and-taken run i v = omega (arith, taken-fits run i v)

@@ -1,0 +1,162 @@
+-- The cycle's entry, read for one input VC or one output VC, is what the step does there.
+-- Assumes nothing.
+use mathlib.Core.Path.{_≡_, refl, sym, ap, subst, _∙_}
+use mathlib.Core.Logic.{_≢_}
+use mathlib.Core.Bool.{Bool, true, false, cond, true≢false}
+use mathlib.Core.Option.{Option, none, some}
+use mathlib.Core.List.{List, [], _∷_, map, nil≢cons}
+use Prim.Native.Nat.{ℕ, zero, suc, _<_}
+use native.Mathlib.Decide.{ℕ-discrete, decLt}
+use native.Mathlib.Omega.{arith}
+use lib.Dec.{eqb}
+use lib.ListN.{length, replicate}
+use Rattle.model.specs.Lists.{keep, each}
+use Rattle.model.specs.Sizes.{Config}
+use Rattle.model.specs.Channel.{reaching, queueNow}
+use Rattle.model.specs.Router.{Router, OutVc, InVc}
+use Rattle.model.specs.Cycle.{Event, Choice, Brought}
+use Rattle.model.specs.History.{Entry, Offer, Departure, same, offersOn, departuresFrom, departuresOn}
+use Rattle.model.specs.Phases.{onVc, offered, boundNow, leaving, departure}
+use Rattle.model.specs.Step.{offersAt, entry}
+use Rattle.model.proofs.Lists.{eqb-same, eqb-other, keep-each, keep-grid, each-none, each-one, grid-one, grid-found}
+
+-- the same VC of the same port, and another
+pub same-own : (i v : ℕ) → same i v i v ≡ true
+same-own i v = rw (eqb-same i, eqb-same v)
+
+pub same-other : (i v j u : ℕ) → ¬ ((i ≡ j) × (v ≡ u)) → same i v j u ≡ false
+same-other i v j u ne = go (ℕ-discrete i j) (ℕ-discrete v u)
+  where
+    go : Dec (i ≡ j) → Dec (v ≡ u) → same i v j u ≡ false
+    go (yes p) (yes q) = absurd (ne (p, q))
+    go (yes p) (no q) = rw (p, eqb-same j, eqb-other q)
+    go (no p) d = rw (eqb-other p)
+
+pub same-true : (i v j u : ℕ) → same i v j u ≡ true → (i ≡ j) × (v ≡ u)
+same-true i v j u t = go (ℕ-discrete i j) (ℕ-discrete v u)
+  where
+    differ : ¬ ((i ≡ j) × (v ≡ u)) → (i ≡ j) × (v ≡ u)
+    differ ne = absurd (true≢false (sym t ∙ same-other i v j u ne))
+
+    go : Dec (i ≡ j) → Dec (v ≡ u) → (i ≡ j) × (v ≡ u)
+    go (yes p) (yes q) = (p, q)
+    go (yes p) (no q) = differ (λ r. q (r .1))
+    go (no p) d = differ (λ r. p (r .0))
+
+-- an output VC is its output and its VC
+pub outVc-path : (b : OutVc) (o w : ℕ) → b .output ≡ o → b .vc ≡ w → b ≡ record { output = o; vc = w }
+outVc-path b o w p q = λ x. record { output = p x; vc = q x }
+
+module _ {Flit : Type 0} (i v : ℕ) where
+  -- the tests of the three readings
+  abbrev offeredTo : Offer Flit → Bool
+  offeredTo o = same (o .input) (o .vc) i v
+
+  abbrev comesFrom : Departure Flit → Bool
+  comesFrom d = same (d .input) (d .vc) i v
+
+  abbrev goesBy : Departure Flit → Bool
+  goesBy d = same (d .output) (d .outVc) i v
+
+  -- the offer of input j, read for VC v of input i
+  offers-other : (j : ℕ) (b : Option (Brought Flit)) → j ≢ i → keep offeredTo (offersAt j b) ≡ []
+  offers-other j none ne = refl
+  offers-other j (some b) ne = rw (same-other j (b .vc) i v (λ q. ne (q .0)))
+
+  offers-own : (b : Option (Brought Flit)) → map (λ (o : Offer Flit). o .flit) (keep offeredTo (offersAt i b)) ≡ onVc v b
+  offers-own none = refl
+  offers-own (some b) = rw (eqb-same i) (go (eqb (b .vc) v))
+    where
+      go : (t : Bool) → map (λ (o : Offer Flit). o .flit) (cond t (record { input = i; vc = b .vc; flit = b .flit } ∷ []) []) ≡ cond t (b .flit ∷ []) []
+      go true = refl
+      go false = refl
+
+  -- what leaves from VC u of input j, read for VC v of input i
+  leaving-other : (j u : ℕ) (l : Bool) (b : Option OutVc) (q : List Flit) → ¬ ((j ≡ i) × (u ≡ v)) → keep comesFrom (leaving j u l b q) ≡ []
+  leaving-other j u false b q ne = refl
+  leaving-other j u true none q ne = refl
+  leaving-other j u true (some b) [] ne = refl
+  leaving-other j u true (some b) (f ∷ q) ne = rw (same-other j u i v ne)
+
+  leaving-own : (l : Bool) (b : Option OutVc) (q : List Flit) → keep comesFrom (leaving i v l b q) ≡ leaving i v l b q
+  leaving-own false b q = refl
+  leaving-own true none q = refl
+  leaving-own true (some b) [] = refl
+  leaving-own true (some b) (f ∷ q) = rw (same-own i v)
+
+  -- what leaves from VC u of input j, read for VC v of output i
+  leaving-by : (j u : ℕ) (l : Bool) (b : OutVc) (q : List Flit) → (b .output ≡ i) × (b .vc ≡ v) → keep goesBy (leaving j u l (some b) q) ≡ leaving j u l (some b) q
+  leaving-by j u false b q e = refl
+  leaving-by j u true b [] e = refl
+  leaving-by j u true b (f ∷ q) e = rw (e .0, e .1, same-own i v)
+
+  leaving-past : (j u : ℕ) (l : Bool) (b : Option OutVc) (q : List Flit) → b ≢ some (record { output = i; vc = v }) → keep goesBy (leaving j u l b q) ≡ []
+  leaving-past j u false b q ne = refl
+  leaving-past j u true none q ne = refl
+  leaving-past j u true (some b) [] ne = refl
+  leaving-past j u true (some b) (f ∷ q) ne = rw (same-other (b .output) (b .vc) i v (λ e. ne (ap {B = Option OutVc} some (outVc-path b i v (e .0) (e .1)))))
+
+  leaving-found : (j u : ℕ) (l : Bool) (b : Option OutVc) (q : List Flit) (d : Departure Flit) (ds : List (Departure Flit)) → keep goesBy (leaving j u l b q) ≡ d ∷ ds → (l ≡ true) × (b ≡ some (record { output = i; vc = v }))
+  leaving-found j u false b q d ds e = absurd (nil≢cons e)
+  leaving-found j u true none q d ds e = absurd (nil≢cons e)
+  leaving-found j u true (some b) [] d ds e = absurd (nil≢cons e)
+  leaving-found j u true (some b) (f ∷ q) d ds e = (refl, go (same (b .output) (b .vc) i v) refl)
+    where
+      go : (t : Bool) → same (b .output) (b .vc) i v ≡ t → some b ≡ some (record { output = i; vc = v })
+      go true t = let r = same-true (b .output) (b .vc) i v t in ap {B = Option OutVc} some (outVc-path b i v (r .0) (r .1))
+      go false t = absurd (nil≢cons (rw t at e))
+
+module _ {Flit : Type 0} (c : Config) (s : Router Flit) (e : Event Flit) (k : Choice) where
+  -- The offers of the entry on an input VC are what the step takes on it, if no port beyond the last brings one.
+  pub entry-offers : ((i : ℕ) (b : Brought Flit) → e .offer i ≡ some b → i < c .ports) → (i v : ℕ) → map (λ (o : Offer Flit). o .flit) (offersOn i v (entry c s e k)) ≡ offered e i v
+  entry-offers inside i v = go (decLt i (c .ports))
+    where
+      row : ℕ → List (Offer Flit)
+      row j = keep (offeredTo i v) (offersAt j (e .offer j))
+
+      rows : offersOn i v (entry c s e k) ≡ each (c .ports) row
+      rows = keep-each (offeredTo i v) (c .ports) (λ j. offersAt j (e .offer j))
+
+      beyond : ¬ (i < c .ports) → (b : Option (Brought Flit)) → e .offer i ≡ b → onVc v b ≡ []
+      beyond out none q = refl
+      beyond out (some b) q = absurd (out (inside i b q))
+
+      go : Dec (i < c .ports) → map (λ (o : Offer Flit). o .flit) (offersOn i v (entry c s e k)) ≡ offered e i v
+      go (yes l) =
+          ap (map (λ (o : Offer Flit). o .flit)) (rows ∙ each-one (c .ports) row i l (λ j m ne. offers-other i v j (e .offer j) ne)) ∙ offers-own i v (e .offer i)
+      go (no out) =
+          ap (map (λ (o : Offer Flit). o .flit)) (rows ∙ each-none (c .ports) row (λ j m. offers-other i v j (e .offer j) (λ q. out (subst (λ x. x < c .ports) q m)))) ∙ sym (beyond out (e .offer i) refl)
+
+  -- what is beyond the ports and VCs does not leave, so that the entry misses no departure
+  abbrev pub LeavesInside : Type 0
+  LeavesInside = (i v : ℕ) → k .leaves i v ≡ true → (i < c .ports) × (v < c .vcs)
+
+  stays : LeavesInside → (i v : ℕ) → ¬ ((i < c .ports) × (v < c .vcs)) → departure s k i v ≡ []
+  stays inside i v out = go (k .leaves i v) refl
+    where
+      go : (l : Bool) → k .leaves i v ≡ l → departure s k i v ≡ []
+      go true q = absurd (out (inside i v q))
+      go false q = rw q
+
+  -- The departures of the entry from an input VC are what leaves there.
+  pub entry-from : LeavesInside → (i v : ℕ) → departuresFrom i v (entry c s e k) ≡ departure s k i v
+  entry-from inside i v =
+      keep-grid (comesFrom i v) (c .ports) (c .vcs) (departure s k) ∙ grid-one (c .ports) (c .vcs) (λ j u. keep (comesFrom i v) (departure s k j u)) i v (λ j u ne. leaving-other i v j u (k .leaves j u) (boundNow s k j u) (queueNow (s .channel j u)) ne) (λ out. own ∙ stays inside i v out) ∙ own
+    where
+      own : keep (comesFrom i v) (departure s k i v) ≡ departure s k i v
+      own = leaving-own i v (k .leaves i v) (boundNow s k i v) (queueNow (s .channel i v))
+
+  -- The departures of the entry on an output VC are what leaves from the one input VC that is bound to it ..
+  pub entry-on : LeavesInside → (i v : ℕ) (b : OutVc) → boundNow s k i v ≡ some b → ((j u : ℕ) → boundNow s k j u ≡ some b → (j ≡ i) × (u ≡ v)) → departuresOn (b .output) (b .vc) (entry c s e k) ≡ departure s k i v
+  entry-on inside i v b q alone =
+      keep-grid (goesBy (b .output) (b .vc)) (c .ports) (c .vcs) (departure s k) ∙ grid-one (c .ports) (c .vcs) (λ j u. keep (goesBy (b .output) (b .vc)) (departure s k j u)) i v (λ j u ne. leaving-past (b .output) (b .vc) j u (k .leaves j u) (boundNow s k j u) (queueNow (s .channel j u)) (λ p. ne (alone j u p))) (λ out. own ∙ stays inside i v out) ∙ own
+    where
+      own : keep (goesBy (b .output) (b .vc)) (departure s k i v) ≡ departure s k i v
+      own = rw q (leaving-by (b .output) (b .vc) i v (k .leaves i v) b (queueNow (s .channel i v)) (refl, refl))
+
+  -- .. and whatever left on an output VC left from an input VC that is bound to it.
+  pub entry-source : (b : OutVc) (d : Departure Flit) (ds : List (Departure Flit)) → departuresOn (b .output) (b .vc) (entry c s e k) ≡ d ∷ ds → (i : ℕ) × (v : ℕ) × (k .leaves i v ≡ true) × (boundNow s k i v ≡ some b)
+  entry-source b d ds q =
+      let r = grid-found (c .ports) (c .vcs) (λ j u. keep (goesBy (b .output) (b .vc)) (departure s k j u)) d ds (sym (keep-grid (goesBy (b .output) (b .vc)) (c .ports) (c .vcs) (departure s k)) ∙ q) in
+      let found = leaving-found (b .output) (b .vc) (r .0) (r .1) (k .leaves (r .0) (r .1)) (boundNow s k (r .0) (r .1)) (queueNow (s .channel (r .0) (r .1))) (r .2) (r .3) (r .4) in
+      (r .0, r .1, found .0, found .1)

@@ -1,0 +1,110 @@
+-- Laws of `keep`, `each`, `flat` and `total`.
+-- Assumes nothing.
+use mathlib.Core.Path.{_≡_, refl, sym, ap, ap₂, fun-ext, subst, _∙_}
+use mathlib.Core.Logic.{_≢_}
+use mathlib.Core.Bool.{Bool, true, false, cond, _&&_}
+use mathlib.Core.List.{List, [], _∷_, _++_, map, append-nil, append-assoc}
+use Prim.Native.Nat.{ℕ, zero, suc, _+_, _≤_, _<_}
+use native.Mathlib.Nat.{not-suc-le-zero, zero-add}
+use native.Mathlib.Decide.{ℕ-discrete, decLt}
+use native.Mathlib.Omega.{arith}
+use lib.Dec.{T, eqb, eqb-refl, eqb→eq, leb, le→leb, leb→le}
+use lib.ListN.{length, length-append, replicate}
+use Rattle.model.specs.Lists.{keep, each, flat, total}
+
+-- A test that passes, and one that fails.
+pub passed : (b : Bool) → T b → b ≡ true
+passed true t = refl
+passed false t = absurd t
+
+pub failed : (b : Bool) → (T b → ⊥) → b ≡ false
+failed true f = absurd (f tt)
+failed false f = refl
+
+pub eqb-same : (n : ℕ) → eqb n n ≡ true
+eqb-same n = passed (eqb n n) (eqb-refl n)
+
+pub eqb-other : {m n : ℕ} → m ≢ n → eqb m n ≡ false
+eqb-other {m} {n} ne = failed (eqb m n) (λ t. ne (eqb→eq m n t))
+
+pub eqb-true : (m n : ℕ) → eqb m n ≡ true → m ≡ n
+eqb-true m n e = eqb→eq m n (subst T (sym e) tt)
+
+pub leb-yes : (m n : ℕ) → m ≤ n → leb m n ≡ true
+leb-yes m n l = passed (leb m n) (le→leb m n l)
+
+pub leb-no : (m n : ℕ) → n < m → leb m n ≡ false
+leb-no m n l = failed (leb m n) (λ t. let q : m ≤ n = leb→le m n t in omega arith)
+
+module _ {A : Type 0} where
+  -- a list with nothing in it or with something in it
+  pub no-more : (xs : List A) → length xs ≡ 0 → xs ≡ []
+  no-more [] e = refl
+  no-more (x ∷ xs) e = absurd (omega arith)
+
+  pub keep-append : (p : A → Bool) (xs ys : List A) → keep p (xs ++ ys) ≡ keep p xs ++ keep p ys
+  keep-append p [] ys = refl
+  keep-append p (x ∷ xs) ys = go (p x) (keep-append p xs ys)
+    where
+      go : (b : Bool) → keep p (xs ++ ys) ≡ keep p xs ++ keep p ys → cond b (x ∷ keep p (xs ++ ys)) (keep p (xs ++ ys)) ≡ cond b (x ∷ keep p xs) (keep p xs) ++ keep p ys
+      go true ih = ap (λ (r : List A). x ∷ r) ih
+      go false ih = ih
+
+  pub keep-each : (p : A → Bool) (n : ℕ) (f : ℕ → List A) → keep p (each n f) ≡ each n (λ i. keep p (f i))
+  keep-each p zero f = refl
+  keep-each p (suc n) f = keep-append p (each n f) (f n) ∙ ap (λ (r : List A). r ++ keep p (f n)) (keep-each p n f)
+
+  -- `each` of nothing, and of one place only
+  pub each-none : (n : ℕ) (f : ℕ → List A) → ((j : ℕ) → j < n → f j ≡ []) → each n f ≡ []
+  each-none zero f h = refl
+  each-none (suc n) f h = ap₂ (λ (a b : List A). a ++ b) (each-none n f (λ j l. h j (omega arith))) (h n (omega arith))
+
+  pub each-one : (n : ℕ) (f : ℕ → List A) (i : ℕ) → i < n → ((j : ℕ) → j < n → j ≢ i → f j ≡ []) → each n f ≡ f i
+  each-one zero f i l h = absurd (not-suc-le-zero l)
+  each-one (suc n) f i l h = go (ℕ-discrete n i) (each-one n f i)
+    where
+      go : Dec (n ≡ i) → (i < n → ((j : ℕ) → j < n → j ≢ i → f j ≡ []) → each n f ≡ f i) → each n f ++ f n ≡ f i
+      go (yes e) ih = rw (each-none n f (λ j m. h j (omega arith) (λ q. absurd (omega arith))), e)
+      go (no ne) ih = rw (ih (omega arith) (λ j m q. h j (omega arith) q), h n (omega arith) ne) (append-nil (f i))
+
+  -- what `each` lists, some place has
+  pub each-found : (n : ℕ) (f : ℕ → List A) (x : A) (xs : List A) → each n f ≡ x ∷ xs → (j : ℕ) × (j < n) × (y : A) × (ys : List A) × (f j ≡ y ∷ ys)
+  each-found zero f x xs e = absurd (let z : _≡_ {A = ℕ} 0 1 = cc in omega arith)
+  each-found (suc n) f x xs e = go (each n f) refl (each-found n f) (f n) refl
+    where
+      go : (l : List A) → each n f ≡ l → ((x : A) (xs : List A) → each n f ≡ x ∷ xs → (j : ℕ) × (j < n) × (y : A) × (ys : List A) × (f j ≡ y ∷ ys)) → (m : List A) → f n ≡ m → (j : ℕ) × (j < suc n) × (y : A) × (ys : List A) × (f j ≡ y ∷ ys)
+      go (y ∷ ys) l ih m q = let r = ih y ys l in (r .0, omega (arith, r .1), r .2, r .3, r .4)
+      go [] l ih (y ∷ ys) q = (n, omega arith, y, ys, q)
+      go [] l ih [] q = absurd (let z : _≡_ {A = ℕ} 0 1 = cc in omega arith)
+
+  -- the same of a grid of n rows and m columns: what passes a test, a grid with one place that holds something, and what some place holds
+  pub keep-grid : (p : A → Bool) (n m : ℕ) (f : ℕ → ℕ → List A) → keep p (each n (λ j. each m (f j))) ≡ each n (λ j. each m (λ u. keep p (f j u)))
+  keep-grid p n m f = keep-each p n (λ j. each m (f j)) ∙ ap (each n) (fun-ext (λ j. keep-each p m (f j)))
+
+  pub grid-one : (n m : ℕ) (f : ℕ → ℕ → List A) (i v : ℕ) → ((j u : ℕ) → ¬ ((j ≡ i) × (u ≡ v)) → f j u ≡ []) → (¬ ((i < n) × (v < m)) → f i v ≡ []) → each n (λ j. each m (f j)) ≡ f i v
+  grid-one n m f i v other out = go (decLt i n) (decLt v m)
+    where
+      empty : ¬ ((i < n) × (v < m)) → each n (λ j. each m (f j)) ≡ f i v
+      empty q =
+          each-none n (λ j. each m (f j)) (λ j l. each-none m (f j) (λ u k. other j u (λ r. q (subst (λ x. x < n) (r .0) l, subst (λ x. x < m) (r .1) k)))) ∙ sym (out q)
+
+      go : Dec (i < n) → Dec (v < m) → each n (λ j. each m (f j)) ≡ f i v
+      go (yes a) (yes b) =
+          each-one n (λ j. each m (f j)) i a (λ j l ne. each-none m (f j) (λ u k. other j u (λ r. ne (r .0)))) ∙ each-one m (f i) v b (λ u k ne. other i u (λ r. ne (r .1)))
+      go (yes a) (no b) = empty (λ r. b (r .1))
+      go (no a) (yes b) = empty (λ r. a (r .0))
+      go (no a) (no b) = empty (λ r. a (r .0))
+
+  pub grid-found : (n m : ℕ) (f : ℕ → ℕ → List A) (x : A) (xs : List A) → each n (λ j. each m (f j)) ≡ x ∷ xs → (j : ℕ) × (u : ℕ) × (y : A) × (ys : List A) × (f j u ≡ y ∷ ys)
+  grid-found n m f x xs e =
+      let r = each-found n (λ j. each m (f j)) x xs e in
+      let q = each-found m (f (r .0)) (r .2) (r .3) (r .4) in
+      (r .0, q .0, q .2, q .3, q .4)
+
+  pub flat-append : (xs ys : List (List A)) → flat (xs ++ ys) ≡ flat xs ++ flat ys
+  flat-append [] ys = refl
+  flat-append (x ∷ xs) ys = rw (flat-append xs ys, append-assoc x (flat xs) (flat ys))
+
+  pub total-lengths : (xs : List (List A)) → total (map length xs) ≡ length (flat xs)
+  total-lengths [] = refl
+  total-lengths (x ∷ xs) = rw (length-append x (flat xs), total-lengths xs)
