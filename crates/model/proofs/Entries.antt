@@ -16,9 +16,11 @@ use Rattle.model.specs.Channel.{reaching, queueNow}
 use Rattle.model.specs.Router.{Router, OutVc, InVc}
 use Rattle.model.specs.Cycle.{Event, Choice, Brought}
 use Rattle.model.specs.History.{Entry, Offer, Departure, same, offersOn, departuresFrom, departuresOn}
-use Rattle.model.specs.Phases.{onVc, offered, boundNow, leaving, departure}
-use Rattle.model.specs.Step.{offersAt, entry}
-use Rattle.model.proofs.Lists.{eqb-same, eqb-other, keep-each, keep-grid, each-none, each-one, grid-one, grid-found}
+use Rattle.model.specs.Phases.{creditFor, onVc, offered, boundNow, leaving, departure}
+use Rattle.model.specs.Step.{offersAt, creditsAt, entry}
+use Rattle.model.specs.Times.{reachedFor}
+use Rattle.model.specs.Limits.{creditsFor}
+use Rattle.model.proofs.Lists.{eqb-same, eqb-other, keep-replicate, keep-one, keep-grid, keep-grid-one, grid-found}
 
 -- the same VC of the same port, and another
 pub same-own : (i v : ℕ) → same i v i v ≡ true
@@ -47,85 +49,110 @@ same-true i v j u t = go (ℕ-discrete i j) (ℕ-discrete v u)
 pub outVc-path : (b : OutVc) (o w : ℕ) → b .output ≡ o → b .vc ≡ w → b ≡ record { output = o; vc = w }
 outVc-path b o w p q = λ x. record { output = p x; vc = q x }
 
-module _ {Flit : Type 0} (i v : ℕ) where
-  -- the tests of the three readings
-  abbrev offeredTo : Offer Flit → Bool
-  offeredTo o = same (o .input) (o .vc) i v
+module _ (i v : ℕ) where
+  -- the tests of the readings for VC v of port i
+  abbrev comesHomeTo : InVc → Bool
+  comesHomeTo r = same (r .input) (r .vc) i v
 
-  abbrev comesFrom : Departure Flit → Bool
-  comesFrom d = same (d .input) (d .vc) i v
+  abbrev comesBackTo : OutVc → Bool
+  comesBackTo r = same (r .output) (r .vc) i v
 
-  abbrev goesBy : Departure Flit → Bool
-  goesBy d = same (d .output) (d .outVc) i v
+  module _ {Flit : Type 0} where
+    abbrev offeredTo : Offer Flit → Bool
+    offeredTo o = same (o .input) (o .vc) i v
 
-  -- the offer of input j, read for VC v of input i
-  offers-other : (j : ℕ) (b : Option (Brought Flit)) → j ≢ i → keep offeredTo (offersAt j b) ≡ []
-  offers-other j none ne = refl
-  offers-other j (some b) ne = rw (same-other j (b .vc) i v (λ q. ne (q .0)))
+    abbrev comesFrom : Departure Flit → Bool
+    comesFrom d = same (d .input) (d .vc) i v
 
-  offers-own : (b : Option (Brought Flit)) → map (λ (o : Offer Flit). o .flit) (keep offeredTo (offersAt i b)) ≡ onVc v b
-  offers-own none = refl
-  offers-own (some b) = rw (eqb-same i) (go (eqb (b .vc) v))
+    abbrev goesBy : Departure Flit → Bool
+    goesBy d = same (d .output) (d .outVc) i v
+
+    -- the offer of input j
+    offers-other : (j : ℕ) (b : Option (Brought Flit)) → j ≢ i → keep offeredTo (offersAt j b) ≡ []
+    offers-other j none ne = refl
+    offers-other j (some b) ne = rw (same-other j (b .vc) i v (λ q. ne (q .0)))
+
+    offers-own : (b : Option (Brought Flit)) → map (λ (o : Offer Flit). o .flit) (keep offeredTo (offersAt i b)) ≡ onVc v b
+    offers-own none = refl
+    offers-own (some b) = rw (eqb-same i) (go (eqb (b .vc) v))
+      where
+        go : (t : Bool) → map (λ (o : Offer Flit). o .flit) (cond t (record { input = i; vc = b .vc; flit = b .flit } ∷ []) []) ≡ cond t (b .flit ∷ []) []
+        go true = refl
+        go false = refl
+
+    -- what leaves from VC u of input j, read by its source
+    leaving-other : (j u : ℕ) (l : Bool) (b : Option OutVc) (q : List Flit) → ¬ ((j ≡ i) × (u ≡ v)) → keep comesFrom (leaving j u l b q) ≡ []
+    leaving-other j u false b q ne = refl
+    leaving-other j u true none q ne = refl
+    leaving-other j u true (some b) [] ne = refl
+    leaving-other j u true (some b) (f ∷ q) ne = rw (same-other j u i v ne)
+
+    leaving-own : (l : Bool) (b : Option OutVc) (q : List Flit) → keep comesFrom (leaving i v l b q) ≡ leaving i v l b q
+    leaving-own false b q = refl
+    leaving-own true none q = refl
+    leaving-own true (some b) [] = refl
+    leaving-own true (some b) (f ∷ q) = rw (same-own i v)
+
+    -- the same, read by its output VC
+    leaving-by : (j u : ℕ) (l : Bool) (b : OutVc) (q : List Flit) → (b .output ≡ i) × (b .vc ≡ v) → keep goesBy (leaving j u l (some b) q) ≡ leaving j u l (some b) q
+    leaving-by j u false b q e = refl
+    leaving-by j u true b [] e = refl
+    leaving-by j u true b (f ∷ q) e = rw (e .0, e .1, same-own i v)
+
+    leaving-past : (j u : ℕ) (l : Bool) (b : Option OutVc) (q : List Flit) → b ≢ some (record { output = i; vc = v }) → keep goesBy (leaving j u l b q) ≡ []
+    leaving-past j u false b q ne = refl
+    leaving-past j u true none q ne = refl
+    leaving-past j u true (some b) [] ne = refl
+    leaving-past j u true (some b) (f ∷ q) ne = rw (same-other (b .output) (b .vc) i v (λ e. ne (ap {B = Option OutVc} some (outVc-path b i v (e .0) (e .1)))))
+
+    leaving-found : (j u : ℕ) (l : Bool) (b : Option OutVc) (q : List Flit) (d : Departure Flit) (ds : List (Departure Flit)) → keep goesBy (leaving j u l b q) ≡ d ∷ ds → (l ≡ true) × (b ≡ some (record { output = i; vc = v }))
+    leaving-found j u false b q d ds e = absurd (nil≢cons e)
+    leaving-found j u true none q d ds e = absurd (nil≢cons e)
+    leaving-found j u true (some b) [] d ds e = absurd (nil≢cons e)
+    leaving-found j u true (some b) (f ∷ q) d ds e = (refl, go (same (b .output) (b .vc) i v) refl)
+      where
+        go : (t : Bool) → same (b .output) (b .vc) i v ≡ t → some b ≡ some (record { output = i; vc = v })
+        go true t = let r = same-true (b .output) (b .vc) i v t in ap {B = Option OutVc} some (outVc-path b i v (r .0) (r .1))
+        go false t = absurd (nil≢cons (rw t at e))
+
+  -- the credit of output j
+  credits-other : (j : ℕ) (w : Option ℕ) → j ≢ i → keep comesBackTo (creditsAt j w) ≡ []
+  credits-other j none ne = refl
+  credits-other j (some w) ne = rw (same-other j w i v (λ q. ne (q .0)))
+
+  credits-own : (w : Option ℕ) → length (keep comesBackTo (creditsAt i w)) ≡ creditFor v w
+  credits-own none = refl
+  credits-own (some w) = rw (eqb-same i) (go (eqb w v))
     where
-      go : (t : Bool) → map (λ (o : Offer Flit). o .flit) (cond t (record { input = i; vc = b .vc; flit = b .flit } ∷ []) []) ≡ cond t (b .flit ∷ []) []
+      go : (t : Bool) → length {A = OutVc} (cond t (record { output = i; vc = w } ∷ []) []) ≡ cond t 1 0
       go true = refl
       go false = refl
 
-  -- what leaves from VC u of input j, read for VC v of input i
-  leaving-other : (j u : ℕ) (l : Bool) (b : Option OutVc) (q : List Flit) → ¬ ((j ≡ i) × (u ≡ v)) → keep comesFrom (leaving j u l b q) ≡ []
-  leaving-other j u false b q ne = refl
-  leaving-other j u true none q ne = refl
-  leaving-other j u true (some b) [] ne = refl
-  leaving-other j u true (some b) (f ∷ q) ne = rw (same-other j u i v ne)
+  -- n credits of VC u of input j
+  reached-other : (j u n : ℕ) → ¬ ((j ≡ i) × (u ≡ v)) → keep comesHomeTo (replicate n (record { input = j; vc = u })) ≡ []
+  reached-other j u n ne = rw (keep-replicate comesHomeTo n (record { input = j; vc = u }), same-other j u i v ne)
 
-  leaving-own : (l : Bool) (b : Option OutVc) (q : List Flit) → keep comesFrom (leaving i v l b q) ≡ leaving i v l b q
-  leaving-own false b q = refl
-  leaving-own true none q = refl
-  leaving-own true (some b) [] = refl
-  leaving-own true (some b) (f ∷ q) = rw (same-own i v)
-
-  -- what leaves from VC u of input j, read for VC v of output i
-  leaving-by : (j u : ℕ) (l : Bool) (b : OutVc) (q : List Flit) → (b .output ≡ i) × (b .vc ≡ v) → keep goesBy (leaving j u l (some b) q) ≡ leaving j u l (some b) q
-  leaving-by j u false b q e = refl
-  leaving-by j u true b [] e = refl
-  leaving-by j u true b (f ∷ q) e = rw (e .0, e .1, same-own i v)
-
-  leaving-past : (j u : ℕ) (l : Bool) (b : Option OutVc) (q : List Flit) → b ≢ some (record { output = i; vc = v }) → keep goesBy (leaving j u l b q) ≡ []
-  leaving-past j u false b q ne = refl
-  leaving-past j u true none q ne = refl
-  leaving-past j u true (some b) [] ne = refl
-  leaving-past j u true (some b) (f ∷ q) ne = rw (same-other (b .output) (b .vc) i v (λ e. ne (ap {B = Option OutVc} some (outVc-path b i v (e .0) (e .1)))))
-
-  leaving-found : (j u : ℕ) (l : Bool) (b : Option OutVc) (q : List Flit) (d : Departure Flit) (ds : List (Departure Flit)) → keep goesBy (leaving j u l b q) ≡ d ∷ ds → (l ≡ true) × (b ≡ some (record { output = i; vc = v }))
-  leaving-found j u false b q d ds e = absurd (nil≢cons e)
-  leaving-found j u true none q d ds e = absurd (nil≢cons e)
-  leaving-found j u true (some b) [] d ds e = absurd (nil≢cons e)
-  leaving-found j u true (some b) (f ∷ q) d ds e = (refl, go (same (b .output) (b .vc) i v) refl)
-    where
-      go : (t : Bool) → same (b .output) (b .vc) i v ≡ t → some b ≡ some (record { output = i; vc = v })
-      go true t = let r = same-true (b .output) (b .vc) i v t in ap {B = Option OutVc} some (outVc-path b i v (r .0) (r .1))
-      go false t = absurd (nil≢cons (rw t at e))
+  reached-own : (n : ℕ) → keep comesHomeTo (replicate n (record { input = i; vc = v })) ≡ replicate n (record { input = i; vc = v })
+  reached-own n = rw (keep-replicate comesHomeTo n (record { input = i; vc = v }), same-own i v)
 
 module _ {Flit : Type 0} (c : Config) (s : Router Flit) (e : Event Flit) (k : Choice) where
   -- The offers of the entry on an input VC are what the step takes on it, if no port beyond the last brings one.
   pub entry-offers : ((i : ℕ) (b : Brought Flit) → e .offer i ≡ some b → i < c .ports) → (i v : ℕ) → map (λ (o : Offer Flit). o .flit) (offersOn i v (entry c s e k)) ≡ offered e i v
-  entry-offers inside i v = go (decLt i (c .ports))
+  entry-offers inside i v =
+      ap (map (λ (o : Offer Flit). o .flit)) (keep-one (offeredTo i v) (c .ports) (λ j. offersAt j (e .offer j)) i (λ j ne. offers-other i v j (e .offer j) ne) (λ out. none-beyond out (e .offer i) refl)) ∙ offers-own i v (e .offer i)
     where
-      row : ℕ → List (Offer Flit)
-      row j = keep (offeredTo i v) (offersAt j (e .offer j))
+      none-beyond : ¬ (i < c .ports) → (b : Option (Brought Flit)) → e .offer i ≡ b → keep (offeredTo i v) (offersAt i b) ≡ []
+      none-beyond out none q = refl
+      none-beyond out (some b) q = absurd (out (inside i b q))
 
-      rows : offersOn i v (entry c s e k) ≡ each (c .ports) row
-      rows = keep-each (offeredTo i v) (c .ports) (λ j. offersAt j (e .offer j))
-
-      beyond : ¬ (i < c .ports) → (b : Option (Brought Flit)) → e .offer i ≡ b → onVc v b ≡ []
-      beyond out none q = refl
-      beyond out (some b) q = absurd (out (inside i b q))
-
-      go : Dec (i < c .ports) → map (λ (o : Offer Flit). o .flit) (offersOn i v (entry c s e k)) ≡ offered e i v
-      go (yes l) =
-          ap (map (λ (o : Offer Flit). o .flit)) (rows ∙ each-one (c .ports) row i l (λ j m ne. offers-other i v j (e .offer j) ne)) ∙ offers-own i v (e .offer i)
-      go (no out) =
-          ap (map (λ (o : Offer Flit). o .flit)) (rows ∙ each-none (c .ports) row (λ j m. offers-other i v j (e .offer j) (λ q. out (subst (λ x. x < c .ports) q m)))) ∙ sym (beyond out (e .offer i) refl)
+  -- The credits of the entry for an output VC are what the step adds to it, if no port beyond the last brings one.
+  pub entry-credits : ((o w : ℕ) → e .credit o ≡ some w → o < c .ports) → (o w : ℕ) → length (creditsFor o w (entry c s e k)) ≡ creditFor w (e .credit o)
+  entry-credits inside o w =
+      ap length (keep-one (comesBackTo o w) (c .ports) (λ j. creditsAt j (e .credit j)) o (λ j ne. credits-other o w j (e .credit j) ne) (λ out. none-beyond out (e .credit o) refl)) ∙ credits-own o w (e .credit o)
+    where
+      none-beyond : ¬ (o < c .ports) → (b : Option ℕ) → e .credit o ≡ b → keep (comesBackTo o w) (creditsAt o b) ≡ []
+      none-beyond out none q = refl
+      none-beyond out (some b) q = absurd (out (inside o b q))
 
   -- what is beyond the ports and VCs does not leave, so that the entry misses no departure
   abbrev pub LeavesInside : Type 0
@@ -141,7 +168,7 @@ module _ {Flit : Type 0} (c : Config) (s : Router Flit) (e : Event Flit) (k : Ch
   -- The departures of the entry from an input VC are what leaves there.
   pub entry-from : LeavesInside → (i v : ℕ) → departuresFrom i v (entry c s e k) ≡ departure s k i v
   entry-from inside i v =
-      keep-grid (comesFrom i v) (c .ports) (c .vcs) (departure s k) ∙ grid-one (c .ports) (c .vcs) (λ j u. keep (comesFrom i v) (departure s k j u)) i v (λ j u ne. leaving-other i v j u (k .leaves j u) (boundNow s k j u) (queueNow (s .channel j u)) ne) (λ out. own ∙ stays inside i v out) ∙ own
+      keep-grid-one (comesFrom i v) (c .ports) (c .vcs) (departure s k) i v (λ j u ne. leaving-other i v j u (k .leaves j u) (boundNow s k j u) (queueNow (s .channel j u)) ne) (λ out. own ∙ stays inside i v out) ∙ own
     where
       own : keep (comesFrom i v) (departure s k i v) ≡ departure s k i v
       own = leaving-own i v (k .leaves i v) (boundNow s k i v) (queueNow (s .channel i v))
@@ -149,7 +176,7 @@ module _ {Flit : Type 0} (c : Config) (s : Router Flit) (e : Event Flit) (k : Ch
   -- The departures of the entry on an output VC are what leaves from the one input VC that is bound to it ..
   pub entry-on : LeavesInside → (i v : ℕ) (b : OutVc) → boundNow s k i v ≡ some b → ((j u : ℕ) → boundNow s k j u ≡ some b → (j ≡ i) × (u ≡ v)) → departuresOn (b .output) (b .vc) (entry c s e k) ≡ departure s k i v
   entry-on inside i v b q alone =
-      keep-grid (goesBy (b .output) (b .vc)) (c .ports) (c .vcs) (departure s k) ∙ grid-one (c .ports) (c .vcs) (λ j u. keep (goesBy (b .output) (b .vc)) (departure s k j u)) i v (λ j u ne. leaving-past (b .output) (b .vc) j u (k .leaves j u) (boundNow s k j u) (queueNow (s .channel j u)) (λ p. ne (alone j u p))) (λ out. own ∙ stays inside i v out) ∙ own
+      keep-grid-one (goesBy (b .output) (b .vc)) (c .ports) (c .vcs) (departure s k) i v (λ j u ne. leaving-past (b .output) (b .vc) j u (k .leaves j u) (boundNow s k j u) (queueNow (s .channel j u)) (λ p. ne (alone j u p))) (λ out. own ∙ stays inside i v out) ∙ own
     where
       own : keep (goesBy (b .output) (b .vc)) (departure s k i v) ≡ departure s k i v
       own = rw q (leaving-by (b .output) (b .vc) i v (k .leaves i v) b (queueNow (s .channel i v)) (refl, refl))
@@ -160,3 +187,8 @@ module _ {Flit : Type 0} (c : Config) (s : Router Flit) (e : Event Flit) (k : Ch
       let r = grid-found (c .ports) (c .vcs) (λ j u. keep (goesBy (b .output) (b .vc)) (departure s k j u)) d ds (sym (keep-grid (goesBy (b .output) (b .vc)) (c .ports) (c .vcs) (departure s k)) ∙ q) in
       let found = leaving-found (b .output) (b .vc) (r .0) (r .1) (k .leaves (r .0) (r .1)) (boundNow s k (r .0) (r .1)) (queueNow (s .channel (r .0) (r .1))) (r .2) (r .3) (r .4) in
       (r .0, r .1, found .0, found .1)
+
+  -- The credits of the entry that reached the sender of an input VC are those that reach it, if none is beyond the ports and VCs.
+  pub entry-reached : (i v : ℕ) → (¬ ((i < c .ports) × (v < c .vcs)) → reaching (s .channel i v) ≡ 0) → reachedFor i v (entry c s e k) ≡ replicate (reaching (s .channel i v)) (record { input = i; vc = v })
+  entry-reached i v none-beyond =
+      keep-grid-one (comesHomeTo i v) (c .ports) (c .vcs) (λ j u. replicate (reaching (s .channel j u)) (record { input = j; vc = u })) i v (λ j u ne. reached-other i v j u (reaching (s .channel j u)) ne) (λ out. rw (none-beyond out)) ∙ reached-own i v (reaching (s .channel i v))

@@ -49,10 +49,14 @@ flow-fresh {Flit} c i v =
     }
 
 module _ {Flit : Type 0} (c : Config) (delayed : Delayed c) (ch : Channel Flit) (h : History Flit) (i v : ℕ) (flow : Flow c ch h i v) where
+  -- What reaches the sender is what left B cycles ago.
+  pub reaching-is : reaching ch ≡ length (out [] (lineOf (departuresFrom i v) (c .back) h))
+  reaching-is = rw (flow .home) (out-lengths (lineOf (departuresFrom i v) (c .back) h))
+
   -- what has left with its credit back, one cycle on
   reached-more : (e : Entry Flit) → length (leftFrom i v (drop (c .back) (e ∷ h))) ≡ length (leftFrom i v (drop (c .back) h)) + reaching ch
   reached-more e =
-      rw (gather-out (departuresFrom i v) (c .back) (delayed .onTheWayHome) e h, length-append, flow .home, out-lengths (lineOf (departuresFrom i v) (c .back) h))
+      rw (gather-out (departuresFrom i v) (c .back) (delayed .onTheWayHome) e h, length-append, reaching-is)
 
   -- A credit that reaches its sender is of a slot that is taken.
   pub reaching-taken : Entry Flit → reaching ch ≤ ch .taken

@@ -61,16 +61,19 @@ module _ {Flit : Type 0} (look : Look Flit) (c : Config) where
       empty : (i v : ℕ) → onWire (freshChannel {Flit = Flit} c) ≡ []
       empty i v = ap flat (flow-fresh c i v .wire) ∙ line-flat (offersIn i v) (c .forward) [] ∙ ap (accepted i v) (take-nil (c .forward))
 
--- the channel's line of flits, as a cycle moves it
+-- a channel's flits, as a cycle moves them
 module _ {Flit : Type 0} (ch : Channel Flit) where
   wire-front : (w : List (List Flit)) → flat w ≡ out [] w ++ flat (drop 1 w)
   wire-front [] = refl
   wire-front (x ∷ w) = refl
 
-  -- the flits held, with the offered ones behind them, are what is in the queue after phase 3 and on the wire after the cycle
+  -- the flits held are in the queue after phase 3, or still on the wire
+  pub still-held : ch .queue ++ onWire ch ≡ queueNow ch ++ flat (drop 1 (ch .wire))
+  still-held = rw (wire-front (ch .wire)) (sym (append-assoc (ch .queue) (out [] (ch .wire)) (flat (drop 1 (ch .wire)))))
+
+  -- with the offered ones behind them, they are in the queue after phase 3, or on the wire after the cycle
   held : (offered : List Flit) → ch .queue ++ onWire ch ++ offered ≡ queueNow ch ++ flat (shift (ch .wire) offered)
-  held offered =
-      rw (flat-append (drop 1 (ch .wire)) (offered ∷ []), append-nil offered, wire-front (ch .wire)) (simp append-assoc)
+  held offered = rw (flat-append (drop 1 (ch .wire)) (offered ∷ []), append-nil offered, still-held) (append-assoc (queueNow ch) (flat (drop 1 (ch .wire))) offered)
 
 module _ {Flit : Type 0} (look : Look Flit) (c : Config) (delayed : Delayed c) (s : Router Flit) (h : History Flit) (inv : Inv look c s h) (e : Event Flit) (k : Choice) (legal : Legal look c s e k) where
   abbrev now : Entry Flit
@@ -102,7 +105,7 @@ module _ {Flit : Type 0} (look : Look Flit) (c : Config) (delayed : Delayed c) (
   now-from i v = entry-from c s e k leaves-inside i v
 
   -- After phase 5 no two input VCs are bound to the same output VC.
-  alone-now : (i v j u : ℕ) (b : OutVc) → boundNow s k i v ≡ some b → boundNow s k j u ≡ some b → (i ≡ j) × (v ≡ u)
+  pub alone-now : (i v j u : ℕ) (b : OutVc) → boundNow s k i v ≡ some b → boundNow s k j u ≡ some b → (i ≡ j) × (v ≡ u)
   alone-now i v j u b p q = go (k .grant i v) refl (k .grant j u) refl p q
     where
       go : (g : Option OutVc) → k .grant i v ≡ g → (f : Option OutVc) → k .grant j u ≡ f → granted g (s .bound i v) ≡ some b → granted f (s .bound j u) ≡ some b → (i ≡ j) × (v ≡ u)
@@ -111,7 +114,7 @@ module _ {Flit : Type 0} (look : Look Flit) (c : Config) (delayed : Delayed c) (
       go (some a) p none q m n = absurd (legal .bindsFree i v a p j u (n ∙ sym m))
       go (some a) p (some d) q m n = legal .bindsOnce i v j u a d p q (ap (λ (x : OutVc). x .output) (Option·some-injective a d (m ∙ sym n)))
 
-  now-on : (i v : ℕ) (b : OutVc) → boundNow s k i v ≡ some b → departuresOn (b .output) (b .vc) now ≡ departure s k i v
+  pub now-on : (i v : ℕ) (b : OutVc) → boundNow s k i v ≡ some b → departuresOn (b .output) (b .vc) now ≡ departure s k i v
   now-on i v b q = entry-on c s e k leaves-inside i v b q (λ j u p. alone-now j u i v b p q)
 
   -- The kinds that a sender offers are in order.
@@ -125,6 +128,10 @@ module _ {Flit : Type 0} (look : Look Flit) (c : Config) (delayed : Delayed c) (
           test : (t : Bool) → eqb (b .vc) v ≡ t → Reads look (s .opened i v) (cond t (b .flit ∷ []) []) (openAfter look (s .opened i v) (cond t (b .flit ∷ []) []))
           test true t = (rw (eqb-true (b .vc) v t) at (legal .kinds i b q), refl)
           test false t = refl
+
+  -- One flit leaves from an input VC that is to leave, none from another.
+  pub one-leaves : (i v : ℕ) → length (departure s k i v) ≡ cond (k .leaves i v) 1 0
+  one-leaves i v = leaving-front look i v (k .leaves i v) (boundNow s k i v) (queueNow (s .channel i v)) (legal .leavesBound i v) (legal .leavesFlit i v) .0
 
   -- Each input VC's place after phases 1 to 4, then after phase 5, then after the cycle.
   place-taken : (i v : ℕ) → Place look i v (s .bound i v) (queueNow (s .channel i v)) (onWire (after .channel i v)) (after .opened i v) (leftFrom i v h) (onOutVc h)
@@ -156,7 +163,7 @@ module _ {Flit : Type 0} (look : Look Flit) (c : Config) (delayed : Delayed c) (
       rw (now-offers i v) at (flow-step c delayed (s .channel i v) h i v (inv .flow i v) now (cond (k .leaves i v) 1 0) (rw (now-from i v) (front .0)) (rw (now-from i v) (front .1)))
 
   -- A binding after the cycle was there after phase 5, and one before the cycle still is.
-  bound-before : (i v : ℕ) (b : OutVc) → after .bound i v ≡ some b → boundNow s k i v ≡ some b
+  pub bound-before : (i v : ℕ) (b : OutVc) → after .bound i v ≡ some b → boundNow s k i v ≡ some b
   bound-before i v b = go (k .leaves i v && endsPacket look (queueNow (s .channel i v))) (boundNow s k i v)
     where
       go : (t : Bool) (x : Option OutVc) → cond t none x ≡ some b → x ≡ some b
@@ -177,12 +184,9 @@ module _ {Flit : Type 0} (look : Look Flit) (c : Config) (delayed : Delayed c) (
       bound : boundNow s k i v ≡ some b
       bound = bound-still i v b p
 
-      one : length (departure s k i v) ≡ cond (k .leaves i v) 1 0
-      one = leaving-front look i v (k .leaves i v) (boundNow s k i v) (queueNow (s .channel i v)) (legal .leavesBound i v) (legal .leavesFlit i v) .0
-
       go : (l : Bool) → k .leaves i v ≡ l → ⊥
       go false l = free i v (rw l bound)
-      go true l = let z : _≡_ {A = ℕ} 0 1 = ap length (sym none-left ∙ now-on i v b bound) ∙ one ∙ ap (λ (x : Bool). cond x 1 0) l in omega arith
+      go true l = let z : _≡_ {A = ℕ} 0 1 = ap length (sym none-left ∙ now-on i v b bound) ∙ one-leaves i v ∙ ap (λ (x : Bool). cond x 1 0) l in omega arith
 
   -- Packets on an output VC: nothing left on it, or the front flit of the one input VC that is bound to it.
   output-after : (b : OutVc) → Packets look FromOneSource (onOutVc (now ∷ h) b) × (Free after b → Whole look FromOneSource (onOutVc (now ∷ h) b))

@@ -8,3 +8,7 @@ pub mod Place
 pub mod Invariant
 pub mod Depth
 pub mod Demand3
+pub mod Times
+pub mod Ranges
+pub mod OutCredits
+pub mod Once

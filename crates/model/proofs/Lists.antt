@@ -10,7 +10,7 @@ use native.Mathlib.Decide.{ℕ-discrete, decLt}
 use native.Mathlib.Omega.{arith}
 use lib.Dec.{T, eqb, eqb-refl, eqb→eq, leb, le→leb, leb→le}
 use lib.ListN.{length, length-append, replicate}
-use Rattle.model.specs.Lists.{keep, each, flat, total}
+use Rattle.model.specs.Lists.{keep, each, flat, All, total}
 
 -- A test that passes, and one that fails.
 pub passed : (b : Bool) → T b → b ≡ true
@@ -50,6 +50,15 @@ module _ {A : Type 0} where
       go true ih = ap (λ (r : List A). x ∷ r) ih
       go false ih = ih
 
+  pub keep-replicate : (p : A → Bool) (n : ℕ) (x : A) → keep p (replicate n x) ≡ cond (p x) (replicate n x) []
+  keep-replicate p n x = go (p x) refl n
+    where
+      go : (b : Bool) → p x ≡ b → (n : ℕ) → keep p (replicate n x) ≡ cond b (replicate n x) []
+      go true e zero = refl
+      go true e (suc n) = rw (e, go true e n)
+      go false e zero = refl
+      go false e (suc n) = rw (e, go false e n)
+
   pub keep-each : (p : A → Bool) (n : ℕ) (f : ℕ → List A) → keep p (each n f) ≡ each n (λ i. keep p (f i))
   keep-each p zero f = refl
   keep-each p (suc n) f = keep-append p (each n f) (f n) ∙ ap (λ (r : List A). r ++ keep p (f n)) (keep-each p n f)
@@ -66,6 +75,14 @@ module _ {A : Type 0} where
       go : Dec (n ≡ i) → (i < n → ((j : ℕ) → j < n → j ≢ i → f j ≡ []) → each n f ≡ f i) → each n f ++ f n ≡ f i
       go (yes e) ih = rw (each-none n f (λ j m. h j (omega arith) (λ q. absurd (omega arith))), e)
       go (no ne) ih = rw (ih (omega arith) (λ j m q. h j (omega arith) q), h n (omega arith) ne) (append-nil (f i))
+
+  -- of a list over the ports a test keeps what it keeps at one port, if it keeps nothing elsewhere
+  pub keep-one : (p : A → Bool) (n : ℕ) (f : ℕ → List A) (i : ℕ) → ((j : ℕ) → j ≢ i → keep p (f j) ≡ []) → (¬ (i < n) → keep p (f i) ≡ []) → keep p (each n f) ≡ keep p (f i)
+  keep-one p n f i other out = keep-each p n f ∙ go (decLt i n)
+    where
+      go : Dec (i < n) → each n (λ j. keep p (f j)) ≡ keep p (f i)
+      go (yes l) = each-one n (λ j. keep p (f j)) i l (λ j m ne. other j ne)
+      go (no l) = each-none n (λ j. keep p (f j)) (λ j m. other j (λ q. l (subst (λ (x : ℕ). x < n) q m))) ∙ sym (out l)
 
   -- what `each` lists, some place has
   pub each-found : (n : ℕ) (f : ℕ → List A) (x : A) (xs : List A) → each n f ≡ x ∷ xs → (j : ℕ) × (j < n) × (y : A) × (ys : List A) × (f j ≡ y ∷ ys)
@@ -95,11 +112,48 @@ module _ {A : Type 0} where
       go (no a) (yes b) = empty (λ r. a (r .0))
       go (no a) (no b) = empty (λ r. a (r .0))
 
-  pub grid-found : (n m : ℕ) (f : ℕ → ℕ → List A) (x : A) (xs : List A) → each n (λ j. each m (f j)) ≡ x ∷ xs → (j : ℕ) × (u : ℕ) × (y : A) × (ys : List A) × (f j u ≡ y ∷ ys)
+  pub keep-grid-one : (p : A → Bool) (n m : ℕ) (f : ℕ → ℕ → List A) (i v : ℕ) → ((j u : ℕ) → ¬ ((j ≡ i) × (u ≡ v)) → keep p (f j u) ≡ []) → (¬ ((i < n) × (v < m)) → keep p (f i v) ≡ []) → keep p (each n (λ j. each m (f j))) ≡ keep p (f i v)
+  keep-grid-one p n m f i v other out = keep-grid p n m f ∙ grid-one n m (λ j u. keep p (f j u)) i v other out
+
+  pub grid-found : (n m : ℕ) (f : ℕ → ℕ → List A) (x : A) (xs : List A) → each n (λ j. each m (f j)) ≡ x ∷ xs → (j : ℕ) × (u : ℕ) × (y : A) × (ys : List A) × (f j u ≡ y ∷ ys) × (j < n) × (u < m)
   grid-found n m f x xs e =
       let r = each-found n (λ j. each m (f j)) x xs e in
       let q = each-found m (f (r .0)) (r .2) (r .3) (r .4) in
-      (r .0, q .0, q .2, q .3, q .4)
+      (r .0, q .0, q .2, q .3, q .4, r .1, q .1)
+
+  -- a grid in which one place at most holds something, and that at most one
+  pub grid-le-one : (n m : ℕ) (f : ℕ → ℕ → List A) → ((j u : ℕ) → length (f j u) ≤ 1) → ((j u i v : ℕ) → 0 < length (f j u) → 0 < length (f i v) → (j ≡ i) × (u ≡ v)) → length (each n (λ j. each m (f j))) ≤ 1
+  grid-le-one n m f one alone = go (each n (λ j. each m (f j))) refl
+    where
+      go : (l : List A) → each n (λ j. each m (f j)) ≡ l → length l ≤ 1
+      go [] e = omega arith
+      go (x ∷ xs) e =
+          let r = grid-found n m f x xs e in
+          let here : 0 < length (f (r .0) (r .1)) = rw (r .4) (omega arith) in
+          let only : each n (λ j. each m (f j)) ≡ f (r .0) (r .1) = grid-one n m f (r .0) (r .1) (λ j u ne. others j u ne here (f j u) refl) (λ out. absurd (out (r .5, r .6))) in
+          subst (λ (l : List A). length l ≤ 1) (sym only ∙ e) (one (r .0) (r .1))
+        where
+          others : (j u : ℕ) {i v : ℕ} → ¬ ((j ≡ i) × (u ≡ v)) → 0 < length (f i v) → (l : List A) → f j u ≡ l → f j u ≡ []
+          others j u ne here [] q = q
+          others j u {i} {v} ne here (y ∷ ys) q = absurd (ne (alone j u i v (rw q (omega arith)) here))
+
+  -- `All` of what is put together
+  module _ (P : A → Type 0) where
+    pub all-append : (xs ys : List A) → All P xs → All P ys → All P (xs ++ ys)
+    all-append [] ys p q = q
+    all-append (x ∷ xs) ys p q = (p .0, all-append xs ys (p .1) q)
+
+    pub all-left : (xs ys : List A) → All P (xs ++ ys) → All P xs
+    all-left [] ys p = tt
+    all-left (x ∷ xs) ys p = (p .0, all-left xs ys (p .1))
+
+    pub all-right : (xs ys : List A) → All P (xs ++ ys) → All P ys
+    all-right [] ys p = p
+    all-right (x ∷ xs) ys p = all-right xs ys (p .1)
+
+    pub all-each : (n : ℕ) (f : ℕ → List A) → ((j : ℕ) → j < n → All P (f j)) → All P (each n f)
+    all-each zero f p = tt
+    all-each (suc n) f p = all-append (each n f) (f n) (all-each n f (λ j l. p j (omega arith))) (p n (omega arith))
 
   pub flat-append : (xs ys : List (List A)) → flat (xs ++ ys) ≡ flat xs ++ flat ys
   flat-append [] ys = refl

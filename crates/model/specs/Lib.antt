@@ -14,3 +14,4 @@ pub mod Run
 pub mod Packets
 pub mod Demand3
 pub mod Times
+pub mod Limits

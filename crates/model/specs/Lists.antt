@@ -1,4 +1,4 @@
--- Three words for lists. Nothing here is about routers.
+-- A few words for lists. Nothing here is about routers.
 -- Assumes nothing.
 use mathlib.Core.Bool.{Bool, cond}
 use mathlib.Core.List.{List, [], _∷_, _++_}
@@ -19,6 +19,11 @@ module _ {A : Type 0} where
   abbrev pub flat : List (List A) → List A
   flat [] = []
   flat (x ∷ xs) = x ++ flat xs
+
+  -- each has the property
+  abbrev pub All : (A → Type 0) → List A → Type 0
+  All P [] = Unit {0}
+  All P (x ∷ xs) = P x × All P xs
 
 -- the sum
 abbrev pub total : List ℕ → ℕ

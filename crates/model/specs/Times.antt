@@ -1,21 +1,22 @@
--- When things happen: the words of what follows from demand 3.
+-- When things happen: the cycles in which a channel's flits were accepted and left, and its credits reached their sender.
 -- Assumes nothing.
 use mathlib.Core.List.{List, [], _∷_, map}
-use Prim.Native.Nat.{ℕ, suc, _+_, _≤_}
+use Prim.Native.Nat.{ℕ, _+_, _≤_}
 use Rattle.model.specs.Lists.{keep}
-use Rattle.model.specs.Router.{InVc, OutVc}
+use Rattle.model.specs.Router.{InVc}
 use Rattle.model.specs.History.{History, Entry, same, Offer, Departure, gather, offersOn, departuresFrom}
 
+-- Each time of the second list is at least n after the time in its place of the first.
+abbrev pub Later : ℕ → List ℕ → List ℕ → Type 0
+Later n firsts [] = Unit {0}
+Later n [] (b ∷ seconds) = ⊥
+Later n (a ∷ firsts) (b ∷ seconds) = (a + n ≤ b) × Later n firsts seconds
+
 module _ {Flit : Type 0} where
-  -- the credits of VC v of input i that reached their sender
   abbrev pub reachedFor : ℕ → ℕ → Entry Flit → List InVc
   reachedFor i v e = keep (λ (r : InVc). same (r .input) (r .vc) i v) (e .reached)
 
-  -- the credits that came from downstream for VC w of output o
-  abbrev pub creditsFor : ℕ → ℕ → Entry Flit → List OutVc
-  creditsFor o w e = keep (λ (r : OutVc). same (r .output) (r .vc) o w) (e .credits)
-
-  -- the cycles in which the flits of VC v of input i were accepted, one for each flit, the oldest first
+  -- the cycles in which the flits of VC v of input i were accepted: one for each flit, the oldest first
   abbrev pub acceptedIn : ℕ → ℕ → History Flit → List ℕ
   acceptedIn i v h = gather (λ (e : Entry Flit). map (λ (o : Offer Flit). e .cycle) (offersOn i v e)) h
 
@@ -26,8 +27,3 @@ module _ {Flit : Type 0} where
   -- the cycles in which its credits reached their sender
   abbrev pub reachedIn : ℕ → ℕ → History Flit → List ℕ
   reachedIn i v h = gather (λ (e : Entry Flit). map (λ (r : InVc). e .cycle) (reachedFor i v e)) h
-
--- Each time of the second list is at least n after the time in the same place of the first.
-pub data Later (n : ℕ) : List ℕ → List ℕ → Type 0 where
-  noMore : {firsts : List ℕ} → Later n firsts []
-  each : {a b : ℕ} {firsts seconds : List ℕ} → a + n ≤ b → Later n firsts seconds → Later n (a ∷ firsts) (b ∷ seconds)

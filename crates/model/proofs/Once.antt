@@ -1,0 +1,136 @@
+-- What follows about a cycle's limits: at most one flit leaves each input and each output, each output binds at most one, and every name is in range.
+-- Assumes nothing.
+use mathlib.Core.Path.{_≡_, refl, sym, ap, _∙_}
+use mathlib.Core.Logic.{_≢_}
+use mathlib.Core.Bool.{Bool, true, false, cond, false≢true}
+use mathlib.Core.Option.{Option, none, some, Option·none-ne-some}
+use mathlib.Core.List.{List, [], _∷_}
+use Prim.Native.Nat.{ℕ, zero, suc, _≤_, _<_}
+use native.Mathlib.Omega.{arith}
+use lib.Dec.{eqb}
+use lib.ListN.{length, replicate}
+use Rattle.model.specs.Lists.{keep, each, All}
+use Rattle.model.specs.Sizes.{Config, Delayed}
+use Rattle.model.specs.Flit.{Look}
+use Rattle.model.specs.Channel.{reaching, queueNow}
+use Rattle.model.specs.Router.{Router, OutVc, InVc}
+use Rattle.model.specs.Cycle.{Event, Choice, Brought}
+use Rattle.model.specs.History.{Entry, History, Offer, Departure}
+use Rattle.model.specs.Phases.{granted, boundNow, leaving, departure}
+use Rattle.model.specs.Step.{entry, offersAt, creditsAt}
+use Rattle.model.specs.Legal.{Legal}
+use Rattle.model.specs.Run.{Run, start, accept}
+use Rattle.model.specs.Limits.{InRange, NamesInRange, OncePerPort}
+use Rattle.model.proofs.Lists.{eqb-true, keep-grid, grid-le-one, all-each}
+use Rattle.model.proofs.Ranges.{binds-in-range}
+use Rattle.model.proofs.OutCredits.{output-credits, credit-in-range}
+
+module _ {Flit : Type 0} where
+  -- at most one flit leaves from an input VC, and what a test keeps of it passes the test
+  kept-le-one : (p : Departure Flit → Bool) (i v : ℕ) (l : Bool) (b : Option OutVc) (q : List Flit) → length (keep p (leaving i v l b q)) ≤ 1
+  kept-le-one p i v false b q = omega arith
+  kept-le-one p i v true none q = omega arith
+  kept-le-one p i v true (some b) [] = omega arith
+  kept-le-one p i v true (some b) (f ∷ q) = go (p (record { output = b .output; outVc = b .vc; input = i; vc = v; flit = f }))
+    where
+      go : (t : Bool) → length {A = Departure Flit} (cond t (record { output = b .output; outVc = b .vc; input = i; vc = v; flit = f } ∷ []) []) ≤ 1
+      go true = omega arith
+      go false = omega arith
+
+  -- what is kept left: from an input VC that is to leave, by what it is bound to
+  kept-left : (p : ℕ → ℕ → Bool) (i v : ℕ) (l : Bool) (b : Option OutVc) (q : List Flit) → 0 < length (keep (λ (d : Departure Flit). p (d .input) (d .output)) (leaving i v l b q)) → (l ≡ true) × (a : OutVc) × (b ≡ some a) × (p i (a .output) ≡ true)
+  kept-left p i v false b q k = absurd (omega arith)
+  kept-left p i v true none q k = absurd (omega arith)
+  kept-left p i v true (some b) [] k = absurd (omega arith)
+  kept-left p i v true (some b) (f ∷ q) k = (refl, b, refl, go (p i (b .output)) k)
+    where
+      go : (t : Bool) → 0 < length {A = Departure Flit} (cond t (record { output = b .output; outVc = b .vc; input = i; vc = v; flit = f } ∷ []) []) → t ≡ true
+      go true k = refl
+      go false k = absurd (omega arith)
+
+module _ {Flit : Type 0} (look : Look Flit) (c : Config) where
+  module _ (s : Router Flit) (e : Event Flit) (k : Choice) (legal : Legal look c s e k) where
+    -- A test of input and output that two departures of the cycle pass only if they are one keeps at most one.
+    kept-once : (p : ℕ → ℕ → Bool) → ((i v j u : ℕ) (a b : OutVc) → k .leaves i v ≡ true → k .leaves j u ≡ true → boundNow s k i v ≡ some a → boundNow s k j u ≡ some b → p i (a .output) ≡ true → p j (b .output) ≡ true → (i ≡ j) × (v ≡ u)) → length (keep (λ (d : Departure Flit). p (d .input) (d .output)) (entry c s e k .departures)) ≤ 1
+    kept-once p alone =
+        rw (keep-grid test (c .ports) (c .vcs) (departure s k))
+        (grid-le-one (c .ports) (c .vcs) (λ i v. keep test (departure s k i v)) (λ i v. kept-le-one test i v (k .leaves i v) (boundNow s k i v) (queueNow (s .channel i v))) (λ i v j u x y. both (found i v x) (found j u y)))
+      where
+        test : Departure Flit → Bool
+        test d = p (d .input) (d .output)
+
+        Found : ℕ → ℕ → Type 0
+        Found i v = (k .leaves i v ≡ true) × (a : OutVc) × (boundNow s k i v ≡ some a) × (p i (a .output) ≡ true)
+
+        found : (i v : ℕ) → 0 < length (keep test (departure s k i v)) → Found i v
+        found i v x = kept-left p i v (k .leaves i v) (boundNow s k i v) (queueNow (s .channel i v)) x
+
+        both : {i v j u : ℕ} → Found i v → Found j u → (i ≡ j) × (v ≡ u)
+        both {i} {v} {j} {u} x y = alone i v j u (x .1) (y .1) (x .0) (y .0) (x .2) (y .2) (x .3) (y .3)
+
+    -- "each output binds at most one per cycle"
+    pub binds-once : (i v j u : ℕ) (a b : OutVc) → s .bound i v ≡ none → s .bound j u ≡ none → boundNow s k i v ≡ some a → boundNow s k j u ≡ some b → a .output ≡ b .output → (i ≡ j) × (v ≡ u)
+    binds-once i v j u a b p q x y = legal .bindsOnce i v j u a b (just i v a p x) (just j u b q y)
+      where
+        just : (i v : ℕ) (a : OutVc) → s .bound i v ≡ none → boundNow s k i v ≡ some a → k .grant i v ≡ some a
+        just i v a p x = go (k .grant i v) x
+          where
+            go : (g : Option OutVc) → granted g (s .bound i v) ≡ some a → g ≡ some a
+            go none x = absurd (Option·none-ne-some a (sym p ∙ x))
+            go (some b) x = x
+
+    -- at most one flit leaves each input and each output
+    once-now : OncePerPort (entry c s e k)
+    once-now =
+        record {
+          inputs = λ n. kept-once (λ i o. eqb i n) (λ i v j u a b x y p q f g. one-input n i v j u x y (eqb-true i n f) (eqb-true j n g));
+          outputs = λ n. kept-once (λ i o. eqb o n) (λ i v j u a b x y p q f g. legal .outputOnce i v j u a b x y p q (eqb-true (a .output) n f ∙ sym (eqb-true (b .output) n g)));
+        }
+      where
+        one-input : (n i v j u : ℕ) → k .leaves i v ≡ true → k .leaves j u ≡ true → i ≡ n → j ≡ n → (i ≡ j) × (v ≡ u)
+        one-input n i v j u x y p q = let e : i ≡ j = p ∙ sym q in (e, legal .inputOnce i v u x (rw e y))
+
+  -- In every cycle of every run.
+  pub once-per-port : {s : Router Flit} {h : History Flit} → Run look c s h → All OncePerPort h
+  once-per-port start = tt
+  once-per-port (accept {s = s} run e k legal) = (once-now s e k legal, once-per-port run)
+
+  module _ (delayed : Delayed c) where
+    module _ {s : Router Flit} {h : History Flit} (run : Run look c s h) (e : Event Flit) (k : Choice) (legal : Legal look c s e k) where
+      names-now : NamesInRange c (entry c s e k)
+      names-now =
+          record {
+            offers = all-each _ (c .ports) (λ i. offersAt i (e .offer i)) (λ i l. offer i l (e .offer i) refl);
+            sources = all-each _ (c .ports) (λ i. each (c .vcs) (departure s k i)) (λ i l. all-each _ (c .vcs) (departure s k i) (λ v m. source i v l m (k .leaves i v) (boundNow s k i v) (queueNow (s .channel i v))));
+            outputs = all-each _ (c .ports) (λ i. each (c .vcs) (departure s k i)) (λ i l. all-each _ (c .vcs) (departure s k i) (λ v m. output i v (k .leaves i v) (boundNow s k i v) refl (queueNow (s .channel i v))));
+            reached = all-each _ (c .ports) (λ i. each (c .vcs) (λ v. replicate (reaching (s .channel i v)) (record { input = i; vc = v }))) (λ i l. all-each _ (c .vcs) (λ v. replicate (reaching (s .channel i v)) (record { input = i; vc = v })) (λ v m. home i v l m (reaching (s .channel i v))));
+            credits = all-each _ (c .ports) (λ o. creditsAt o (e .credit o)) (λ o l. credit o (e .credit o) refl);
+          }
+        where
+          offer : (i : ℕ) → i < c .ports → (b : Option (Brought Flit)) → e .offer i ≡ b → All (λ (o : Offer Flit). InRange c (o .input) (o .vc)) (offersAt i b)
+          offer i l none q = tt
+          offer i l (some b) q = ((l, legal .offerVc i b q), tt)
+
+          source : (i v : ℕ) → i < c .ports → v < c .vcs → (l : Bool) (b : Option OutVc) (q : List Flit) → All (λ (d : Departure Flit). InRange c (d .input) (d .vc)) (leaving i v l b q)
+          source i v l m false b q = tt
+          source i v l m true none q = tt
+          source i v l m true (some b) [] = tt
+          source i v l m true (some b) (f ∷ q) = ((l, m), tt)
+
+          output : (i v : ℕ) (l : Bool) (b : Option OutVc) → boundNow s k i v ≡ b → (q : List Flit) → All (λ (d : Departure Flit). InRange c (d .output) (d .outVc)) (leaving i v l b q)
+          output i v false b p q = tt
+          output i v true none p q = tt
+          output i v true (some b) p [] = tt
+          output i v true (some b) p (f ∷ q) = (binds-in-range look c delayed run e k legal i v b p, tt)
+
+          home : (i v : ℕ) → i < c .ports → v < c .vcs → (n : ℕ) → All (λ (r : InVc). InRange c (r .input) (r .vc)) (replicate n (record { input = i; vc = v }))
+          home i v l m zero = tt
+          home i v l m (suc n) = ((l, m), home i v l m n)
+
+          credit : (o : ℕ) (w : Option ℕ) → e .credit o ≡ w → All (λ (r : OutVc). InRange c (r .output) (r .vc)) (creditsAt o w)
+          credit o none q = tt
+          credit o (some w) q = (credit-in-range look c delayed run e k legal (output-credits look c delayed run) o w q, tt)
+
+    pub names-in-range : {s : Router Flit} {h : History Flit} → Run look c s h → All (NamesInRange c) h
+    names-in-range start = tt
+    names-in-range (accept run e k legal) = (names-now run e k legal, names-in-range run)
