@@ -12,3 +12,6 @@ pub mod Times
 pub mod Ranges
 pub mod OutCredits
 pub mod Once
+pub mod Given
+pub mod Test
+pub mod Example

@@ -1,6 +1,7 @@
 -- What follows about ports and VCs: nothing is ever held beyond the ranges, and no binding or departure names anything beyond them.
 -- Assumes nothing.
 use mathlib.Core.Path.{_≡_, refl, sym, ap, subst, _∙_}
+use mathlib.Core.Logic.{_≢_}
 use mathlib.Core.Bool.{Bool, true, false, cond}
 use mathlib.Core.Option.{Option, none, some, Option·none-ne-some, Option·some-injective}
 use mathlib.Core.List.{List, [], _∷_, _++_, append-assoc}
@@ -22,13 +23,36 @@ use Rattle.model.specs.Run.{Run, start, accept}
 use Rattle.model.specs.Limits.{InRange}
 use Rattle.model.proofs.Lists.{all-append, all-left, all-right}
 use Rattle.model.proofs.Entries.{entry-source}
-use Rattle.model.proofs.Flow.{all-in-order}
+use Rattle.model.proofs.Flow.{queueNow-le, all-in-order}
 use Rattle.model.proofs.Invariant.{Inv, inv-run, still-held, now-offers, bound-before}
+
+asks-none : {Flit : Type 0} (look : Look Flit) (q : List Flit) (o : ℕ) → length q ≡ 0 → ¬ Asks look q o
+asks-none look [] o e a = a
+asks-none look (f ∷ q) o e a = absurd (omega arith)
 
 module _ {Flit : Type 0} (look : Look Flit) (c : Config) (delayed : Delayed c) where
   -- Beyond the ports and VCs no slot is ever taken, so that no flit is on the wire or queued there and no credit on its way.
   pub nothing-beyond : {s : Router Flit} {h : History Flit} → Run look c s h → (i v : ℕ) → ¬ InRange c i v → s .channel i v .taken ≡ 0
   nothing-beyond run i v out = let inv = inv-run look c delayed run in omega (arith, inv .flow i v .taken, ap length (inv .beyond i v out))
+
+  -- Nothing beyond them is ever bound: there is no flit to ask for it.
+  granted-inside : {s : Router Flit} {h : History Flit} → Run look c s h → (e : Event Flit) (k : Choice) → Legal look c s e k → (i v : ℕ) (b : OutVc) → ¬ InRange c i v → s .bound i v ≢ some b → boundNow s k i v ≢ some b
+  granted-inside {s = s} {h = h} run e k legal i v b out before = go (k .grant i v) refl
+    where
+      inv : Inv look c s h
+      inv = inv-run look c delayed run
+
+      empty : length (queueNow (s .channel i v)) ≡ 0
+      empty = let l = queueNow-le c delayed (s .channel i v) h i v (inv .flow i v) (entry c s e k) in omega (arith, ap length (inv .beyond i v out))
+
+      go : (g : Option OutVc) → k .grant i v ≡ g → granted g (s .bound i v) ≢ some b
+      go none q p = before p
+      go (some a) q p = asks-none look (queueNow (s .channel i v)) (a .output) empty (legal .bindsFront i v a q)
+
+  pub bound-inside : {s : Router Flit} {h : History Flit} → Run look c s h → (i v : ℕ) (b : OutVc) → ¬ InRange c i v → s .bound i v ≢ some b
+  bound-inside start i v b out p = Option·none-ne-some b p
+  bound-inside (accept {s = s} {h = h} run e k legal) i v b out p =
+      granted-inside run e k legal i v b out (λ q. bound-inside run i v b out q) (bound-before look c delayed s h (inv-run look c delayed run) e k legal i v b p)
 
   -- the destination of a head that was accepted is a port
   abbrev Routed : Flit → Type 0
