@@ -112,7 +112,7 @@ module _ {Flit : Type 0} (look : Look Flit) (c : Config) (delayed : Delayed c) (
       go none p none q m n = inv .alone i v j u b m n
       go none p (some d) q m n = absurd (legal .bindsFree j u d q i v (m ∙ sym n))
       go (some a) p none q m n = absurd (legal .bindsFree i v a p j u (n ∙ sym m))
-      go (some a) p (some d) q m n = legal .bindsOnce i v j u a d p q (ap (λ (x : OutVc). x .output) (Option·some-injective a d (m ∙ sym n)))
+      go (some a) p (some d) q m n = legal .bindsOnce i v j u a d p q (cc)
 
   pub now-on : (i v : ℕ) (b : OutVc) → boundNow s k i v ≡ some b → departuresOn (b .output) (b .vc) now ≡ departure s k i v
   now-on i v b q = entry-on c s e k leaves-inside i v b q (λ j u p. alone-now j u i v b p q)

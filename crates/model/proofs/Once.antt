@@ -4,12 +4,12 @@ use mathlib.Core.Path.{_≡_, refl, sym, ap, _∙_}
 use mathlib.Core.Logic.{_≢_}
 use mathlib.Core.Bool.{Bool, true, false, cond, false≢true}
 use mathlib.Core.Option.{Option, none, some, Option·none-ne-some}
-use mathlib.Core.List.{List, [], _∷_}
+use mathlib.Core.List.{List, [], _∷_, _++_}
 use Prim.Native.Nat.{ℕ, zero, suc, _≤_, _<_}
 use native.Mathlib.Omega.{arith}
 use lib.Dec.{eqb}
-use lib.ListN.{length, replicate}
-use Rattle.model.specs.Lists.{keep, each, All}
+use lib.ListN.{length, drop, replicate}
+use Rattle.model.specs.Lists.{keep, each, flat, All}
 use Rattle.model.specs.Sizes.{Config, Delayed}
 use Rattle.model.specs.Flit.{Look}
 use Rattle.model.specs.Channel.{reaching, queueNow}
@@ -22,6 +22,9 @@ use Rattle.model.specs.Legal.{Legal}
 use Rattle.model.specs.Run.{Run, start, accept}
 use Rattle.model.specs.Limits.{InRange, NamesInRange, OncePerPort}
 use Rattle.model.proofs.Lists.{eqb-true, keep-grid, grid-le-one, all-each}
+use Rattle.model.proofs.Reading.{Reads, isOpen}
+use Rattle.model.proofs.Place.{Goes}
+use Rattle.model.proofs.Invariant.{inv-run, still-held, alone-now}
 use Rattle.model.proofs.Ranges.{binds-in-range}
 use Rattle.model.proofs.OutCredits.{output-credits, credit-in-range}
 
@@ -96,6 +99,22 @@ module _ {Flit : Type 0} (look : Look Flit) (c : Config) where
   once-per-port (accept {s = s} run e k legal) = (once-now s e k legal, once-per-port run)
 
   module _ (delayed : Delayed c) where
+    -- After phase 5 an output VC is held by at most one input VC: "T or S .. frees the output VC, usable from the next cycle".
+    pub one-holder : {s : Router Flit} {h : History Flit} → Run look c s h → (e : Event Flit) (k : Choice) → Legal look c s e k → (i v j u : ℕ) (b : OutVc) → boundNow s k i v ≡ some b → boundNow s k j u ≡ some b → (i ≡ j) × (v ≡ u)
+    one-holder {s = s} {h = h} run e k legal = alone-now look c delayed s h (inv-run look c delayed run) e k legal
+
+    -- The front flit of an unbound input VC is H or S, so that no B or T ever asks.
+    pub front-starts : {s : Router Flit} {h : History Flit} → Run look c s h → (i v : ℕ) (f : Flit) (q : List Flit) → s .bound i v ≡ none → queueNow (s .channel i v) ≡ f ∷ q → look .starts f ≡ true
+    front-starts {s = s} {h = h} run i v f q unbound front =
+        let place = inv-run look c delayed run .place i v in
+        let reads : Reads look (isOpen (place .inside)) (f ∷ (q ++ flat (drop 1 (s .channel i v .wire)))) (s .opened i v) = rw (still-held (s .channel i v), front) at (place .reads) in
+        rw (between (s .bound i v) (place .inside) unbound (place .goes)) at (reads .0)
+      where
+        between : (b : Option OutVc) (d : Option (Departure Flit)) → b ≡ none → Goes look i v b d (s .channel i v .queue) → isOpen d ≡ false
+        between b none p g = refl
+        between none (some d) p g = absurd g
+        between (some b) (some d) p g = absurd (Option·none-ne-some b (sym p))
+
     module _ {s : Router Flit} {h : History Flit} (run : Run look c s h) (e : Event Flit) (k : Choice) (legal : Legal look c s e k) where
       names-now : NamesInRange c (entry c s e k)
       names-now =

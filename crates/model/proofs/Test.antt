@@ -191,26 +191,45 @@ module _ {Flit : Type 0} (look : Look Flit) (c : Config) (s : Router Flit) (g : 
       go (yes p) (no q) = bound-inside look c delayed run i v b (λ r. q (r .1))
       go (no p) d = bound-inside look c delayed run i v b (λ r. p (r .0))
 
+  -- of two that are named, both at one output, or both from one input
+  binds-one : T legal? → (i v j u : ℕ) (a b : OutVc) → (k g) .grant i v ≡ some a → (k g) .grant j u ≡ some b → a .output ≡ b .output → (i ≡ j) × (v ≡ u)
+  binds-one t i v j u a b p q o =
+      let one = binds-pass g (λ i v a. every (λ (y : Bind). implies (eqb (a .output) (y .to .output)) (same i v (y .input) (y .vc))) (g .binds)) (nth tests t 10) i v a p in
+      let both = binds-pass g (λ j u b. implies (eqb (a .output) (b .output)) (same i v j u)) one j u b q in
+      same-true i v j u (passed (same i v j u) (implied (eqb (a .output) (b .output)) (same i v j u) both (eqb-is o)))
+
+  input-one : T legal? → (i v u : ℕ) → (k g) .leaves i v ≡ true → (k g) .leaves i u ≡ true → v ≡ u
+  input-one t i v u p q =
+      let one = leaves-pass g (λ i v. every (λ (y : InVc). implies (eqb i (y .input)) (eqb v (y .vc))) (g .leaves)) (nth tests t 14) i v p in
+      let both = leaves-pass g (λ j u. implies (eqb i j) (eqb v u)) one i u q in
+      eqb-true v u (passed (eqb v u) (implied (eqb i i) (eqb v u) both (eqb-same i)))
+
+  output-one : T legal? → (i v j u : ℕ) (a b : OutVc) → (k g) .leaves i v ≡ true → (k g) .leaves j u ≡ true → bound? i v ≡ some a → bound? j u ≡ some b → a .output ≡ b .output → (i ≡ j) × (v ≡ u)
+  output-one t i v j u a b p q x y o =
+      let one = leaves-pass g (λ i v. every (λ (y : InVc). implies (sameOutput (bound? i v) (bound? (y .input) (y .vc))) (same i v (y .input) (y .vc))) (g .leaves)) (nth tests t 15) i v p in
+      let both = leaves-pass g (λ j u. implies (sameOutput (bound? i v) (bound? j u)) (same i v j u)) one j u q in
+      same-true i v j u (passed (same i v j u) (implied (sameOutput (bound? i v) (bound? j u)) (same i v j u) both (rw (x, y) (eqb-is o))))
+
   -- A cycle that passes, after a run, is within the limits.
   pub legal-of : Delayed c → {h : History Flit} → Run look c s h → T legal? → Legal look c s (e g) (k g)
   legal-of delayed run t =
       record {
-        offerPort = λ i b q. ltb→lt i (c .ports) (offers-pass g (λ i v f. ltb i (c .ports)) (nth tests t 0) i b q);
-        offerVc = λ i b q. ltb→lt (b .vc) (c .vcs) (offers-pass g (λ i v f. ltb v (c .vcs)) (nth tests t 1) i b q);
-        offerDestination = λ i b q s. ltb→lt (look .port (b .flit)) (c .ports) (implied (look .starts (b .flit)) (ltb (look .port (b .flit)) (c .ports)) (offers-pass g (λ i v f. implies (look .starts f) (ltb (look .port f) (c .ports))) (nth tests t 2) i b q) s);
-        room = λ o w q. ltb→lt (s .outCredit o w) (c .downstream) (credits-pass g (λ o w. ltb (s .outCredit o w) (c .downstream)) (nth tests t 3) o w q);
+        offerPort = λ i b q. omega (arith, ltb→lt i (c .ports) (offers-pass g (λ i v f. ltb i (c .ports)) (nth tests t 0) i b q));
+        offerVc = λ i b q. omega (arith, ltb→lt (b .vc) (c .vcs) (offers-pass g (λ i v f. ltb v (c .vcs)) (nth tests t 1) i b q));
+        offerDestination = λ i b q starts. omega (arith, ltb→lt (look .port (b .flit)) (c .ports) (implied (look .starts (b .flit)) (ltb (look .port (b .flit)) (c .ports)) (offers-pass g (λ i v f. implies (look .starts f) (ltb (look .port f) (c .ports))) (nth tests t 2) i b q) starts));
+        room = λ o w q. omega (arith, ltb→lt (s .outCredit o w) (c .downstream) (credits-pass g (λ o w. ltb (s .outCredit o w) (c .downstream)) (nth tests t 3) o w q));
         kinds = λ i b q. beq-is (look .starts (b .flit)) (not (s .opened i (b .vc))) (offers-pass g (λ i v f. Bool·beq (look .starts f) (not (s .opened i v))) (nth tests t 4) i b q);
-        paid = λ i b q. ltb→lt (takenNow (s .channel i (b .vc))) (c .depth) (offers-pass g (λ i v f. ltb (takenNow (s .channel i v)) (c .depth)) (nth tests t 5) i b q);
+        paid = λ i b q. omega (arith, ltb→lt (takenNow (s .channel i (b .vc))) (c .depth) (offers-pass g (λ i v f. ltb (takenNow (s .channel i v)) (c .depth)) (nth tests t 5) i b q));
         bindsUnbound = λ i v b q. unbound-is (s .bound i v) (binds-pass g (λ i v b. not (isSome (s .bound i v))) (nth tests t 6) i v b q);
         bindsFront = λ i v b q. asked look (queueNow (s .channel i v)) (b .output) (binds-pass g (λ i v b. asks? look (queueNow (s .channel i v)) (b .output)) (nth tests t 7) i v b q);
         bindsFree = λ i v b q. free-all delayed run b (binds-pass g (λ i v b. below (c .ports) (λ j. below (c .vcs) (λ u. elsewhere (s .bound j u) b))) (nth tests t 8) i v b q);
-        bindsVc = λ i v b q. ltb→lt (b .vc) (c .vcs) (binds-pass g (λ i v b. ltb (b .vc) (c .vcs)) (nth tests t 9) i v b q);
-        bindsOnce = λ i v j u a b p q o. same-true i v j u (passed (same i v j u) (implied (eqb (a .output) (b .output)) (same i v j u) (binds-pass g (λ j u b. implies (eqb (a .output) (b .output)) (same i v j u)) (binds-pass g (λ i v a. every (λ (y : Bind). implies (eqb (a .output) (y .to .output)) (same i v (y .input) (y .vc))) (g .binds)) (nth tests t 10) i v a p) j u b q) (eqb-is o)));
+        bindsVc = λ i v b q. omega (arith, ltb→lt (b .vc) (c .vcs) (binds-pass g (λ i v b. ltb (b .vc) (c .vcs)) (nth tests t 9) i v b q));
+        bindsOnce = λ i v j u a b p q o. let one = binds-one t i v j u a b p q (cc) in (omega (arith, one), omega (arith, one));
         leavesBound = λ i v q. bound-is (bound? i v) (leaves-pass g (λ i v. isSome (bound? i v)) (nth tests t 11) i v q);
-        leavesFlit = λ i v q. ltb→lt 0 (length (queueNow (s .channel i v))) (leaves-pass g (λ i v. ltb 0 (length (queueNow (s .channel i v)))) (nth tests t 12) i v q);
-        leavesCredit = λ i v b q bound. ltb→lt 0 (outCreditNow s (e g) (b .output) (b .vc)) (rw bound at (leaves-pass g (λ i v. paid? (bound? i v)) (nth tests t 13) i v q));
-        inputOnce = λ i v u p q. eqb-true v u (passed (eqb v u) (implied (eqb i i) (eqb v u) (leaves-pass g (λ j u. implies (eqb i j) (eqb v u)) (leaves-pass g (λ i v. every (λ (y : InVc). implies (eqb i (y .input)) (eqb v (y .vc))) (g .leaves)) (nth tests t 14) i v p) i u q) (eqb-same i)));
-        outputOnce = λ i v j u a b p q x y o. same-true i v j u (passed (same i v j u) (implied (sameOutput (bound? i v) (bound? j u)) (same i v j u) (leaves-pass g (λ j u. implies (sameOutput (bound? i v) (bound? j u)) (same i v j u)) (leaves-pass g (λ i v. every (λ (y : InVc). implies (sameOutput (bound? i v) (bound? (y .input) (y .vc))) (same i v (y .input) (y .vc))) (g .leaves)) (nth tests t 15) i v p) j u q) (rw (x, y) (eqb-is o))));
+        leavesFlit = λ i v q. omega (arith, ltb→lt 0 (length (queueNow (s .channel i v))) (leaves-pass g (λ i v. ltb 0 (length (queueNow (s .channel i v)))) (nth tests t 12) i v q));
+        leavesCredit = λ i v b q bound. omega (arith, ltb→lt 0 (outCreditNow s (e g) (b .output) (b .vc)) (rw bound at (leaves-pass g (λ i v. paid? (bound? i v)) (nth tests t 13) i v q)));
+        inputOnce = λ i v u p q. omega (arith, input-one t i v u p q);
+        outputOnce = λ i v j u a b p q x y o. let one = output-one t i v j u a b p q x y o in (omega (arith, one), omega (arith, one))
       }
 
 -- Cycles that pass one after another, from a router after a run, make a run.
