@@ -1,19 +1,18 @@
 -- Demand 3 of every run.
 -- Assumes nothing.
-use mathlib.Core.Path.{_≡_, refl, ap, _∙_}
-use mathlib.Core.List.{List, _∷_, _++_}
-use Prim.Native.Nat.{ℕ, suc, _+_}
+use mathlib.Core.Path.{_≡_, refl, ap}
+use mathlib.Core.List.{_∷_}
+use Prim.Native.Nat.{ℕ, suc}
 use native.Mathlib.Omega.{arith}
 use lib.ListN.{length, drop, take}
 use Rattle.model.specs.Sizes.{Config, Delayed}
 use Rattle.model.specs.Flit.{Look}
-use Rattle.model.specs.Channel.{Channel, stored, onWire, goingHome}
-use Rattle.model.specs.Router.{Router, OutVc}
-use Rattle.model.specs.History.{Entry, History, Numbered, upTo, after, accepted, leftFrom, flits}
+use Rattle.model.specs.Router.{Router}
+use Rattle.model.specs.History.{Entry, History, Numbered, upTo, after, leftFrom}
 use Rattle.model.specs.Run.{Run}
 use Rattle.model.specs.Demand3.{Demand3, InputDemand, ByHeadsPort}
 use Rattle.model.proofs.Numbers.{after-newest, upTo-older}
-use Rattle.model.proofs.Flow.{Flow, wire-newest, home-newest, queue-older, taken-is, all-in-order}
+use Rattle.model.proofs.Flow.{wire-newest, home-newest, queue-older, taken-is, all-in-order}
 use Rattle.model.proofs.Reading.{reading-packets}
 use Rattle.model.proofs.Invariant.{Inv, inv-run}
 use Rattle.model.proofs.Depth.{stored-and-taken}
@@ -34,6 +33,7 @@ module _ {Flit : Type 0} (look : Look Flit) (c : Config) (delayed : Delayed c) {
         buffered = rw (older (c .forward), older 0) (queue-older c delayed ch h i v flow);
         home = rw (newest (c .back)) (home-newest c delayed ch h i v flow);
         credits = rw (older (c .back), older 0) (omega (arith, flow .taken));
+        slots = sum;
         depth = omega (arith, taken-is c delayed ch h i v flow);
         order = all-in-order c delayed ch h i v flow;
         ports = reading-packets look (ByHeadsPort look) (inv .place i v .inside) (leftFrom i v h) (inv .place i v .left);

@@ -1,39 +1,28 @@
 -- The private depth: all that demand 3 draws from the send rule. Another rule for sharing out an input's slots swaps this file.
 -- Assumes nothing.
-use mathlib.Core.Path.{_≡_, refl, sym, ap, _∙_}
-use mathlib.Core.Bool.{Bool, true, false, cond}
-use mathlib.Core.Option.{Option, none, some}
-use mathlib.Core.List.{[], _∷_}
+use mathlib.Core.Path.{_≡_, sym, ap, _∙_}
 use Prim.Native.Nat.{ℕ, _+_, _≤_, _<_}
 use native.Mathlib.Omega.{arith}
-use lib.Dec.{eqb}
 use lib.ListN.{length, length-append, drop}
 use Rattle.model.specs.Lists.{flat}
 use Rattle.model.specs.Sizes.{Config, Delayed}
 use Rattle.model.specs.Flit.{Look}
-use Rattle.model.specs.Channel.{Channel, takenNow, queueNow, onWire, stored}
+use Rattle.model.specs.Channel.{takenNow, queueNow, onWire, stored}
 use Rattle.model.specs.Router.{Router}
-use Rattle.model.specs.Cycle.{Event, Choice, Brought}
+use Rattle.model.specs.Cycle.{Event, Choice}
 use Rattle.model.specs.History.{History}
-use Rattle.model.specs.Phases.{onVc, offered}
+use Rattle.model.specs.Phases.{offered}
 use Rattle.model.specs.Legal.{Legal}
 use Rattle.model.specs.Run.{Run, start, accept}
-use Rattle.model.proofs.Lists.{eqb-true}
+use Rattle.model.proofs.Cases.{offered-cases}
 use Rattle.model.proofs.Flow.{taken-is}
-use Rattle.model.proofs.Invariant.{Inv, inv-run, still-held}
+use Rattle.model.proofs.Invariant.{inv-run, still-held}
 
 module _ {Flit : Type 0} (look : Look Flit) (c : Config) where
   -- A flit is taken only where a slot is left.
   taken-more : (s : Router Flit) (e : Event Flit) (k : Choice) → Legal look c s e k → (i v : ℕ) → s .channel i v .taken ≤ c .depth → takenNow (s .channel i v) + length (offered e i v) ≤ c .depth
-  taken-more s e k legal i v fits = go (e .offer i) refl
-    where
-      go : (b : Option (Brought Flit)) → e .offer i ≡ b → takenNow (s .channel i v) + length (onVc v b) ≤ c .depth
-      go none q = omega arith
-      go (some b) q = test (eqb (b .vc) v) refl
-        where
-          test : (t : Bool) → eqb (b .vc) v ≡ t → takenNow (s .channel i v) + length (cond t (b .flit ∷ []) []) ≤ c .depth
-          test true t = let paid : takenNow (s .channel i v) < c .depth = rw (eqb-true (b .vc) v t) at (legal .paid i b q) in omega arith
-          test false t = omega arith
+  taken-more s e k legal i v fits =
+      offered-cases i v e (λ fs. takenNow (s .channel i v) + length fs ≤ c .depth) (omega arith) (λ b q w. let paid : takenNow (s .channel i v) < c .depth = rw w at (legal .paid i b q) in omega arith)
 
   -- No more slots are taken than there are.
   pub taken-fits : {s : Router Flit} {h : History Flit} → Run look c s h → (i v : ℕ) → s .channel i v .taken ≤ c .depth

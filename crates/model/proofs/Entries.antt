@@ -1,26 +1,26 @@
 -- The cycle's entry, read for one input VC or one output VC, is what the step does there.
 -- Assumes nothing.
-use mathlib.Core.Path.{_≡_, refl, sym, ap, subst, _∙_}
+use mathlib.Core.Path.{_≡_, refl, sym, ap, _∙_}
 use mathlib.Core.Logic.{_≢_}
-use mathlib.Core.Bool.{Bool, true, false, cond, true≢false}
-use mathlib.Core.Option.{Option, none, some}
+use mathlib.Core.Bool.{Bool, true, false, cond, _&&_, false≢true}
+use mathlib.Core.Option.{Option, none, some, Option·some-injective}
 use mathlib.Core.List.{List, [], _∷_, map, nil≢cons}
-use Prim.Native.Nat.{ℕ, zero, suc, _<_}
-use native.Mathlib.Decide.{ℕ-discrete, decLt}
-use native.Mathlib.Omega.{arith}
+use Prim.Native.Nat.{ℕ, _<_}
+use native.Mathlib.Decide.{ℕ-discrete}
 use lib.Dec.{eqb}
 use lib.ListN.{length, replicate}
-use Rattle.model.specs.Lists.{keep, each}
+use Rattle.model.specs.Lists.{keep}
 use Rattle.model.specs.Sizes.{Config}
 use Rattle.model.specs.Channel.{reaching, queueNow}
 use Rattle.model.specs.Router.{Router, OutVc, InVc}
 use Rattle.model.specs.Cycle.{Event, Choice, Brought}
-use Rattle.model.specs.History.{Entry, Offer, Departure, same, offersOn, departuresFrom, departuresOn}
+use Rattle.model.specs.History.{Offer, Departure, same, offersOn, departuresFrom, departuresOn}
 use Rattle.model.specs.Phases.{creditFor, onVc, offered, boundNow, leaving, departure}
 use Rattle.model.specs.Step.{offersAt, creditsAt, entry}
 use Rattle.model.specs.Times.{reachedFor}
-use Rattle.model.specs.Limits.{creditsFor}
-use Rattle.model.proofs.Lists.{eqb-same, eqb-other, keep-replicate, keep-one, keep-grid, keep-grid-one, grid-found}
+use Rattle.model.specs.Limits.{InRange, creditsFor}
+use Rattle.model.proofs.Cases.{gone, leaving-cases}
+use Rattle.model.proofs.Lists.{eqb-same, eqb-other, eqb-true, keep-replicate, keep-one, keep-grid, keep-grid-one, grid-found}
 
 -- the same VC of the same port, and another
 pub same-own : (i v : ℕ) → same i v i v ≡ true
@@ -34,16 +34,12 @@ same-other i v j u ne = go (ℕ-discrete i j) (ℕ-discrete v u)
     go (yes p) (no q) = rw (p, eqb-same j, eqb-other q)
     go (no p) d = rw (eqb-other p)
 
-pub same-true : (i v j u : ℕ) → same i v j u ≡ true → (i ≡ j) × (v ≡ u)
-same-true i v j u t = go (ℕ-discrete i j) (ℕ-discrete v u)
-  where
-    differ : ¬ ((i ≡ j) × (v ≡ u)) → (i ≡ j) × (v ≡ u)
-    differ ne = absurd (true≢false (sym t ∙ same-other i v j u ne))
+and-both : (a b : Bool) → (a && b) ≡ true → (a ≡ true) × (b ≡ true)
+and-both true b t = (refl, t)
+and-both false b t = absurd (false≢true t)
 
-    go : Dec (i ≡ j) → Dec (v ≡ u) → (i ≡ j) × (v ≡ u)
-    go (yes p) (yes q) = (p, q)
-    go (yes p) (no q) = differ (λ r. q (r .1))
-    go (no p) d = differ (λ r. p (r .0))
+pub same-true : (i v j u : ℕ) → same i v j u ≡ true → (i ≡ j) × (v ≡ u)
+same-true i v j u t = let r = and-both (eqb i j) (eqb v u) t in (eqb-true i j (r .0), eqb-true v u (r .1))
 
 -- an output VC is its output and its VC
 pub outVc-path : (b : OutVc) (o w : ℕ) → b .output ≡ o → b .vc ≡ w → b ≡ record { output = o; vc = w }
@@ -82,38 +78,26 @@ module _ (i v : ℕ) where
 
     -- what leaves from VC u of input j, read by its source
     leaving-other : (j u : ℕ) (l : Bool) (b : Option OutVc) (q : List Flit) → ¬ ((j ≡ i) × (u ≡ v)) → keep comesFrom (leaving j u l b q) ≡ []
-    leaving-other j u false b q ne = refl
-    leaving-other j u true none q ne = refl
-    leaving-other j u true (some b) [] ne = refl
-    leaving-other j u true (some b) (f ∷ q) ne = rw (same-other j u i v ne)
+    leaving-other j u l b q ne = leaving-cases j u (λ ds. keep comesFrom ds ≡ []) l b q refl (λ a f x y. rw (same-other j u i v ne))
 
     leaving-own : (l : Bool) (b : Option OutVc) (q : List Flit) → keep comesFrom (leaving i v l b q) ≡ leaving i v l b q
-    leaving-own false b q = refl
-    leaving-own true none q = refl
-    leaving-own true (some b) [] = refl
-    leaving-own true (some b) (f ∷ q) = rw (same-own i v)
+    leaving-own l b q = leaving-cases i v (λ ds. keep comesFrom ds ≡ ds) l b q refl (λ a f x y. rw (same-own i v))
 
     -- the same, read by its output VC
-    leaving-by : (j u : ℕ) (l : Bool) (b : OutVc) (q : List Flit) → (b .output ≡ i) × (b .vc ≡ v) → keep goesBy (leaving j u l (some b) q) ≡ leaving j u l (some b) q
-    leaving-by j u false b q e = refl
-    leaving-by j u true b [] e = refl
-    leaving-by j u true b (f ∷ q) e = rw (e .0, e .1, same-own i v)
+    leaving-by : (j u : ℕ) (l : Bool) (b : Option OutVc) (q : List Flit) → b ≡ some (record { output = i; vc = v }) → keep goesBy (leaving j u l b q) ≡ leaving j u l b q
+    leaving-by j u l b q e =
+        leaving-cases j u (λ ds. keep goesBy ds ≡ ds) l b q refl (λ a f x y. rw (Option·some-injective a (record { output = i; vc = v }) (sym y ∙ e), same-own i v))
 
     leaving-past : (j u : ℕ) (l : Bool) (b : Option OutVc) (q : List Flit) → b ≢ some (record { output = i; vc = v }) → keep goesBy (leaving j u l b q) ≡ []
-    leaving-past j u false b q ne = refl
-    leaving-past j u true none q ne = refl
-    leaving-past j u true (some b) [] ne = refl
-    leaving-past j u true (some b) (f ∷ q) ne = rw (same-other (b .output) (b .vc) i v (λ e. ne (ap {B = Option OutVc} some (outVc-path b i v (e .0) (e .1)))))
+    leaving-past j u l b q ne = leaving-cases j u (λ ds. keep goesBy ds ≡ []) l b q refl (λ a f x y. rw (same-other (a .output) (a .vc) i v (λ e. ne (y ∙ ap {B = Option OutVc} some (outVc-path a i v (e .0) (e .1))))))
 
     leaving-found : (j u : ℕ) (l : Bool) (b : Option OutVc) (q : List Flit) (d : Departure Flit) (ds : List (Departure Flit)) → keep goesBy (leaving j u l b q) ≡ d ∷ ds → (l ≡ true) × (b ≡ some (record { output = i; vc = v }))
-    leaving-found j u false b q d ds e = absurd (nil≢cons e)
-    leaving-found j u true none q d ds e = absurd (nil≢cons e)
-    leaving-found j u true (some b) [] d ds e = absurd (nil≢cons e)
-    leaving-found j u true (some b) (f ∷ q) d ds e = (refl, go (same (b .output) (b .vc) i v) refl)
+    leaving-found j u l b q d ds =
+        leaving-cases j u (λ x. keep goesBy x ≡ d ∷ ds → (l ≡ true) × (b ≡ some (record { output = i; vc = v }))) l b q (λ e. absurd (nil≢cons e)) (λ a f x y. go a f x y (same (a .output) (a .vc) i v) refl)
       where
-        go : (t : Bool) → same (b .output) (b .vc) i v ≡ t → some b ≡ some (record { output = i; vc = v })
-        go true t = let r = same-true (b .output) (b .vc) i v t in ap {B = Option OutVc} some (outVc-path b i v (r .0) (r .1))
-        go false t = absurd (nil≢cons (rw t at e))
+        go : (a : OutVc) (f : Flit) → l ≡ true → b ≡ some a → (t : Bool) → same (a .output) (a .vc) i v ≡ t → cond t (gone j u a f ∷ []) [] ≡ d ∷ ds → (l ≡ true) × (b ≡ some (record { output = i; vc = v }))
+        go a f x y true t e = let r = same-true (a .output) (a .vc) i v t in (x, y ∙ ap {B = Option OutVc} some (outVc-path a i v (r .0) (r .1)))
+        go a f x y false t e = absurd (nil≢cons e)
 
   -- the credit of output j
   credits-other : (j : ℕ) (w : Option ℕ) → j ≢ i → keep comesBackTo (creditsAt j w) ≡ []
@@ -156,9 +140,9 @@ module _ {Flit : Type 0} (c : Config) (s : Router Flit) (e : Event Flit) (k : Ch
 
   -- what is beyond the ports and VCs does not leave, so that the entry misses no departure
   abbrev pub LeavesInside : Type 0
-  LeavesInside = (i v : ℕ) → k .leaves i v ≡ true → (i < c .ports) × (v < c .vcs)
+  LeavesInside = (i v : ℕ) → k .leaves i v ≡ true → InRange c i v
 
-  stays : LeavesInside → (i v : ℕ) → ¬ ((i < c .ports) × (v < c .vcs)) → departure s k i v ≡ []
+  stays : LeavesInside → (i v : ℕ) → ¬ InRange c i v → departure s k i v ≡ []
   stays inside i v out = go (k .leaves i v) refl
     where
       go : (l : Bool) → k .leaves i v ≡ l → departure s k i v ≡ []
@@ -179,7 +163,7 @@ module _ {Flit : Type 0} (c : Config) (s : Router Flit) (e : Event Flit) (k : Ch
       keep-grid-one (goesBy (b .output) (b .vc)) (c .ports) (c .vcs) (departure s k) i v (λ j u ne. leaving-past (b .output) (b .vc) j u (k .leaves j u) (boundNow s k j u) (queueNow (s .channel j u)) (λ p. ne (alone j u p))) (λ out. own ∙ stays inside i v out) ∙ own
     where
       own : keep (goesBy (b .output) (b .vc)) (departure s k i v) ≡ departure s k i v
-      own = rw q (leaving-by (b .output) (b .vc) i v (k .leaves i v) b (queueNow (s .channel i v)) (refl, refl))
+      own = leaving-by (b .output) (b .vc) i v (k .leaves i v) (boundNow s k i v) (queueNow (s .channel i v)) q
 
   -- .. and whatever left on an output VC left from an input VC that is bound to it.
   pub entry-source : (b : OutVc) (d : Departure Flit) (ds : List (Departure Flit)) → departuresOn (b .output) (b .vc) (entry c s e k) ≡ d ∷ ds → (i : ℕ) × (v : ℕ) × (k .leaves i v ≡ true) × (boundNow s k i v ≡ some b)
@@ -189,6 +173,6 @@ module _ {Flit : Type 0} (c : Config) (s : Router Flit) (e : Event Flit) (k : Ch
       (r .0, r .1, found .0, found .1)
 
   -- The credits of the entry that reached the sender of an input VC are those that reach it, if none is beyond the ports and VCs.
-  pub entry-reached : (i v : ℕ) → (¬ ((i < c .ports) × (v < c .vcs)) → reaching (s .channel i v) ≡ 0) → reachedFor i v (entry c s e k) ≡ replicate (reaching (s .channel i v)) (record { input = i; vc = v })
+  pub entry-reached : (i v : ℕ) → (¬ InRange c i v → reaching (s .channel i v) ≡ 0) → reachedFor i v (entry c s e k) ≡ replicate (reaching (s .channel i v)) (record { input = i; vc = v })
   entry-reached i v none-beyond =
       keep-grid-one (comesHomeTo i v) (c .ports) (c .vcs) (λ j u. replicate (reaching (s .channel j u)) (record { input = j; vc = u })) i v (λ j u ne. reached-other i v j u (reaching (s .channel j u)) ne) (λ out. rw (none-beyond out)) ∙ reached-own i v (reaching (s .channel i v))

@@ -2,23 +2,23 @@
 -- Inputs 0 and 2 contend for output 1. No arbiter of document 01 makes these choices: in cycle 2 the higher free VC is given out and a ready flit stays.
 -- Assumes nothing.
 use mathlib.Core.Path.{_≡_, refl}
-use mathlib.Core.Bool.{Bool, _||_}
-use mathlib.Core.Option.{Option, none, some}
+use mathlib.Core.Bool.{_||_}
+use mathlib.Core.Option.{some}
 use mathlib.Core.List.{List, [], _∷_, map}
-use Prim.Native.Nat.{ℕ, _≤_}
+use Prim.Native.Nat.{ℕ}
 use lib.Dec.{eqb, lit≤}
 use lib.ListN.{length, take}
 use Rattle.model.specs.Sizes.{Config, Delayed}
 use Rattle.model.specs.Flit.{Look}
 use Rattle.model.specs.Channel.{Channel, stored, onWire, goingHome}
 use Rattle.model.specs.Router.{Router, OutVc, InVc, fresh}
-use Rattle.model.specs.History.{Entry, History, Offer, Departure, leftOn}
+use Rattle.model.specs.History.{History, Offer, Departure, leftOn}
 use Rattle.model.specs.Run.{Run, start}
 use Rattle.model.specs.Times.{acceptedIn, leftIn, reachedIn}
 use Rattle.model.specs.Demand3.{Demand3}
 use Rattle.model.proofs.Demand3.{demand3}
 use Rattle.model.proofs.Given.{Given, Bind, routerAfter, historyAfter}
-use Rattle.model.proofs.Test.{legals?, run-of}
+use Rattle.model.proofs.Test.{run-of}
 
 -- "A flit has a kind (1 head H, 2 body B, 3 tail T, 4 single S), a destination port and a .. payload."
 pub record Flit : Type 0 where

@@ -2,18 +2,17 @@
 -- Assumes nothing.
 use mathlib.Core.Path.{_≡_, refl, sym, ap, _∙_}
 use mathlib.Core.List.{List, [], _∷_, _++_, map, map-append, append-assoc}
-use Prim.Native.Nat.{ℕ, zero, suc, _+_, _-_, _≤_}
+use Prim.Native.Nat.{ℕ, zero, suc, _+_, _≤_}
 use native.Mathlib.Omega.{arith}
 use lib.Seq.{drop-nil}
 use lib.ListN.{length, length-append, length-map, take, drop, replicate}
 use Rattle.model.specs.Lists.{flat, total}
 use Rattle.model.specs.Line.{out, shift}
 use Rattle.model.specs.Sizes.{Config, Delayed}
-use Rattle.model.specs.Channel.{Channel, freshChannel, reaching, takenNow, queueNow, afterCycle, onWire, goingHome}
-use Rattle.model.specs.History.{Entry, History, Offer, Departure, Numbered, upTo, after, offersOn, departuresFrom, gather, accepted, leftFrom, flits}
+use Rattle.model.specs.Channel.{Channel, freshChannel, reaching, queueNow, afterCycle, onWire, goingHome}
+use Rattle.model.specs.History.{Entry, History, Offer, Departure, offersOn, departuresFrom, accepted, leftFrom, flits}
 use Rattle.model.proofs.Lists.{total-lengths}
 use Rattle.model.proofs.Lines.{lineOf, line-fresh, line-shift, line-flat, gather-out, gather-out-le, gather-split}
-use Rattle.model.proofs.Numbers.{after-newest, upTo-older}
 
 -- the flits accepted on VC v of input i in one cycle
 abbrev pub offersIn : {Flit : Type 0} → ℕ → ℕ → Entry Flit → List Flit

@@ -8,7 +8,7 @@ use lib.Dec.{eqb}
 use Rattle.model.specs.Sizes.{Config}
 use Rattle.model.specs.Flit.{Look}
 use Rattle.model.specs.Router.{Router, OutVc, InVc}
-use Rattle.model.specs.Cycle.{Event, Choice, Brought}
+use Rattle.model.specs.Cycle.{Event, Choice}
 use Rattle.model.specs.History.{History, Offer, same}
 use Rattle.model.specs.Step.{step, entry}
 

@@ -1,36 +1,35 @@
 -- What holds of every router and history that a run leads to, and that a cycle within the limits keeps it.
 -- Assumes nothing.
-use mathlib.Core.Path.{_≡_, refl, sym, ap, subst, _∙_}
-use mathlib.Core.Logic.{_≢_}
+use mathlib.Core.Path.{_≡_, refl, sym, ap, _∙_}
 use mathlib.Core.Bool.{Bool, true, false, cond, _&&_}
-use mathlib.Core.Option.{Option, none, some, IsSome, Option·none-ne-some, Option·some-injective}
-use mathlib.Core.List.{List, [], _∷_, _++_, map, append-assoc, append-nil, nil≢cons}
-use Prim.Native.Nat.{ℕ, zero, suc, _+_, _≤_, _<_}
-use native.Mathlib.Decide.{decLt}
+use mathlib.Core.Option.{Option, none, some, Option·none-ne-some}
+use mathlib.Core.List.{List, [], _∷_, _++_, append-assoc, append-nil}
+use Prim.Native.Nat.{ℕ}
 use native.Mathlib.Omega.{arith}
-use lib.Dec.{eqb}
 use lib.Seq.{take-nil}
-use lib.ListN.{length, drop, take, replicate}
+use lib.ListN.{length, drop}
 use Rattle.model.specs.Lists.{flat}
 use Rattle.model.specs.Line.{out, shift}
 use Rattle.model.specs.Sizes.{Config, Delayed}
 use Rattle.model.specs.Flit.{Look}
-use Rattle.model.specs.Channel.{Channel, freshChannel, queueNow, afterCycle, onWire}
+use Rattle.model.specs.Channel.{Channel, freshChannel, queueNow, onWire}
 use Rattle.model.specs.Router.{Router, OutVc, fresh}
-use Rattle.model.specs.Cycle.{Event, Choice, Brought}
+use Rattle.model.specs.Cycle.{Event, Choice}
 use Rattle.model.specs.History.{Entry, History, Departure, Numbered, accepted, leftFrom, leftOn, departuresFrom, departuresOn}
-use Rattle.model.specs.Phases.{onVc, offered, granted, boundNow, leaving, departure}
-use Rattle.model.specs.Step.{entry, step, openAfter, endsPacket, boundAfter}
-use Rattle.model.specs.Legal.{Legal, Asks, Free}
+use Rattle.model.specs.Phases.{offered, granted, boundNow, departure}
+use Rattle.model.specs.Step.{entry, step, openAfter, endsPacket}
+use Rattle.model.specs.Legal.{Legal, Free}
 use Rattle.model.specs.Run.{Run, start, accept}
 use Rattle.model.specs.Packets.{Whole, Packets, nothing, finished}
-use Rattle.model.specs.Demand3.{ByHeadsPort, FromOneSource}
-use Rattle.model.proofs.Lists.{eqb-true, flat-append}
+use Rattle.model.specs.Limits.{InRange}
+use Rattle.model.specs.Demand3.{FromOneSource}
+use Rattle.model.proofs.Lists.{flat-append}
 use Rattle.model.proofs.Lines.{line-flat}
+use Rattle.model.proofs.Cases.{inRange?, not-otherwise, offered-cases}
 use Rattle.model.proofs.Entries.{LeavesInside, entry-offers, entry-from, entry-on, entry-source}
 use Rattle.model.proofs.Flow.{Flow, offersIn, flow-fresh, flow-step, queueNow-le}
-use Rattle.model.proofs.Reading.{Reads, reads-append, isOpen, Reading}
-use Rattle.model.proofs.Place.{Place, Goes, goes-append, place-bind, leaving-front, place-cycle, output-cycle}
+use Rattle.model.proofs.Reading.{Reads, reads-append, isOpen}
+use Rattle.model.proofs.Place.{Place, goes-append, place-bind, leaving-front, place-cycle, output-cycle}
 
 -- what has left on an output VC
 abbrev pub onOutVc : {Flit : Type 0} → History Flit → OutVc → List (Departure Flit)
@@ -44,7 +43,7 @@ module _ {Flit : Type 0} (look : Look Flit) (c : Config) where
     pub alone : (i v j u : ℕ) (b : OutVc) → s .bound i v ≡ some b → s .bound j u ≡ some b → (i ≡ j) × (v ≡ u)
     pub outputs : (b : OutVc) → Packets look FromOneSource (onOutVc h b)
     pub idle : (b : OutVc) → Free s b → Whole look FromOneSource (onOutVc h b)
-    pub beyond : (i v : ℕ) → ¬ ((i < c .ports) × (v < c .vcs)) → accepted i v h ≡ []
+    pub beyond : (i v : ℕ) → ¬ InRange c i v → accepted i v h ≡ []
 
   pub inv-fresh : Inv (fresh c) []
   inv-fresh =
@@ -84,18 +83,12 @@ module _ {Flit : Type 0} (look : Look Flit) (c : Config) (delayed : Delayed c) (
 
   -- Nothing beyond the ports and VCs leaves: nothing was ever accepted there.
   pub leaves-inside : LeavesInside c s e k
-  leaves-inside i v l = go (decLt i (c .ports)) (decLt v (c .vcs))
-    where
-      none-there : ¬ ((i < c .ports) × (v < c .vcs)) → (i < c .ports) × (v < c .vcs)
-      none-there ne =
-          let q = queueNow-le c delayed (s .channel i v) h i v (inv .flow i v) now in
-          let z : length (accepted i v h) ≡ 0 = ap length (inv .beyond i v ne) in
-          absurd (omega (arith, legal .leavesFlit i v l))
-
-      go : Dec (i < c .ports) → Dec (v < c .vcs) → (i < c .ports) × (v < c .vcs)
-      go (yes p) (yes q) = (p, q)
-      go (yes p) (no q) = none-there (λ r. q (r .1))
-      go (no p) d = none-there (λ r. p (r .0))
+  leaves-inside i v l =
+      not-otherwise (inRange? c i v)
+      (λ out.
+      let q = queueNow-le c delayed (s .channel i v) h i v (inv .flow i v) now in
+      let z : length (accepted i v h) ≡ 0 = ap length (inv .beyond i v out) in
+      omega (arith, legal .leavesFlit i v l))
 
   -- the entry's offers and departures are what the step takes and lets leave
   pub now-offers : (i v : ℕ) → offersIn i v now ≡ offered e i v
@@ -119,15 +112,8 @@ module _ {Flit : Type 0} (look : Look Flit) (c : Config) (delayed : Delayed c) (
 
   -- The kinds that a sender offers are in order.
   kinds-in-order : (i v : ℕ) → Reads look (s .opened i v) (offered e i v) (openAfter look (s .opened i v) (offered e i v))
-  kinds-in-order i v = go (e .offer i) refl
-    where
-      go : (b : Option (Brought Flit)) → e .offer i ≡ b → Reads look (s .opened i v) (onVc v b) (openAfter look (s .opened i v) (onVc v b))
-      go none q = refl
-      go (some b) q = test (eqb (b .vc) v) refl
-        where
-          test : (t : Bool) → eqb (b .vc) v ≡ t → Reads look (s .opened i v) (cond t (b .flit ∷ []) []) (openAfter look (s .opened i v) (cond t (b .flit ∷ []) []))
-          test true t = (rw (eqb-true (b .vc) v t) at (legal .kinds i b q), refl)
-          test false t = refl
+  kinds-in-order i v =
+      offered-cases i v e (λ fs. Reads look (s .opened i v) fs (openAfter look (s .opened i v) fs)) refl (λ b q w. (rw w at (legal .kinds i b q), refl))
 
   -- One flit leaves from an input VC that is to leave, none from another.
   pub one-leaves : (i v : ℕ) → length (departure s k i v) ≡ cond (k .leaves i v) 1 0
@@ -203,16 +189,9 @@ module _ {Flit : Type 0} (look : Look Flit) (c : Config) (delayed : Delayed c) (
           rw (now-on i v b (from .3), l) (r .0, λ free. r .1 (rw l at (free i v)))
 
   -- Nothing is accepted beyond the ports and VCs.
-  beyond-after : (i v : ℕ) → ¬ ((i < c .ports) × (v < c .vcs)) → accepted i v (now ∷ h) ≡ []
-  beyond-after i v out = rw (now-offers i v, inv .beyond i v out) (go (e .offer i) refl)
-    where
-      go : (b : Option (Brought Flit)) → e .offer i ≡ b → onVc v b ≡ []
-      go none q = refl
-      go (some b) q = test (eqb (b .vc) v) refl
-        where
-          test : (t : Bool) → eqb (b .vc) v ≡ t → cond t (b .flit ∷ []) [] ≡ []
-          test true t = absurd (out (legal .offerPort i b q, rw (eqb-true (b .vc) v t) at (legal .offerVc i b q)))
-          test false t = refl
+  beyond-after : (i v : ℕ) → ¬ InRange c i v → accepted i v (now ∷ h) ≡ []
+  beyond-after i v out =
+      rw (now-offers i v, inv .beyond i v out) (offered-cases i v e (λ fs. fs ≡ []) refl (λ b q w. absurd (out (legal .offerPort i b q, rw w at (legal .offerVc i b q)))))
 
   pub inv-step : Inv look c after (now ∷ h)
   inv-step =

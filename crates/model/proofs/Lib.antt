@@ -1,6 +1,7 @@
 pub mod Lists
 pub mod Lines
 pub mod Numbers
+pub mod Cases
 pub mod Entries
 pub mod Flow
 pub mod Reading
@@ -11,7 +12,7 @@ pub mod Demand3
 pub mod Times
 pub mod Ranges
 pub mod OutCredits
-pub mod Once
+pub mod Limits
 pub mod Given
 pub mod Test
 pub mod Example

@@ -2,10 +2,10 @@
 -- Assumes nothing.
 use mathlib.Core.Path.{_≡_, refl, sym, ap, ap₂, fun-ext, subst, _∙_}
 use mathlib.Core.Logic.{_≢_}
-use mathlib.Core.Bool.{Bool, true, false, cond, _&&_}
+use mathlib.Core.Bool.{Bool, true, false, cond}
 use mathlib.Core.List.{List, [], _∷_, _++_, map, append-nil, append-assoc}
-use Prim.Native.Nat.{ℕ, zero, suc, _+_, _≤_, _<_}
-use native.Mathlib.Nat.{not-suc-le-zero, zero-add}
+use Prim.Native.Nat.{ℕ, zero, suc, _≤_, _<_}
+use native.Mathlib.Nat.{not-suc-le-zero}
 use native.Mathlib.Decide.{ℕ-discrete, decLt}
 use native.Mathlib.Omega.{arith}
 use lib.Dec.{T, eqb, eqb-refl, eqb→eq, leb, le→leb, leb→le}
@@ -37,11 +37,6 @@ pub leb-no : (m n : ℕ) → n < m → leb m n ≡ false
 leb-no m n l = failed (leb m n) (λ t. let q : m ≤ n = leb→le m n t in omega arith)
 
 module _ {A : Type 0} where
-  -- a list with nothing in it or with something in it
-  pub no-more : (xs : List A) → length xs ≡ 0 → xs ≡ []
-  no-more [] e = refl
-  no-more (x ∷ xs) e = absurd (omega arith)
-
   pub keep-append : (p : A → Bool) (xs ys : List A) → keep p (xs ++ ys) ≡ keep p xs ++ keep p ys
   keep-append p [] ys = refl
   keep-append p (x ∷ xs) ys = go (p x) (keep-append p xs ys)

@@ -1,12 +1,12 @@
 -- The cycles' numbers: "up to t−n" leaves out the newest n entries, and "after t−n" is those.
 -- Assumes nothing.
 use mathlib.Core.Path.{_≡_, refl, ap}
-use mathlib.Core.List.{List, [], _∷_}
+use mathlib.Core.List.{[], _∷_}
 use Prim.Native.Nat.{ℕ, zero, suc, _+_, _≤_}
 use native.Mathlib.Nat.{zero-add, add-suc, suc-add}
 use native.Mathlib.Omega.{arith}
 use lib.ListN.{take, drop}
-use Rattle.model.specs.History.{Entry, History, Numbered, upTo, after}
+use Rattle.model.specs.History.{History, Numbered, upTo, after}
 use Rattle.model.proofs.Lists.{leb-yes, leb-no}
 
 module _ {Flit : Type 0} where

@@ -1,11 +1,10 @@
 -- What follows about output credits: what left on an output VC is at most E ahead of the credits that came back for it.
 -- Assumes nothing.
-use mathlib.Core.Path.{_≡_, refl, sym, ap, subst, _∙_}
+use mathlib.Core.Path.{_≡_, refl, ap, _∙_}
 use mathlib.Core.Bool.{Bool, true, false, cond}
 use mathlib.Core.Option.{Option, none, some}
-use mathlib.Core.List.{List, [], _∷_, _++_}
-use Prim.Native.Nat.{ℕ, suc, _+_, _≤_, _<_}
-use native.Mathlib.Decide.{decLt}
+use mathlib.Core.List.{List, [], _∷_}
+use Prim.Native.Nat.{ℕ, _+_, _≤_, _<_}
 use native.Mathlib.Omega.{arith}
 use lib.Dec.{eqb}
 use lib.ListN.{length, length-append}
@@ -13,15 +12,16 @@ use Rattle.model.specs.Sizes.{Config, Delayed}
 use Rattle.model.specs.Flit.{Look}
 use Rattle.model.specs.Router.{Router, OutVc}
 use Rattle.model.specs.Cycle.{Event, Choice}
-use Rattle.model.specs.History.{Entry, History, Departure, departuresOn, leftOn}
-use Rattle.model.specs.Phases.{creditFor, outCreditNow, departure}
+use Rattle.model.specs.History.{History, Departure, departuresOn, leftOn}
+use Rattle.model.specs.Phases.{creditFor, outCreditNow}
 use Rattle.model.specs.Step.{entry, step}
 use Rattle.model.specs.Legal.{Legal}
 use Rattle.model.specs.Run.{Run, start, accept}
-use Rattle.model.specs.Limits.{InRange, OutputDemand, creditsFor, creditsOn}
+use Rattle.model.specs.Limits.{InRange, OutputCredits, creditsFor, creditsOn}
 use Rattle.model.proofs.Lists.{eqb-true}
+use Rattle.model.proofs.Cases.{inRange?, not-otherwise}
 use Rattle.model.proofs.Entries.{entry-source, entry-credits}
-use Rattle.model.proofs.Invariant.{Inv, inv-run, now-on, one-leaves}
+use Rattle.model.proofs.Invariant.{inv-run, now-on, one-leaves}
 use Rattle.model.proofs.Ranges.{nothing-left-beyond}
 
 module _ {Flit : Type 0} (look : Look Flit) (c : Config) (delayed : Delayed c) where
@@ -40,16 +40,9 @@ module _ {Flit : Type 0} (look : Look Flit) (c : Config) (delayed : Delayed c) w
             omega (arith, legal .leavesCredit (r .0) (r .1) b (r .2) (r .3))
 
     -- A credit comes back only for an output VC that something has left on, so only for one in range.
-    pub credit-in-range : ((o w : ℕ) → OutputDemand c s h o w) → (o w : ℕ) → e .credit o ≡ some w → InRange c o w
-    credit-in-range before o w q = go (decLt o (c .ports)) (decLt w (c .vcs))
-      where
-        none-beyond : ¬ InRange c o w → InRange c o w
-        none-beyond out = absurd (omega (arith, legal .room o w q, before o w .sum, ap length (nothing-left-beyond look c delayed run o w out)))
-
-        go : Dec (o < c .ports) → Dec (w < c .vcs) → InRange c o w
-        go (yes p) (yes q) = (p, q)
-        go (yes p) (no q) = none-beyond (λ r. q (r .1))
-        go (no p) d = none-beyond (λ r. p (r .0))
+    pub credit-in-range : ((o w : ℕ) → OutputCredits c s h o w) → (o w : ℕ) → e .credit o ≡ some w → InRange c o w
+    credit-in-range before o w q =
+        not-otherwise (inRange? c o w) (λ out. omega (arith, legal .room o w q, before o w .sum, ap length (nothing-left-beyond look c delayed run o w out)))
 
     credit-fits : (o w : ℕ) → s .outCredit o w ≤ c .downstream → outCreditNow s e o w ≤ c .downstream
     credit-fits o w fits = go (e .credit o) refl
@@ -62,7 +55,7 @@ module _ {Flit : Type 0} (look : Look Flit) (c : Config) (delayed : Delayed c) w
             test true t = let room : s .outCredit o w < c .downstream = rw (eqb-true u w t) at (legal .room o u q) in omega arith
             test false t = omega arith
 
-    out-step : ((o w : ℕ) → OutputDemand c s h o w) → (o w : ℕ) → OutputDemand c (step look c s e k) (entry c s e k ∷ h) o w
+    out-step : ((o w : ℕ) → OutputCredits c s h o w) → (o w : ℕ) → OutputCredits c (step look c s e k) (entry c s e k ∷ h) o w
     out-step before o w =
         let b = before o w in
         let credits = entry-credits c s e k (λ p u q. credit-in-range before p u q .0) o w in
@@ -71,6 +64,6 @@ module _ {Flit : Type 0} (look : Look Flit) (c : Config) (delayed : Delayed c) w
           fits = omega (arith, credit-fits o w (b .fits));
         }
 
-  pub output-credits : {s : Router Flit} {h : History Flit} → Run look c s h → (o w : ℕ) → OutputDemand c s h o w
+  pub output-credits : {s : Router Flit} {h : History Flit} → Run look c s h → (o w : ℕ) → OutputCredits c s h o w
   output-credits start o w = record { sum = refl; fits = omega arith }
   output-credits (accept run e k legal) o w = out-step run e k legal (λ p u. output-credits run p u) o w

@@ -16,6 +16,7 @@ use Rattle.model.specs.Step.{boundAfter}
 use Rattle.model.specs.Legal.{Asks}
 use Rattle.model.specs.Packets.{Whole, Packets}
 use Rattle.model.specs.Demand3.{ByHeadsPort, FromOneSource}
+use Rattle.model.proofs.Cases.{gone}
 use Rattle.model.proofs.Reading.{Reads, isOpen, headOf, Reading, read-on, reading-packets}
 
 module _ {Flit : Type 0} (look : Look Flit) (i v : ℕ) where
@@ -62,44 +63,44 @@ module _ {Flit : Type 0} (look : Look Flit) (i v : ℕ) where
 
   module _ (b : OutVc) (f : Flit) where
     -- the front flit as it leaves by b
-    abbrev pub gone : Departure Flit
-    gone = record { output = b .output; outVc = b .vc; input = i; vc = v; flit = f }
+    abbrev front : Departure Flit
+    front = gone i v b f
 
     -- it belongs to a packet whose head named that output and came from here
-    gone-fits : (h : Option (Departure Flit)) (q : List Flit) → Goes (some b) h (f ∷ q) → (look .port ((headOf h gone) .flit) ≡ b .output) × ((headOf h gone) .input ≡ i) × ((headOf h gone) .vc ≡ v)
-    gone-fits none q g = (g .1, refl, refl)
-    gone-fits (some h) q g = g
+    front-fits : (h : Option (Departure Flit)) (q : List Flit) → Goes (some b) h (f ∷ q) → (look .port ((headOf h front) .flit) ≡ b .output) × ((headOf h front) .input ≡ i) × ((headOf h front) .vc ≡ v)
+    front-fits none q g = (g .1, refl, refl)
+    front-fits (some h) q g = g
 
     -- The front flit of a bound input VC leaves: the VC's packets and the output VC's packets go on alike ..
     module _ {q later : List Flit} {opened : Bool} {from : List (Departure Flit)} {on : OutVc → List (Departure Flit)} (p : Place (some b) (f ∷ q) later opened from on) where
       abbrev pub insideAfter : Option (Departure Flit)
-      insideAfter = cond (look .ends f) none (some (headOf (p .inside) gone))
+      insideAfter = cond (look .ends f) none (some (headOf (p .inside) front))
 
-      pub output-reads : Reading look FromOneSource insideAfter (on b ++ (gone ∷ []))
+      pub output-reads : Reading look FromOneSource insideAfter (on b ++ (front ∷ []))
       output-reads =
-          let fits = gone-fits (p .inside) q (p .goes) in
-          read-on look FromOneSource (p .inside) (on b) gone (p .onOutput b refl) (p .reads .0) (sym (fits .1), sym (fits .2))
+          let fits = front-fits (p .inside) q (p .goes) in
+          read-on look FromOneSource (p .inside) (on b) front (p .onOutput b refl) (p .reads .0) (sym (fits .1), sym (fits .2))
 
       -- .. and its tail unbinds.
-      pub place-leave : (after : OutVc → List (Departure Flit)) → after b ≡ on b ++ (gone ∷ []) → Place (cond (look .ends f) none (some b)) q later opened (from ++ (gone ∷ [])) after
+      pub place-leave : (after : OutVc → List (Departure Flit)) → after b ≡ on b ++ (front ∷ []) → Place (cond (look .ends f) none (some b)) q later opened (from ++ (front ∷ [])) after
       place-leave after e =
           record {
             inside = insideAfter;
-            goes = goes (look .ends f) (p .inside) (gone-fits (p .inside) q (p .goes));
+            goes = goes (look .ends f) (p .inside) (front-fits (p .inside) q (p .goes));
             reads = reads (look .ends f) (p .inside) (p .reads .1);
-            left = read-on look (ByHeadsPort look) (p .inside) from gone (p .left) (p .reads .0) (sym (gone-fits (p .inside) q (p .goes) .0));
+            left = read-on look (ByHeadsPort look) (p .inside) from front (p .left) (p .reads .0) (sym (front-fits (p .inside) q (p .goes) .0));
             onOutput = λ a r. out a (look .ends f) r output-reads;
           }
         where
-          goes : (t : Bool) (h : Option (Departure Flit)) → (look .port ((headOf h gone) .flit) ≡ b .output) × ((headOf h gone) .input ≡ i) × ((headOf h gone) .vc ≡ v) → Goes (cond t none (some b)) (cond t none (some (headOf h gone))) q
+          goes : (t : Bool) (h : Option (Departure Flit)) → (look .port ((headOf h front) .flit) ≡ b .output) × ((headOf h front) .input ≡ i) × ((headOf h front) .vc ≡ v) → Goes (cond t none (some b)) (cond t none (some (headOf h front))) q
           goes true h g = tt
           goes false h g = g
 
-          reads : (t : Bool) (h : Option (Departure Flit)) → Reads look (not t) (q ++ later) opened → Reads look (isOpen (cond t none (some (headOf h gone)))) (q ++ later) opened
+          reads : (t : Bool) (h : Option (Departure Flit)) → Reads look (not t) (q ++ later) opened → Reads look (isOpen (cond t none (some (headOf h front)))) (q ++ later) opened
           reads true h r = r
           reads false h r = r
 
-          out : (a : OutVc) (t : Bool) → cond t none (some b) ≡ some a → Reading look FromOneSource insideAfter (on b ++ (gone ∷ [])) → Reading look FromOneSource insideAfter (after a)
+          out : (a : OutVc) (t : Bool) → cond t none (some b) ≡ some a → Reading look FromOneSource insideAfter (on b ++ (front ∷ [])) → Reading look FromOneSource insideAfter (after a)
           out a true r w = absurd (Option·none-ne-some a r)
           out a false r w = rw (← Option·some-injective b a r, e) w
 
@@ -130,8 +131,8 @@ module _ {Flit : Type 0} (look : Look Flit) (i v : ℕ) where
     output-cycle none q a e flit p = absurd (Option·none-ne-some a e)
     output-cycle (some b) [] a e flit p = absurd (omega arith)
     output-cycle (some b) (f ∷ q) a e flit p =
-        rw (← Option·some-injective b a e) (reading-packets look FromOneSource (insideAfter b f p) (on b ++ (gone b f ∷ [])) (output-reads b f p), λ ne. go (look .ends f) ne (output-reads b f p))
+        rw (← Option·some-injective b a e) (reading-packets look FromOneSource (insideAfter b f p) (on b ++ (gone i v b f ∷ [])) (output-reads b f p), λ ne. go (look .ends f) ne (output-reads b f p))
       where
-        go : (t : Bool) → cond t none (some b) ≢ some b → Reading look FromOneSource (cond t none (some (headOf (p .inside) (gone b f)))) (on b ++ (gone b f ∷ [])) → Whole look FromOneSource (on b ++ (gone b f ∷ []))
+        go : (t : Bool) → cond t none (some b) ≢ some b → Reading look FromOneSource (cond t none (some (headOf (p .inside) (gone i v b f)))) (on b ++ (gone i v b f ∷ [])) → Whole look FromOneSource (on b ++ (gone i v b f ∷ []))
         go true ne w = w
         go false ne w = absurd (ne refl)

@@ -1,27 +1,27 @@
 -- What follows about ports and VCs: nothing is ever held beyond the ranges, and no binding or departure names anything beyond them.
 -- Assumes nothing.
-use mathlib.Core.Path.{_≡_, refl, sym, ap, subst, _∙_}
+use mathlib.Core.Path.{_≡_, refl, ap, _∙_}
 use mathlib.Core.Logic.{_≢_}
-use mathlib.Core.Bool.{Bool, true, false, cond}
-use mathlib.Core.Option.{Option, none, some, Option·none-ne-some, Option·some-injective}
+use mathlib.Core.Bool.{true}
+use mathlib.Core.Option.{Option, none, some, Option·none-ne-some}
 use mathlib.Core.List.{List, [], _∷_, _++_, append-assoc}
-use Prim.Native.Nat.{ℕ, _+_, _<_}
+use Prim.Native.Nat.{ℕ, _<_}
 use native.Mathlib.Omega.{arith}
-use lib.Dec.{eqb}
 use lib.ListN.{length, drop}
 use Rattle.model.specs.Lists.{All, flat}
 use Rattle.model.specs.Sizes.{Config, Delayed}
 use Rattle.model.specs.Flit.{Look}
-use Rattle.model.specs.Channel.{Channel, queueNow, onWire}
+use Rattle.model.specs.Channel.{queueNow, onWire}
 use Rattle.model.specs.Router.{Router, OutVc}
-use Rattle.model.specs.Cycle.{Event, Choice, Brought}
-use Rattle.model.specs.History.{Entry, History, Departure, departuresOn, accepted, leftFrom, leftOn, flits}
-use Rattle.model.specs.Phases.{onVc, offered, granted, boundNow}
+use Rattle.model.specs.Cycle.{Event, Choice}
+use Rattle.model.specs.History.{History, Departure, departuresOn, accepted, leftFrom, leftOn, flits}
+use Rattle.model.specs.Phases.{offered, granted, boundNow}
 use Rattle.model.specs.Step.{entry}
 use Rattle.model.specs.Legal.{Legal, Asks}
 use Rattle.model.specs.Run.{Run, start, accept}
 use Rattle.model.specs.Limits.{InRange}
 use Rattle.model.proofs.Lists.{all-append, all-left, all-right}
+use Rattle.model.proofs.Cases.{offered-cases}
 use Rattle.model.proofs.Entries.{entry-source}
 use Rattle.model.proofs.Flow.{queueNow-le, all-in-order}
 use Rattle.model.proofs.Invariant.{Inv, inv-run, still-held, now-offers, bound-before}
@@ -59,15 +59,7 @@ module _ {Flit : Type 0} (look : Look Flit) (c : Config) (delayed : Delayed c) w
   Routed f = look .starts f ≡ true → look .port f < c .ports
 
   offered-routed : (s : Router Flit) (e : Event Flit) (k : Choice) → Legal look c s e k → (i v : ℕ) → All Routed (offered e i v)
-  offered-routed s e k legal i v = go (e .offer i) refl
-    where
-      go : (b : Option (Brought Flit)) → e .offer i ≡ b → All Routed (onVc v b)
-      go none q = tt
-      go (some b) q = test (eqb (b .vc) v)
-        where
-          test : (t : Bool) → All Routed (cond t (b .flit ∷ []) [])
-          test true = (legal .offerDestination i b q, tt)
-          test false = tt
+  offered-routed s e k legal i v = offered-cases i v e (All Routed) tt (λ b q w. (legal .offerDestination i b q, tt))
 
   accepted-routed : {s : Router Flit} {h : History Flit} → Run look c s h → (i v : ℕ) → All Routed (accepted i v h)
   accepted-routed start i v = tt

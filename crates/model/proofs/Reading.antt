@@ -1,13 +1,12 @@
 -- Reading flits as packets, one flit at a time.
 -- Assumes nothing.
-use mathlib.Core.Path.{_≡_, refl, sym, ap, subst, _∙_}
+use mathlib.Core.Path.{_≡_, refl}
 use mathlib.Core.Bool.{Bool, true, false, cond, not}
 use mathlib.Core.Option.{Option, none, some}
 use mathlib.Core.List.{List, [], _∷_, _++_, append-assoc}
 use Rattle.model.specs.Flit.{Look}
 use Rattle.model.specs.History.{Departure}
-use Rattle.model.specs.Packets.{Begun, Packet, Whole, Packets, head, body, single, tail, nothing, next, finished, unfinished}
-use Rattle.model.specs.Step.{openAfter}
+use Rattle.model.specs.Packets.{Begun, Whole, Packets, head, body, single, tail, next, finished, unfinished}
 
 module _ {Flit : Type 0} (look : Look Flit) where
   -- flits whose kinds are in order, read from where a packet is open or not (`a`) to where one is open or not (`b`)

@@ -1,12 +1,12 @@
 -- A test of `Legal` that computes, for cycles given by value.
 -- Assumes nothing.
-use mathlib.Core.Path.{_≡_, refl, sym, ap, subst, subst₂, _∙_}
+use mathlib.Core.Path.{_≡_, refl, ap, subst, subst₂}
 use mathlib.Core.Logic.{_≢_}
 use mathlib.Core.Bool.{Bool, true, false, cond, not, _&&_, Bool·beq}
 use mathlib.Core.Option.{Option, none, some, IsSome, Option·map, Option·none-ne-some, Option·some-injective}
 use mathlib.Core.List.{List, [], _∷_}
 use Prim.Native.Nat.{ℕ, zero, suc, _<_}
-use native.Mathlib.Decide.{decLt, ℕ-discrete}
+use native.Mathlib.Decide.{ℕ-discrete}
 use native.Mathlib.Omega.{arith}
 use lib.Dec.{T, ltb, ltb→lt, eqb}
 use lib.ListN.{length, getD}
@@ -19,9 +19,10 @@ use Rattle.model.specs.History.{History, Offer, same}
 use Rattle.model.specs.Phases.{boundNow, outCreditNow}
 use Rattle.model.specs.Step.{step, entry}
 use Rattle.model.specs.Legal.{Legal, Asks, Free}
-use Rattle.model.specs.Run.{Run, start, accept}
+use Rattle.model.specs.Run.{Run, accept}
 use Rattle.model.specs.Limits.{InRange}
 use Rattle.model.proofs.Lists.{passed, eqb-true, eqb-same}
+use Rattle.model.proofs.Cases.{inRange?}
 use Rattle.model.proofs.Entries.{same-own, same-true}
 use Rattle.model.proofs.Ranges.{bound-inside}
 use Rattle.model.proofs.Given.{Given, Bind, find, isSome, eventOf, choiceOf, routerAfter, historyAfter}
@@ -184,12 +185,11 @@ module _ {Flit : Type 0} (look : Look Flit) (c : Config) (s : Router Flit) (g : 
 
   -- no input VC in range is bound to an output VC that passes, and none beyond is bound
   free-all : Delayed c → {h : History Flit} → Run look c s h → (b : OutVc) → T (below (c .ports) (λ i. below (c .vcs) (λ v. elsewhere (s .bound i v) b))) → Free s b
-  free-all delayed run b t i v = go (decLt i (c .ports)) (decLt v (c .vcs))
+  free-all delayed run b t i v = go (inRange? c i v)
     where
-      go : Dec (i < c .ports) → Dec (v < c .vcs) → s .bound i v ≢ some b
-      go (yes p) (yes q) = is-elsewhere (s .bound i v) b (below-at (c .vcs) (λ v. elsewhere (s .bound i v) b) (below-at (c .ports) (λ i. below (c .vcs) (λ v. elsewhere (s .bound i v) b)) t i p) v q)
-      go (yes p) (no q) = bound-inside look c delayed run i v b (λ r. q (r .1))
-      go (no p) d = bound-inside look c delayed run i v b (λ r. p (r .0))
+      go : Dec (InRange c i v) → s .bound i v ≢ some b
+      go (yes r) = is-elsewhere (s .bound i v) b (below-at (c .vcs) (λ u. elsewhere (s .bound i u) b) (below-at (c .ports) (λ j. below (c .vcs) (λ u. elsewhere (s .bound j u) b)) t i (r .0)) v (r .1))
+      go (no out) = bound-inside look c delayed run i v b out
 
   -- of two that are named, both at one output, or both from one input
   binds-one : T legal? → (i v j u : ℕ) (a b : OutVc) → (k g) .grant i v ≡ some a → (k g) .grant j u ≡ some b → a .output ≡ b .output → (i ≡ j) × (v ≡ u)
@@ -229,7 +229,7 @@ module _ {Flit : Type 0} (look : Look Flit) (c : Config) (s : Router Flit) (g : 
         leavesFlit = λ i v q. omega (arith, ltb→lt 0 (length (queueNow (s .channel i v))) (leaves-pass g (λ i v. ltb 0 (length (queueNow (s .channel i v)))) (nth tests t 12) i v q));
         leavesCredit = λ i v b q bound. omega (arith, ltb→lt 0 (outCreditNow s (e g) (b .output) (b .vc)) (rw bound at (leaves-pass g (λ i v. paid? (bound? i v)) (nth tests t 13) i v q)));
         inputOnce = λ i v u p q. omega (arith, input-one t i v u p q);
-        outputOnce = λ i v j u a b p q x y o. let one = output-one t i v j u a b p q x y o in (omega (arith, one), omega (arith, one))
+        outputOnce = λ i v j u a b p q x y o. let one = output-one t i v j u a b p q x y o in (omega (arith, one), omega (arith, one));
       }
 
 -- Cycles that pass one after another, from a router after a run, make a run.

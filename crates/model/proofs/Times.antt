@@ -1,8 +1,7 @@
 -- What follows about times: no flit leaves before its cycle + F, and a credit is home B cycles after its flit left.
 -- Assumes nothing.
-use mathlib.Core.Path.{_≡_, refl, sym, ap, subst, _∙_}
+use mathlib.Core.Path.{_≡_, refl, ap, _∙_}
 use mathlib.Core.Bool.{Bool, true, false, cond}
-use mathlib.Core.Option.{Option, none, some}
 use mathlib.Core.List.{List, [], _∷_, _++_, map, map-append, append-nil}
 use Prim.Native.Nat.{ℕ, zero, suc, _+_, _≤_, _<_}
 use native.Mathlib.Nat.{add-suc, suc-add, zero-add}
@@ -10,24 +9,23 @@ use native.Mathlib.Omega.{arith}
 use lib.Dec.{leb, leb→le}
 use lib.Seq.{append-snoc, drop-nil}
 use lib.ListN.{length, length-append, length-map, take, drop, replicate}
-use Rattle.model.specs.Lists.{keep, All}
+use Rattle.model.specs.Lists.{All}
 use Rattle.model.specs.Line.{out}
 use Rattle.model.specs.Sizes.{Config, Delayed}
 use Rattle.model.specs.Flit.{Look}
-use Rattle.model.specs.Channel.{Channel, reaching}
+use Rattle.model.specs.Channel.{reaching}
 use Rattle.model.specs.Router.{Router, InVc}
 use Rattle.model.specs.Cycle.{Event, Choice}
-use Rattle.model.specs.History.{Entry, History, Offer, Departure, Numbered, upTo, offersOn, departuresFrom, gather, accepted, leftFrom, flits}
+use Rattle.model.specs.History.{Entry, History, Offer, Departure, Numbered, upTo, offersOn, departuresFrom, accepted, leftFrom}
 use Rattle.model.specs.Step.{entry, step}
-use Rattle.model.specs.Legal.{Legal}
 use Rattle.model.specs.Run.{Run, start, accept}
 use Rattle.model.specs.Times.{Later, reachedFor, acceptedIn, leftIn, reachedIn}
 use Rattle.model.proofs.Lists.{all-append}
 use Rattle.model.proofs.Lines.{lineOf, back, line-out, gather-out, gather-split}
 use Rattle.model.proofs.Numbers.{upTo-older}
 use Rattle.model.proofs.Entries.{entry-reached}
-use Rattle.model.proofs.Flow.{Flow, offersIn, queue-older, reaching-is, reaching-taken}
-use Rattle.model.proofs.Invariant.{Inv, inv-run, inv-step}
+use Rattle.model.proofs.Flow.{queue-older, reaching-is, reaching-taken}
+use Rattle.model.proofs.Invariant.{Inv, inv-run}
 
 -- Laws of `Later`: with more first times, with second times from now, with fewer second times, with all second times m later.
 later-more : (n : ℕ) (firsts seconds more : List ℕ) → Later n firsts seconds → Later n (firsts ++ more) seconds

@@ -1,6 +1,6 @@
 -- One VC of one input: its sender's count, its wire, its queue, its credits on the way home.
 -- Assumes nothing.
-use mathlib.Core.List.{List, [], _∷_, _++_}
+use mathlib.Core.List.{List, [], _++_}
 use Prim.Native.Nat.{ℕ, _+_, _-_}
 use lib.ListN.{length, drop, replicate}
 use Rattle.model.specs.Lists.{flat, total}

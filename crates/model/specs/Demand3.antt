@@ -1,7 +1,7 @@
 -- Demand 3, sentence by sentence, of a router s after cycle t and its history h.
 -- Assumes nothing.
 use mathlib.Core.Path.{_≡_}
-use mathlib.Core.List.{List, _++_}
+use mathlib.Core.List.{_++_}
 use Prim.Native.Nat.{ℕ, suc, _+_, _<_}
 use lib.ListN.{length}
 use Rattle.model.specs.Sizes.{Config}
@@ -29,6 +29,8 @@ pub record InputDemand {Flit : Type 0} (look : Look Flit) (c : Config) (ch : Cha
   pub home : goingHome ch ≡ length (leftFrom i v (after t (c .back) h))
   -- "stored credits, D less its offers up to t plus its departures up to t−B"
   pub credits : stored c ch + length (accepted i v (upTo t 0 h)) ≡ c .depth + length (leftFrom i v (upTo t (c .back) h))
+  -- the stored credits are D less the slots that the sender has taken
+  pub slots : stored c ch + ch .taken ≡ c .depth
   -- ".. and together make the depth."
   pub depth : stored c ch + length (onWire ch) + length (ch .queue) + goingHome ch ≡ c .depth
   -- "The flits that left from that channel, then those buffered, then those on the wire, are exactly the flits accepted on it, in order"

@@ -15,7 +15,7 @@ use Rattle.model.specs.Cycle.{Event, Choice, Brought}
 use Rattle.model.specs.Phases.{boundNow, outCreditNow}
 use Rattle.model.specs.Send.{maySend}
 
--- "An unbound one whose front flit is H or S asks at its destination" (01, phase 5). A front that is neither does not occur: `front-starts` of proofs/Once.
+-- "An unbound one whose front flit is H or S asks at its destination" (01, phase 5). A front that is neither does not occur: `front-starts` of proofs/Limits.
 abbrev pub Asks : {Flit : Type 0} → Look Flit → List Flit → ℕ → Type 0
 Asks look [] o = ⊥
 Asks look (f ∷ q) o = (look .starts f ≡ true) × (look .port f ≡ o)

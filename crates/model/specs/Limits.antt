@@ -36,6 +36,6 @@ creditsOn o w h = gather (creditsFor o w) h
 
 -- "Downstream depth E .. per output VC", "Each credit from downstream raises the named output VC's credit by one", "Each winner .. costs one output credit":
 -- what left on VC w of output o is as far ahead of the credits that came back for it as its credit is below E.
-pub record OutputDemand {Flit : Type 0} (c : Config) (s : Router Flit) (h : History Flit) (o w : ℕ) : Type 0 where
+pub record OutputCredits {Flit : Type 0} (c : Config) (s : Router Flit) (h : History Flit) (o w : ℕ) : Type 0 where
   pub sum : s .outCredit o w + length (leftOn o w h) ≡ c .downstream + length (creditsOn o w h)
   pub fits : s .outCredit o w ≤ c .downstream

@@ -9,7 +9,7 @@ use Rattle.model.specs.Lists.{each}
 use Rattle.model.specs.Sizes.{Config}
 use Rattle.model.specs.Flit.{Look}
 use Rattle.model.specs.Channel.{reaching, queueNow, afterCycle}
-use Rattle.model.specs.Router.{Router, OutVc, InVc}
+use Rattle.model.specs.Router.{Router, OutVc}
 use Rattle.model.specs.Cycle.{Event, Choice, Brought}
 use Rattle.model.specs.History.{Offer, Entry, departuresOn}
 use Rattle.model.specs.Phases.{offered, outCreditNow, boundNow, departure}

@@ -1,8 +1,7 @@
 -- What follows about a cycle's limits: at most one flit leaves each input and each output, each output binds at most one, and every name is in range.
 -- Assumes nothing.
-use mathlib.Core.Path.{_≡_, refl, sym, ap, _∙_}
-use mathlib.Core.Logic.{_≢_}
-use mathlib.Core.Bool.{Bool, true, false, cond, false≢true}
+use mathlib.Core.Path.{_≡_, refl, sym, _∙_}
+use mathlib.Core.Bool.{Bool, true, false, cond}
 use mathlib.Core.Option.{Option, none, some, Option·none-ne-some}
 use mathlib.Core.List.{List, [], _∷_, _++_}
 use Prim.Native.Nat.{ℕ, zero, suc, _≤_, _<_}
@@ -15,13 +14,14 @@ use Rattle.model.specs.Flit.{Look}
 use Rattle.model.specs.Channel.{reaching, queueNow}
 use Rattle.model.specs.Router.{Router, OutVc, InVc}
 use Rattle.model.specs.Cycle.{Event, Choice, Brought}
-use Rattle.model.specs.History.{Entry, History, Offer, Departure}
+use Rattle.model.specs.History.{History, Offer, Departure}
 use Rattle.model.specs.Phases.{granted, boundNow, leaving, departure}
 use Rattle.model.specs.Step.{entry, offersAt, creditsAt}
 use Rattle.model.specs.Legal.{Legal}
 use Rattle.model.specs.Run.{Run, start, accept}
 use Rattle.model.specs.Limits.{InRange, NamesInRange, OncePerPort}
 use Rattle.model.proofs.Lists.{eqb-true, keep-grid, grid-le-one, all-each}
+use Rattle.model.proofs.Cases.{gone, leaving-cases}
 use Rattle.model.proofs.Reading.{Reads, isOpen}
 use Rattle.model.proofs.Place.{Goes}
 use Rattle.model.proofs.Invariant.{inv-run, still-held, alone-now}
@@ -29,27 +29,22 @@ use Rattle.model.proofs.Ranges.{binds-in-range}
 use Rattle.model.proofs.OutCredits.{output-credits, credit-in-range}
 
 module _ {Flit : Type 0} where
-  -- at most one flit leaves from an input VC, and what a test keeps of it passes the test
+  -- at most one flit leaves from an input VC
   kept-le-one : (p : Departure Flit → Bool) (i v : ℕ) (l : Bool) (b : Option OutVc) (q : List Flit) → length (keep p (leaving i v l b q)) ≤ 1
-  kept-le-one p i v false b q = omega arith
-  kept-le-one p i v true none q = omega arith
-  kept-le-one p i v true (some b) [] = omega arith
-  kept-le-one p i v true (some b) (f ∷ q) = go (p (record { output = b .output; outVc = b .vc; input = i; vc = v; flit = f }))
+  kept-le-one p i v l b q = leaving-cases i v (λ ds. length (keep p ds) ≤ 1) l b q (omega arith) (λ a f x y. go (p (gone i v a f)) a f)
     where
-      go : (t : Bool) → length {A = Departure Flit} (cond t (record { output = b .output; outVc = b .vc; input = i; vc = v; flit = f } ∷ []) []) ≤ 1
-      go true = omega arith
-      go false = omega arith
+      go : (t : Bool) (a : OutVc) (f : Flit) → length (cond t (gone i v a f ∷ []) []) ≤ 1
+      go true a f = omega arith
+      go false a f = omega arith
 
-  -- what is kept left: from an input VC that is to leave, by what it is bound to
+  -- what is kept of it left from an input VC that is to leave, by what that is bound to
   kept-left : (p : ℕ → ℕ → Bool) (i v : ℕ) (l : Bool) (b : Option OutVc) (q : List Flit) → 0 < length (keep (λ (d : Departure Flit). p (d .input) (d .output)) (leaving i v l b q)) → (l ≡ true) × (a : OutVc) × (b ≡ some a) × (p i (a .output) ≡ true)
-  kept-left p i v false b q k = absurd (omega arith)
-  kept-left p i v true none q k = absurd (omega arith)
-  kept-left p i v true (some b) [] k = absurd (omega arith)
-  kept-left p i v true (some b) (f ∷ q) k = (refl, b, refl, go (p i (b .output)) k)
+  kept-left p i v l b q =
+      leaving-cases i v (λ ds. 0 < length (keep (λ (d : Departure Flit). p (d .input) (d .output)) ds) → (l ≡ true) × (a : OutVc) × (b ≡ some a) × (p i (a .output) ≡ true)) l b q (λ k. absurd (omega arith)) (λ a f x y k. (x, a, y, go (p i (a .output)) a f k))
     where
-      go : (t : Bool) → 0 < length {A = Departure Flit} (cond t (record { output = b .output; outVc = b .vc; input = i; vc = v; flit = f } ∷ []) []) → t ≡ true
-      go true k = refl
-      go false k = absurd (omega arith)
+      go : (t : Bool) (a : OutVc) (f : Flit) → 0 < length (cond t (gone i v a f ∷ []) []) → t ≡ true
+      go true a f k = refl
+      go false a f k = absurd (omega arith)
 
 module _ {Flit : Type 0} (look : Look Flit) (c : Config) where
   module _ (s : Router Flit) (e : Event Flit) (k : Choice) (legal : Legal look c s e k) where
@@ -120,8 +115,8 @@ module _ {Flit : Type 0} (look : Look Flit) (c : Config) where
       names-now =
           record {
             offers = all-each _ (c .ports) (λ i. offersAt i (e .offer i)) (λ i l. offer i l (e .offer i) refl);
-            sources = all-each _ (c .ports) (λ i. each (c .vcs) (departure s k i)) (λ i l. all-each _ (c .vcs) (departure s k i) (λ v m. source i v l m (k .leaves i v) (boundNow s k i v) (queueNow (s .channel i v))));
-            outputs = all-each _ (c .ports) (λ i. each (c .vcs) (departure s k i)) (λ i l. all-each _ (c .vcs) (departure s k i) (λ v m. output i v (k .leaves i v) (boundNow s k i v) refl (queueNow (s .channel i v))));
+            sources = all-each _ (c .ports) (λ i. each (c .vcs) (departure s k i)) (λ i l. all-each _ (c .vcs) (departure s k i) (λ v m. source i v l m));
+            outputs = all-each _ (c .ports) (λ i. each (c .vcs) (departure s k i)) (λ i l. all-each _ (c .vcs) (departure s k i) (λ v m. output i v));
             reached = all-each _ (c .ports) (λ i. each (c .vcs) (λ v. replicate (reaching (s .channel i v)) (record { input = i; vc = v }))) (λ i l. all-each _ (c .vcs) (λ v. replicate (reaching (s .channel i v)) (record { input = i; vc = v })) (λ v m. home i v l m (reaching (s .channel i v))));
             credits = all-each _ (c .ports) (λ o. creditsAt o (e .credit o)) (λ o l. credit o (e .credit o) refl);
           }
@@ -130,17 +125,11 @@ module _ {Flit : Type 0} (look : Look Flit) (c : Config) where
           offer i l none q = tt
           offer i l (some b) q = ((l, legal .offerVc i b q), tt)
 
-          source : (i v : ℕ) → i < c .ports → v < c .vcs → (l : Bool) (b : Option OutVc) (q : List Flit) → All (λ (d : Departure Flit). InRange c (d .input) (d .vc)) (leaving i v l b q)
-          source i v l m false b q = tt
-          source i v l m true none q = tt
-          source i v l m true (some b) [] = tt
-          source i v l m true (some b) (f ∷ q) = ((l, m), tt)
+          source : (i v : ℕ) → i < c .ports → v < c .vcs → All (λ (d : Departure Flit). InRange c (d .input) (d .vc)) (departure s k i v)
+          source i v l m = leaving-cases i v (All (λ (d : Departure Flit). InRange c (d .input) (d .vc))) (k .leaves i v) (boundNow s k i v) (queueNow (s .channel i v)) tt (λ a f x y. ((l, m), tt))
 
-          output : (i v : ℕ) (l : Bool) (b : Option OutVc) → boundNow s k i v ≡ b → (q : List Flit) → All (λ (d : Departure Flit). InRange c (d .output) (d .outVc)) (leaving i v l b q)
-          output i v false b p q = tt
-          output i v true none p q = tt
-          output i v true (some b) p [] = tt
-          output i v true (some b) p (f ∷ q) = (binds-in-range look c delayed run e k legal i v b p, tt)
+          output : (i v : ℕ) → All (λ (d : Departure Flit). InRange c (d .output) (d .outVc)) (departure s k i v)
+          output i v = leaving-cases i v (All (λ (d : Departure Flit). InRange c (d .output) (d .outVc))) (k .leaves i v) (boundNow s k i v) (queueNow (s .channel i v)) tt (λ a f x y. (binds-in-range look c delayed run e k legal i v a y, tt))
 
           home : (i v : ℕ) → i < c .ports → v < c .vcs → (n : ℕ) → All (λ (r : InVc). InRange c (r .input) (r .vc)) (replicate n (record { input = i; vc = v }))
           home i v l m zero = tt
