@@ -2,37 +2,22 @@
 -- Inputs 0 and 2 contend for output 1. No arbiter of document 01 makes these choices: in cycle 2 the higher free VC is given out and a ready flit stays.
 -- Assumes nothing.
 use mathlib.Core.Path.{_≡_, refl}
-use mathlib.Core.Bool.{_||_}
 use mathlib.Core.Option.{some}
 use mathlib.Core.List.{List, [], _∷_, map}
 use Prim.Native.Nat.{ℕ}
-use lib.Dec.{eqb, lit≤}
+use lib.Dec.{lit≤}
 use lib.ListN.{length, take}
 use Rattle.model.specs.Sizes.{Config, Delayed}
-use Rattle.model.specs.Flit.{Look}
 use Rattle.model.specs.Channel.{Channel, stored, onWire, goingHome}
-use Rattle.model.specs.Router.{Router, OutVc, InVc, fresh}
-use Rattle.model.specs.History.{History, Offer, Departure, leftOn}
+use Rattle.model.specs.Router.{Router, fresh}
+use Rattle.model.specs.History.{History, leftOn}
 use Rattle.model.specs.Run.{Run, start}
 use Rattle.model.specs.Times.{acceptedIn, leftIn, reachedIn}
 use Rattle.model.specs.Demand3.{Demand3}
 use Rattle.model.proofs.Demand3.{demand3}
-use Rattle.model.proofs.Given.{Given, Bind, routerAfter, historyAfter}
+use Rattle.model.proofs.Sample.{Flit, looks, head, body, tail, single, offer, credit, bind, from, left, cycle}
+use Rattle.model.proofs.Given.{Given, routerAfter, historyAfter}
 use Rattle.model.proofs.Test.{run-of}
-
--- "A flit has a kind (1 head H, 2 body B, 3 tail T, 4 single S), a destination port and a .. payload."
-pub record Flit : Type 0 where
-  pub kind : ℕ
-  pub destination : ℕ
-  pub payload : ℕ
-
-abbrev pub looks : Look Flit
-looks =
-    record {
-      starts = λ f. eqb (f .kind) 1 || eqb (f .kind) 4;
-      ends = λ f. eqb (f .kind) 3 || eqb (f .kind) 4;
-      port = λ f. f .destination;
-    }
 
 abbrev pub config : Config
 config = record { ports = 3; vcs = 2; depth = 2; downstream = 2; forward = 2; back = 2 }
@@ -40,42 +25,18 @@ config = record { ports = 3; vcs = 2; depth = 2; downstream = 2; forward = 2; ba
 pub config-delayed : Delayed config
 config-delayed = record { onTheWay = lit≤ tt; onTheWayHome = lit≤ tt }
 
-abbrev head : ℕ → ℕ → Flit
-head to payload = record { kind = 1; destination = to; payload = payload }
-
-abbrev body : ℕ → Flit
-body payload = record { kind = 2; destination = 0; payload = payload }
-
-abbrev tail : ℕ → Flit
-tail payload = record { kind = 3; destination = 0; payload = payload }
-
-abbrev single : ℕ → ℕ → Flit
-single to payload = record { kind = 4; destination = to; payload = payload }
-
-abbrev offer : ℕ → ℕ → Flit → Offer Flit
-offer i v f = record { input = i; vc = v; flit = f }
-
-abbrev credit : ℕ → ℕ → OutVc
-credit o w = record { output = o; vc = w }
-
-abbrev bind : ℕ → ℕ → ℕ → ℕ → Bind
-bind i v o w = record { input = i; vc = v; to = record { output = o; vc = w } }
-
-abbrev from : ℕ → ℕ → InVc
-from i v = record { input = i; vc = v }
-
 abbrev pub cycles : List (Given Flit)
 cycles =
-    record { offers = offer 0 0 (head 1 33) ∷ offer 2 1 (single 1 49) ∷ []; credits = []; binds = []; leaves = [] } ∷
-    record { offers = offer 2 0 (head 1 65) ∷ []; credits = []; binds = []; leaves = [] } ∷
-    record { offers = []; credits = []; binds = bind 2 1 1 1 ∷ []; leaves = [] } ∷
-    record { offers = []; credits = []; binds = bind 0 0 1 0 ∷ []; leaves = from 0 0 ∷ [] } ∷
-    record { offers = []; credits = []; binds = []; leaves = from 2 1 ∷ [] } ∷
-    record { offers = offer 0 0 (tail 34) ∷ []; credits = credit 1 0 ∷ []; binds = bind 2 0 1 1 ∷ []; leaves = from 2 0 ∷ [] } ∷
-    record { offers = offer 2 0 (body 66) ∷ []; credits = []; binds = []; leaves = [] } ∷
-    record { offers = []; credits = []; binds = []; leaves = from 0 0 ∷ [] } ∷
-    record { offers = []; credits = credit 1 1 ∷ []; binds = []; leaves = from 2 0 ∷ [] } ∷
-    record { offers = []; credits = []; binds = []; leaves = [] } ∷
+    cycle (offer 0 0 (head 1 33) ∷ offer 2 1 (single 1 49) ∷ []) [] [] [] ∷
+    cycle (offer 2 0 (head 1 65) ∷ []) [] [] [] ∷
+    cycle [] [] (bind 2 1 1 1 ∷ []) [] ∷
+    cycle [] [] (bind 0 0 1 0 ∷ []) (from 0 0 ∷ []) ∷
+    cycle [] [] [] (from 2 1 ∷ []) ∷
+    cycle (offer 0 0 (tail 34) ∷ []) (credit 1 0 ∷ []) (bind 2 0 1 1 ∷ []) (from 2 0 ∷ []) ∷
+    cycle (offer 2 0 (body 66) ∷ []) [] [] [] ∷
+    cycle [] [] [] (from 0 0 ∷ []) ∷
+    cycle [] (credit 1 1 ∷ []) [] (from 2 0 ∷ []) ∷
+    cycle [] [] [] [] ∷
     []
 
 -- the router and the history after the first n cycles
@@ -112,9 +73,6 @@ pub numbers-20 : numbersOf 2 0 ≡
 numbers-20 = refl
 
 -- The history's departures: one packet on VC 0 of output 1; on VC 1 a packet of another source, then one that is unfinished.
-abbrev left : ℕ → ℕ → ℕ → ℕ → Flit → Departure Flit
-left o w i v f = record { output = o; outVc = w; input = i; vc = v; flit = f }
-
 pub left-10 : leftOn 1 0 (history 10) ≡ left 1 0 0 0 (head 1 33) ∷ left 1 0 0 0 (tail 34) ∷ []
 left-10 = refl
 

@@ -156,7 +156,7 @@ module _ {Flit : Type 0} (look : Look Flit) (c : Config) (delayed : Delayed c) (
       go true x q = absurd (Option·none-ne-some b q)
       go false x q = q
 
-  bound-still : (i v : ℕ) (b : OutVc) → s .bound i v ≡ some b → boundNow s k i v ≡ some b
+  pub bound-still : (i v : ℕ) (b : OutVc) → s .bound i v ≡ some b → boundNow s k i v ≡ some b
   bound-still i v b p = go (k .grant i v) refl
     where
       go : (g : Option OutVc) → k .grant i v ≡ g → granted g (s .bound i v) ≡ some b

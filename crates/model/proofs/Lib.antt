@@ -15,4 +15,6 @@ pub mod OutCredits
 pub mod Limits
 pub mod Given
 pub mod Test
+pub mod Sample
 pub mod Example
+pub mod Needed

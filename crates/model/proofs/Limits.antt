@@ -1,7 +1,7 @@
 -- What follows about a cycle's limits: at most one flit leaves each input and each output, each output binds at most one, and every name is in range.
 -- Assumes nothing.
-use mathlib.Core.Path.{_≡_, refl, sym, _∙_}
-use mathlib.Core.Bool.{Bool, true, false, cond}
+use mathlib.Core.Path.{_≡_, refl, sym, ap, _∙_}
+use mathlib.Core.Bool.{Bool, true, false, cond, _&&_}
 use mathlib.Core.Option.{Option, none, some, Option·none-ne-some}
 use mathlib.Core.List.{List, [], _∷_, _++_}
 use Prim.Native.Nat.{ℕ, zero, suc, _≤_, _<_}
@@ -16,7 +16,7 @@ use Rattle.model.specs.Router.{Router, OutVc, InVc}
 use Rattle.model.specs.Cycle.{Event, Choice, Brought}
 use Rattle.model.specs.History.{History, Offer, Departure}
 use Rattle.model.specs.Phases.{granted, boundNow, leaving, departure}
-use Rattle.model.specs.Step.{entry, offersAt, creditsAt}
+use Rattle.model.specs.Step.{entry, offersAt, creditsAt, endsPacket, boundAfter, step}
 use Rattle.model.specs.Legal.{Legal}
 use Rattle.model.specs.Run.{Run, start, accept}
 use Rattle.model.specs.Limits.{InRange, NamesInRange, OncePerPort}
@@ -24,7 +24,7 @@ use Rattle.model.proofs.Lists.{eqb-true, keep-grid, grid-le-one, all-ea
 use Rattle.model.proofs.Cases.{gone, leaving-cases}
 use Rattle.model.proofs.Reading.{Reads, isOpen}
 use Rattle.model.proofs.Place.{Goes}
-use Rattle.model.proofs.Invariant.{inv-run, still-held, alone-now}
+use Rattle.model.proofs.Invariant.{inv-run, still-held, alone-now, bound-still}
 use Rattle.model.proofs.Ranges.{binds-in-range}
 use Rattle.model.proofs.OutCredits.{output-credits, credit-in-range}
 
@@ -97,6 +97,11 @@ module _ {Flit : Type 0} (look : Look Flit) (c : Config) where
     -- After phase 5 an output VC is held by at most one input VC: "T or S .. frees the output VC, usable from the next cycle".
     pub one-holder : {s : Router Flit} {h : History Flit} → Run look c s h → (e : Event Flit) (k : Choice) → Legal look c s e k → (i v j u : ℕ) (b : OutVc) → boundNow s k i v ≡ some b → boundNow s k j u ≡ some b → (i ≡ j) × (v ≡ u)
     one-holder {s = s} {h = h} run e k legal = alone-now look c delayed s h (inv-run look c delayed run) e k legal
+
+    -- A binding stays what it is until T or S leaves.
+    pub stays-bound : {s : Router Flit} {h : History Flit} → Run look c s h → (e : Event Flit) (k : Choice) → Legal look c s e k → (i v : ℕ) (b : OutVc) → s .bound i v ≡ some b → step look c s e k .bound i v ≡ cond (k .leaves i v && endsPacket look (queueNow (s .channel i v))) none (some b)
+    stays-bound {s = s} {h = h} run e k legal i v b p =
+        ap (boundAfter look (k .leaves i v) (queueNow (s .channel i v))) (bound-still look c delayed s h (inv-run look c delayed run) e k legal i v b p)
 
     -- The front flit of an unbound input VC is H or S, so that no B or T ever asks.
     pub front-starts : {s : Router Flit} {h : History Flit} → Run look c s h → (i v : ℕ) (f : Flit) (q : List Flit) → s .bound i v ≡ none → queueNow (s .channel i v) ≡ f ∷ q → look .starts f ≡ true

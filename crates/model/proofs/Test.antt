@@ -36,7 +36,7 @@ and-right : (a b : Bool) → T (a && b) → T b
 and-right true b t = t
 and-right false b t = absurd t
 
-abbrev implies : Bool → Bool → Bool
+abbrev pub implies : Bool → Bool → Bool
 implies true b = b
 implies false b = true
 
@@ -45,11 +45,11 @@ implied true b t e = t
 implied false b t e = absurd (subst (λ (x : Bool). T (not x)) e tt)
 
 -- every x of a list, and every number below n
-abbrev every : {A : Type 0} → (A → Bool) → List A → Bool
+abbrev pub every : {A : Type 0} → (A → Bool) → List A → Bool
 every p [] = true
 every p (x ∷ xs) = p x && every p xs
 
-abbrev below : ℕ → (ℕ → Bool) → Bool
+abbrev pub below : ℕ → (ℕ → Bool) → Bool
 below zero p = true
 below (suc n) p = below n p && p n
 
@@ -82,7 +82,7 @@ is-some none q = absurd (subst (λ (x : Bool). T (not x)) q tt)
 is-some (some x) q = (x, refl)
 
 -- the tests of one binding and of one output VC
-abbrev asks? : {Flit : Type 0} → Look Flit → List Flit → ℕ → Bool
+abbrev pub asks? : {Flit : Type 0} → Look Flit → List Flit → ℕ → Bool
 asks? look [] o = false
 asks? look (f ∷ q) o = look .starts f && eqb (look .port f) o
 
@@ -90,7 +90,7 @@ asked : {Flit : Type 0} (look : Look Flit) (q : List Flit) (o : ℕ) → T (asks
 asked look [] o t = t
 asked look (f ∷ q) o t = (passed (look .starts f) (and-left (look .starts f) (eqb (look .port f) o) t), eqb-true (look .port f) o (passed (eqb (look .port f) o) (and-right (look .starts f) (eqb (look .port f) o) t)))
 
-abbrev elsewhere : Option OutVc → OutVc → Bool
+abbrev pub elsewhere : Option OutVc → OutVc → Bool
 elsewhere none b = true
 elsewhere (some a) b = not (same (a .output) (a .vc) (b .output) (b .vc))
 
@@ -98,7 +98,7 @@ is-elsewhere : (o : Option OutVc) (b : OutVc) → T (elsewhere o b) → o ≢ so
 is-elsewhere none b t q = Option·none-ne-some b q
 is-elsewhere (some a) b t q = rw (← Option·some-injective a b q, same-own (a .output) (a .vc)) at t
 
-abbrev sameOutput : Option OutVc → Option OutVc → Bool
+abbrev pub sameOutput : Option OutVc → Option OutVc → Bool
 sameOutput none b = false
 sameOutput (some a) none = false
 sameOutput (some a) (some b) = eqb (a .output) (b .output)
@@ -122,10 +122,10 @@ eqb-is {m} q = rw (← q) (eqb-same m)
 
 -- What a given cycle names passes what every entry of its list passes.
 module _ {Flit : Type 0} (g : Given Flit) where
-  abbrev e : Event Flit
+  abbrev pub e : Event Flit
   e = eventOf g
 
-  abbrev k : Choice
+  abbrev pub k : Choice
   k = choiceOf g
 
   offers-pass : (p : ℕ → ℕ → Flit → Bool) → T (every (λ (o : Offer Flit). p (o .input) (o .vc) (o .flit)) (g .offers)) → (i : ℕ) (b : Brought Flit) → e .offer i ≡ some b → T (p i (b .vc) (b .flit))
@@ -152,15 +152,15 @@ module _ {Flit : Type 0} (g : Given Flit) where
       subst₂ (λ (j u : ℕ). T (p j u)) (here .0) (here .1) (r .3)
 
 module _ {Flit : Type 0} (look : Look Flit) (c : Config) (s : Router Flit) (g : Given Flit) where
-  abbrev paid? : Option OutVc → Bool
+  abbrev pub paid? : Option OutVc → Bool
   paid? none = true
   paid? (some b) = ltb 0 (outCreditNow s (e g) (b .output) (b .vc))
 
-  abbrev bound? : ℕ → ℕ → Option OutVc
+  abbrev pub bound? : ℕ → ℕ → Option OutVc
   bound? i v = boundNow s (k g) i v
 
   -- a test for each fact of `Legal`, in its order
-  abbrev tests : List Bool
+  abbrev pub tests : List Bool
   tests =
       every (λ (o : Offer Flit). ltb (o .input) (c .ports)) (g .offers) ∷
       every (λ (o : Offer Flit). ltb (o .vc) (c .vcs)) (g .offers) ∷
