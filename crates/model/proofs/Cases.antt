@@ -26,7 +26,8 @@ not-otherwise (no a) f = absurd (f a)
 
 module _ {Flit : Type 0} (i v : ℕ) where
   -- What is offered on an input VC is nothing, or the flit that its port brings for it.
-  pub offered-cases : (e : Event Flit) (P : List Flit → Type 0) → P [] → ((b : Brought Flit) → e .offer i ≡ some b → b .vc ≡ v → P (b .flit ∷ [])) → P (offered e i v)
+  pub offered-cases : (e : Event Flit) (P : List Flit → Type 0) → P [] → ((b : Brought Flit) → e .offer i ≡ some b → b .vc ≡ v → P (b .flit ∷ [])) →
+      P (offered e i v)
   offered-cases e P none-offered one-offered = go (e .offer i) refl
     where
       go : (o : Option (Brought Flit)) → e .offer i ≡ o → P (onVc v o)
@@ -42,7 +43,8 @@ module _ {Flit : Type 0} (i v : ℕ) where
   gone b f = record { output = b .output; outVc = b .vc; input = i; vc = v; flit = f }
 
   -- What leaves from an input VC is nothing, or the front of its queue by what it is bound to.
-  pub leaving-cases : (P : List (Departure Flit) → Type 0) (l : Bool) (b : Option OutVc) (q : List Flit) → P [] → ((a : OutVc) (f : Flit) → l ≡ true → b ≡ some a → P (gone a f ∷ [])) → P (leaving i v l b q)
+  pub leaving-cases : (P : List (Departure Flit) → Type 0) (l : Bool) (b : Option OutVc) (q : List Flit) → P [] →
+      ((a : OutVc) (f : Flit) → l ≡ true → b ≡ some a → P (gone a f ∷ [])) → P (leaving i v l b q)
   leaving-cases P false b q none-left one-left = none-left
   leaving-cases P true none q none-left one-left = none-left
   leaving-cases P true (some b) [] none-left one-left = none-left

@@ -17,7 +17,8 @@ use Rattle.model.proofs.Reading.{reading-packets}
 use Rattle.model.proofs.Invariant.{Inv, inv-run}
 use Rattle.model.proofs.Depth.{stored-and-taken}
 
-module _ {Flit : Type 0} (look : Look Flit) (c : Config) (delayed : Delayed c) {s : Router Flit} {h : History Flit} (run : Run look c s h) (t : ℕ) (cycles : Numbered (suc t) h) where
+module _ {Flit : Type 0} (look : Look Flit) (c : Config) (delayed : Delayed c) {s : Router Flit} {h : History Flit} (run : Run look c s h) (t : ℕ)
+    (cycles : Numbered (suc t) h) where
   inv : Inv look c s h
   inv = inv-run look c delayed run
 
@@ -40,7 +41,8 @@ module _ {Flit : Type 0} (look : Look Flit) (c : Config) (delayed : Delayed c) {
       }
 
 -- After each accepted cycle of any run, whose entry is the newest of the history.
-pub demand3 : {Flit : Type 0} (look : Look Flit) (c : Config) → Delayed c → {s : Router Flit} {h : History Flit} {now : Entry Flit} → Run look c s (now ∷ h) → Demand3 look c s (now ∷ h) (now .cycle)
+pub demand3 : {Flit : Type 0} (look : Look Flit) (c : Config) → Delayed c → {s : Router Flit} {h : History Flit} {now : Entry Flit} →
+    Run look c s (now ∷ h) → Demand3 look c s (now ∷ h) (now .cycle)
 demand3 look c delayed {h = h} {now = now} run =
     record {
       cycles = cycles;

@@ -20,9 +20,11 @@ use Rattle.model.proofs.Invariant.{inv-run, still-held}
 
 module _ {Flit : Type 0} (look : Look Flit) (c : Config) where
   -- A flit is taken only where a slot is left.
-  taken-more : (s : Router Flit) (e : Event Flit) (k : Choice) → Legal look c s e k → (i v : ℕ) → s .channel i v .taken ≤ c .depth → takenNow (s .channel i v) + length (offered e i v) ≤ c .depth
+  taken-more : (s : Router Flit) (e : Event Flit) (k : Choice) → Legal look c s e k → (i v : ℕ) → s .channel i v .taken ≤ c .depth →
+      takenNow (s .channel i v) + length (offered e i v) ≤ c .depth
   taken-more s e k legal i v fits =
-      offered-cases i v e (λ fs. takenNow (s .channel i v) + length fs ≤ c .depth) (omega arith) (λ b q w. let paid : takenNow (s .channel i v) < c .depth = rw w at (legal .paid i b q) in omega arith)
+      offered-cases i v e (λ fs. takenNow (s .channel i v) + length fs ≤ c .depth) (omega arith)
+      (λ b q w. let paid : takenNow (s .channel i v) < c .depth = rw w at (legal .paid i b q) in omega arith)
 
   -- No more slots are taken than there are.
   pub taken-fits : {s : Router Flit} {h : History Flit} → Run look c s h → (i v : ℕ) → s .channel i v .taken ≤ c .depth
@@ -37,5 +39,6 @@ module _ {Flit : Type 0} (look : Look Flit) (c : Config) where
   pub queue-fits : Delayed c → {s : Router Flit} {h : History Flit} → Run look c s h → (i v : ℕ) → length (queueNow (s .channel i v)) ≤ c .depth
   queue-fits delayed {s = s} {h = h} run i v =
       let ch = s .channel i v in
-      let all : length (ch .queue) + length (onWire ch) ≡ length (queueNow ch) + length (flat (drop 1 (ch .wire))) = sym (length-append (ch .queue) (onWire ch)) ∙ ap length (still-held ch) ∙ length-append (queueNow ch) (flat (drop 1 (ch .wire))) in
+      let all : length (ch .queue) + length (onWire ch) ≡ length (queueNow ch) + length (flat (drop 1 (ch .wire))) = sym
+      (length-append (ch .queue) (onWire ch)) ∙ ap length (still-held ch) ∙ length-append (queueNow ch) (flat (drop 1 (ch .wire))) in
       omega (arith, taken-fits run i v, taken-is c delayed ch h i v (inv-run look c delayed run .flow i v))

@@ -84,18 +84,24 @@ module _ (i v : ℕ) where
     leaving-own l b q = leaving-cases i v (λ ds. keep comesFrom ds ≡ ds) l b q refl (λ a f x y. rw (same-own i v))
 
     -- the same, read by its output VC
-    leaving-by : (j u : ℕ) (l : Bool) (b : Option OutVc) (q : List Flit) → b ≡ some (record { output = i; vc = v }) → keep goesBy (leaving j u l b q) ≡ leaving j u l b q
+    leaving-by : (j u : ℕ) (l : Bool) (b : Option OutVc) (q : List Flit) → b ≡ some (record { output = i; vc = v }) →
+        keep goesBy (leaving j u l b q) ≡ leaving j u l b q
     leaving-by j u l b q e =
-        leaving-cases j u (λ ds. keep goesBy ds ≡ ds) l b q refl (λ a f x y. rw (Option·some-injective a (record { output = i; vc = v }) (sym y ∙ e), same-own i v))
+        leaving-cases j u (λ ds. keep goesBy ds ≡ ds) l b q refl
+        (λ a f x y. rw (Option·some-injective a (record { output = i; vc = v }) (sym y ∙ e), same-own i v))
 
     leaving-past : (j u : ℕ) (l : Bool) (b : Option OutVc) (q : List Flit) → b ≢ some (record { output = i; vc = v }) → keep goesBy (leaving j u l b q) ≡ []
-    leaving-past j u l b q ne = leaving-cases j u (λ ds. keep goesBy ds ≡ []) l b q refl (λ a f x y. rw (same-other (a .output) (a .vc) i v (λ e. ne (y ∙ ap {B = Option OutVc} some (outVc-path a i v (e .0) (e .1))))))
+    leaving-past j u l b q ne = leaving-cases j u (λ ds. keep goesBy ds ≡ []) l b q refl
+        (λ a f x y. rw (same-other (a .output) (a .vc) i v (λ e. ne (y ∙ ap {B = Option OutVc} some (outVc-path a i v (e .0) (e .1))))))
 
-    leaving-found : (j u : ℕ) (l : Bool) (b : Option OutVc) (q : List Flit) (d : Departure Flit) (ds : List (Departure Flit)) → keep goesBy (leaving j u l b q) ≡ d ∷ ds → (l ≡ true) × (b ≡ some (record { output = i; vc = v }))
+    leaving-found : (j u : ℕ) (l : Bool) (b : Option OutVc) (q : List Flit) (d : Departure Flit) (ds : List (Departure Flit)) →
+        keep goesBy (leaving j u l b q) ≡ d ∷ ds → (l ≡ true) × (b ≡ some (record { output = i; vc = v }))
     leaving-found j u l b q d ds =
-        leaving-cases j u (λ x. keep goesBy x ≡ d ∷ ds → (l ≡ true) × (b ≡ some (record { output = i; vc = v }))) l b q (λ e. absurd (nil≢cons e)) (λ a f x y. go a f x y (same (a .output) (a .vc) i v) refl)
+        leaving-cases j u (λ x. keep goesBy x ≡ d ∷ ds → (l ≡ true) × (b ≡ some (record { output = i; vc = v }))) l b q (λ e. absurd (nil≢cons e))
+        (λ a f x y. go a f x y (same (a .output) (a .vc) i v) refl)
       where
-        go : (a : OutVc) (f : Flit) → l ≡ true → b ≡ some a → (t : Bool) → same (a .output) (a .vc) i v ≡ t → cond t (gone j u a f ∷ []) [] ≡ d ∷ ds → (l ≡ true) × (b ≡ some (record { output = i; vc = v }))
+        go : (a : OutVc) (f : Flit) → l ≡ true → b ≡ some a → (t : Bool) → same (a .output) (a .vc) i v ≡ t → cond t (gone j u a f ∷ []) [] ≡ d ∷ ds →
+            (l ≡ true) × (b ≡ some (record { output = i; vc = v }))
         go a f x y true t e = let r = same-true (a .output) (a .vc) i v t in (x, y ∙ ap {B = Option OutVc} some (outVc-path a i v (r .0) (r .1)))
         go a f x y false t e = absurd (nil≢cons e)
 
@@ -121,9 +127,12 @@ module _ (i v : ℕ) where
 
 module _ {Flit : Type 0} (c : Config) (s : Router Flit) (e : Event Flit) (k : Choice) where
   -- The offers of the entry on an input VC are what the step takes on it, if no port beyond the last brings one.
-  pub entry-offers : ((i : ℕ) (b : Brought Flit) → e .offer i ≡ some b → i < c .ports) → (i v : ℕ) → map (λ (o : Offer Flit). o .flit) (offersOn i v (entry c s e k)) ≡ offered e i v
+  pub entry-offers : ((i : ℕ) (b : Brought Flit) → e .offer i ≡ some b → i < c .ports) → (i v : ℕ) →
+      map (λ (o : Offer Flit). o .flit) (offersOn i v (entry c s e k)) ≡ offered e i v
   entry-offers inside i v =
-      ap (map (λ (o : Offer Flit). o .flit)) (keep-one (offeredTo i v) (c .ports) (λ j. offersAt j (e .offer j)) i (λ j ne. offers-other i v j (e .offer j) ne) (λ out. none-beyond out (e .offer i) refl)) ∙ offers-own i v (e .offer i)
+      ap (map (λ (o : Offer Flit). o .flit))
+      (keep-one (offeredTo i v) (c .ports) (λ j. offersAt j (e .offer j)) i (λ j ne. offers-other i v j (e .offer j) ne)
+      (λ out. none-beyond out (e .offer i) refl)) ∙ offers-own i v (e .offer i)
     where
       none-beyond : ¬ (i < c .ports) → (b : Option (Brought Flit)) → e .offer i ≡ b → keep (offeredTo i v) (offersAt i b) ≡ []
       none-beyond out none q = refl
@@ -132,7 +141,8 @@ module _ {Flit : Type 0} (c : Config) (s : Router Flit) (e : Event Flit) (k : Ch
   -- The credits of the entry for an output VC are what the step adds to it, if no port beyond the last brings one.
   pub entry-credits : ((o w : ℕ) → e .credit o ≡ some w → o < c .ports) → (o w : ℕ) → length (creditsFor o w (entry c s e k)) ≡ creditFor w (e .credit o)
   entry-credits inside o w =
-      ap length (keep-one (comesBackTo o w) (c .ports) (λ j. creditsAt j (e .credit j)) o (λ j ne. credits-other o w j (e .credit j) ne) (λ out. none-beyond out (e .credit o) refl)) ∙ credits-own o w (e .credit o)
+      ap length (keep-one (comesBackTo o w) (c .ports) (λ j. creditsAt j (e .credit j)) o (λ j ne. credits-other o w j (e .credit j) ne)
+      (λ out. none-beyond out (e .credit o) refl)) ∙ credits-own o w (e .credit o)
     where
       none-beyond : ¬ (o < c .ports) → (b : Option ℕ) → e .credit o ≡ b → keep (comesBackTo o w) (creditsAt o b) ≡ []
       none-beyond out none q = refl
@@ -152,27 +162,36 @@ module _ {Flit : Type 0} (c : Config) (s : Router Flit) (e : Event Flit) (k : Ch
   -- The departures of the entry from an input VC are what leaves there.
   pub entry-from : LeavesInside → (i v : ℕ) → departuresFrom i v (entry c s e k) ≡ departure s k i v
   entry-from inside i v =
-      keep-grid-one (comesFrom i v) (c .ports) (c .vcs) (departure s k) i v (λ j u ne. leaving-other i v j u (k .leaves j u) (boundNow s k j u) (queueNow (s .channel j u)) ne) (λ out. own ∙ stays inside i v out) ∙ own
+      keep-grid-one (comesFrom i v) (c .ports) (c .vcs) (departure s k) i v
+      (λ j u ne. leaving-other i v j u (k .leaves j u) (boundNow s k j u) (queueNow (s .channel j u)) ne) (λ out. own ∙ stays inside i v out) ∙ own
     where
       own : keep (comesFrom i v) (departure s k i v) ≡ departure s k i v
       own = leaving-own i v (k .leaves i v) (boundNow s k i v) (queueNow (s .channel i v))
 
   -- The departures of the entry on an output VC are what leaves from the one input VC that is bound to it ..
-  pub entry-on : LeavesInside → (i v : ℕ) (b : OutVc) → boundNow s k i v ≡ some b → ((j u : ℕ) → boundNow s k j u ≡ some b → (j ≡ i) × (u ≡ v)) → departuresOn (b .output) (b .vc) (entry c s e k) ≡ departure s k i v
+  pub entry-on : LeavesInside → (i v : ℕ) (b : OutVc) → boundNow s k i v ≡ some b → ((j u : ℕ) → boundNow s k j u ≡ some b → (j ≡ i) × (u ≡ v)) →
+      departuresOn (b .output) (b .vc) (entry c s e k) ≡ departure s k i v
   entry-on inside i v b q alone =
-      keep-grid-one (goesBy (b .output) (b .vc)) (c .ports) (c .vcs) (departure s k) i v (λ j u ne. leaving-past (b .output) (b .vc) j u (k .leaves j u) (boundNow s k j u) (queueNow (s .channel j u)) (λ p. ne (alone j u p))) (λ out. own ∙ stays inside i v out) ∙ own
+      keep-grid-one (goesBy (b .output) (b .vc)) (c .ports) (c .vcs) (departure s k) i v
+      (λ j u ne. leaving-past (b .output) (b .vc) j u (k .leaves j u) (boundNow s k j u) (queueNow (s .channel j u)) (λ p. ne (alone j u p)))
+      (λ out. own ∙ stays inside i v out) ∙ own
     where
       own : keep (goesBy (b .output) (b .vc)) (departure s k i v) ≡ departure s k i v
       own = leaving-by (b .output) (b .vc) i v (k .leaves i v) (boundNow s k i v) (queueNow (s .channel i v)) q
 
   -- .. and whatever left on an output VC left from an input VC that is bound to it.
-  pub entry-source : (b : OutVc) (d : Departure Flit) (ds : List (Departure Flit)) → departuresOn (b .output) (b .vc) (entry c s e k) ≡ d ∷ ds → (i : ℕ) × (v : ℕ) × (k .leaves i v ≡ true) × (boundNow s k i v ≡ some b)
+  pub entry-source : (b : OutVc) (d : Departure Flit) (ds : List (Departure Flit)) → departuresOn (b .output) (b .vc) (entry c s e k) ≡ d ∷ ds →
+      (i : ℕ) × (v : ℕ) × (k .leaves i v ≡ true) × (boundNow s k i v ≡ some b)
   entry-source b d ds q =
-      let r = grid-found (c .ports) (c .vcs) (λ j u. keep (goesBy (b .output) (b .vc)) (departure s k j u)) d ds (sym (keep-grid (goesBy (b .output) (b .vc)) (c .ports) (c .vcs) (departure s k)) ∙ q) in
-      let found = leaving-found (b .output) (b .vc) (r .0) (r .1) (k .leaves (r .0) (r .1)) (boundNow s k (r .0) (r .1)) (queueNow (s .channel (r .0) (r .1))) (r .2) (r .3) (r .4) in
+      let r = grid-found (c .ports) (c .vcs) (λ j u. keep (goesBy (b .output) (b .vc)) (departure s k j u)) d ds
+      (sym (keep-grid (goesBy (b .output) (b .vc)) (c .ports) (c .vcs) (departure s k)) ∙ q) in
+      let found = leaving-found (b .output) (b .vc) (r .0) (r .1) (k .leaves (r .0) (r .1)) (boundNow s k (r .0) (r .1))
+      (queueNow (s .channel (r .0) (r .1))) (r .2) (r .3) (r .4) in
       (r .0, r .1, found .0, found .1)
 
   -- The credits of the entry that reached the sender of an input VC are those that reach it, if none is beyond the ports and VCs.
-  pub entry-reached : (i v : ℕ) → (¬ InRange c i v → reaching (s .channel i v) ≡ 0) → reachedFor i v (entry c s e k) ≡ replicate (reaching (s .channel i v)) (record { input = i; vc = v })
+  pub entry-reached : (i v : ℕ) → (¬ InRange c i v → reaching (s .channel i v) ≡ 0) →
+      reachedFor i v (entry c s e k) ≡ replicate (reaching (s .channel i v)) (record { input = i; vc = v })
   entry-reached i v none-beyond =
-      keep-grid-one (comesHomeTo i v) (c .ports) (c .vcs) (λ j u. replicate (reaching (s .channel j u)) (record { input = j; vc = u })) i v (λ j u ne. reached-other i v j u (reaching (s .channel j u)) ne) (λ out. rw (none-beyond out)) ∙ reached-own i v (reaching (s .channel i v))
+      keep-grid-one (comesHomeTo i v) (c .ports) (c .vcs) (λ j u. replicate (reaching (s .channel j u)) (record { input = j; vc = u })) i v
+      (λ j u ne. reached-other i v j u (reaching (s .channel j u)) ne) (λ out. rw (none-beyond out)) ∙ reached-own i v (reaching (s .channel i v))

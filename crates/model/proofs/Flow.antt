@@ -60,8 +60,10 @@ module _ {Flit : Type 0} (c : Config) (delayed : Delayed c) (ch : Channel Flit) 
   -- A credit that reaches its sender is of a slot that is taken.
   pub reaching-taken : Entry Flit → reaching ch ≤ ch .taken
   reaching-taken e =
-      let left : length (leftFrom i v h) + length (ch .queue) ≡ length (accepted i v (drop (c .forward) h)) = simp (length-append, length-map) at (ap length (flow .order)) in
-      let split : length (accepted i v h) ≡ length (accepted i v (drop (c .forward) h)) + length (accepted i v (take (c .forward) h)) = simp length-append at (ap length (gather-split (offersIn i v) (c .forward) h)) in
+      let left : length (leftFrom i v h) + length (ch .queue) ≡ length (accepted i v (drop (c .forward) h)) = simp (length-append, length-map) at
+      (ap length (flow .order)) in
+      let split : length (accepted i v h) ≡ length (accepted i v (drop (c .forward) h)) + length (accepted i v (take (c .forward) h)) = simp length-append at
+      (ap length (gather-split (offersIn i v) (c .forward) h)) in
       omega (arith, reached-more e, gather-out-le (departuresFrom i v) (c .back) (delayed .onTheWayHome) e h, flow .taken)
 
   -- What is in the queue was accepted.
@@ -72,13 +74,23 @@ module _ {Flit : Type 0} (c : Config) (delayed : Delayed c) (ch : Channel Flit) 
       simp length-append (omega (arith, simp length-append at (ap length all), gather-out-le (offersIn i v) (c .forward) (delayed .onTheWay) e h))
 
   -- The flow is kept by a cycle that takes from the front of the queue what it lets leave.
-  pub flow-step : (e : Entry Flit) (n : ℕ) → length (departuresFrom i v e) ≡ n → flits (departuresFrom i v e) ++ drop n (queueNow ch) ≡ queueNow ch → Flow c (afterCycle ch (offersIn i v e) n) (e ∷ h) i v
+  pub flow-step : (e : Entry Flit) (n : ℕ) → length (departuresFrom i v e) ≡ n → flits (departuresFrom i v e) ++ drop n (queueNow ch) ≡ queueNow ch →
+      Flow c (afterCycle ch (offersIn i v e) n) (e ∷ h) i v
   flow-step e n left moved =
       record {
         wire = rw (flow .wire) (line-shift (offersIn i v) (c .forward) (delayed .onTheWay) e h);
-        home = rw (flow .home, ← left, shift-lengths (lineOf (departuresFrom i v) (c .back) h) (departuresFrom i v e)) (ap (map length) (line-shift (departuresFrom i v) (c .back) (delayed .onTheWayHome) e h));
+        home = rw (flow .home, ← left, shift-lengths (lineOf (departuresFrom i v) (c .back) h) (departuresFrom i v e))
+            (ap (map length) (line-shift (departuresFrom i v) (c .back) (delayed .onTheWayHome) e h));
         order =
-            rw (map-append (λ (d : Departure Flit). d .flit) (leftFrom i v h) (departuresFrom i v e), append-assoc (flits (leftFrom i v h)), moved, ← append-assoc (flits (leftFrom i v h)), flow .order, flow .wire)
+            rw (
+              map-append (λ (d : Departure Flit). d .flit) (leftFrom i v h) (departuresFrom i v e),
+              append-assoc (flits (leftFrom i v h)),
+              moved,
+              ←
+                  append-assoc (flits (leftFrom i v h)),
+              flow .order,
+              flow .wire,
+            )
             (sym (gather-out (offersIn i v) (c .forward) (delayed .onTheWay) e h));
         taken = rw length-append (omega (arith, reached-more e, reaching-taken e, flow .taken));
       }
@@ -96,8 +108,10 @@ module _ {Flit : Type 0} (c : Config) (delayed : Delayed c) (ch : Channel Flit) 
   -- "taken equals wire + queue + home"
   pub taken-is : ch .taken ≡ length (onWire ch) + length (ch .queue) + goingHome ch
   taken-is =
-      let offers : length (accepted i v h) ≡ length (accepted i v (drop (c .forward) h)) + length (accepted i v (take (c .forward) h)) = simp length-append at (ap length (gather-split (offersIn i v) (c .forward) h)) in
-      let lefts : length (leftFrom i v h) ≡ length (leftFrom i v (drop (c .back) h)) + length (leftFrom i v (take (c .back) h)) = simp length-append at (ap length (gather-split (departuresFrom i v) (c .back) h)) in
+      let offers : length (accepted i v h) ≡ length (accepted i v (drop (c .forward) h)) + length (accepted i v (take (c .forward) h)) = simp length-append
+      at (ap length (gather-split (offersIn i v) (c .forward) h)) in
+      let lefts : length (leftFrom i v h) ≡ length (leftFrom i v (drop (c .back) h)) + length (leftFrom i v (take (c .back) h)) = simp length-append at
+      (ap length (gather-split (departuresFrom i v) (c .back) h)) in
       omega (arith, ap length wire-newest, home-newest, queue-older, flow .taken)
 
   -- "The flits that left from that channel, then those buffered, then those on the wire, are exactly the flits accepted on it, in order."

@@ -72,9 +72,11 @@ module _ {Flit : Type 0} (ch : Channel Flit) where
 
   -- with the offered ones behind them, they are in the queue after phase 3, or on the wire after the cycle
   held : (offered : List Flit) → ch .queue ++ onWire ch ++ offered ≡ queueNow ch ++ flat (shift (ch .wire) offered)
-  held offered = rw (flat-append (drop 1 (ch .wire)) (offered ∷ []), append-nil offered, still-held) (append-assoc (queueNow ch) (flat (drop 1 (ch .wire))) offered)
+  held offered = rw (flat-append (drop 1 (ch .wire)) (offered ∷ []), append-nil offered, still-held)
+      (append-assoc (queueNow ch) (flat (drop 1 (ch .wire))) offered)
 
-module _ {Flit : Type 0} (look : Look Flit) (c : Config) (delayed : Delayed c) (s : Router Flit) (h : History Flit) (inv : Inv look c s h) (e : Event Flit) (k : Choice) (legal : Legal look c s e k) where
+module _ {Flit : Type 0} (look : Look Flit) (c : Config) (delayed : Delayed c) (s : Router Flit) (h : History Flit) (inv : Inv look c s h) (e : Event Flit)
+    (k : Choice) (legal : Legal look c s e k) where
   abbrev now : Entry Flit
   now = entry c s e k
 
@@ -101,7 +103,8 @@ module _ {Flit : Type 0} (look : Look Flit) (c : Config) (delayed : Delayed c) (
   pub alone-now : (i v j u : ℕ) (b : OutVc) → boundNow s k i v ≡ some b → boundNow s k j u ≡ some b → (i ≡ j) × (v ≡ u)
   alone-now i v j u b p q = go (k .grant i v) refl (k .grant j u) refl p q
     where
-      go : (g : Option OutVc) → k .grant i v ≡ g → (f : Option OutVc) → k .grant j u ≡ f → granted g (s .bound i v) ≡ some b → granted f (s .bound j u) ≡ some b → (i ≡ j) × (v ≡ u)
+      go : (g : Option OutVc) → k .grant i v ≡ g → (f : Option OutVc) → k .grant j u ≡ f → granted g (s .bound i v) ≡ some b →
+          granted f (s .bound j u) ≡ some b → (i ≡ j) × (v ≡ u)
       go none p none q m n = inv .alone i v j u b m n
       go none p (some d) q m n = absurd (legal .bindsFree j u d q i v (m ∙ sym n))
       go (some a) p none q m n = absurd (legal .bindsFree i v a p j u (n ∙ sym m))
@@ -120,33 +123,42 @@ module _ {Flit : Type 0} (look : Look Flit) (c : Config) (delayed : Delayed c) (
   one-leaves i v = leaving-front look i v (k .leaves i v) (boundNow s k i v) (queueNow (s .channel i v)) (legal .leavesBound i v) (legal .leavesFlit i v) .0
 
   -- Each input VC's place after phases 1 to 4, then after phase 5, then after the cycle.
-  place-taken : (i v : ℕ) → Place look i v (s .bound i v) (queueNow (s .channel i v)) (onWire (after .channel i v)) (after .opened i v) (leftFrom i v h) (onOutVc h)
+  place-taken : (i v : ℕ) → Place look i v (s .bound i v) (queueNow (s .channel i v)) (onWire (after .channel i v)) (after .opened i v) (leftFrom i v h)
+      (onOutVc h)
   place-taken i v =
       let p = inv .place i v in
       record {
         inside = p .inside;
         goes = goes-append look i v (s .bound i v) (p .inside) (s .channel i v .queue) (out [] (s .channel i v .wire)) (p .goes);
-        reads = rw (← held (s .channel i v) (offered e i v)) (reads-append look (isOpen (p .inside)) (s .channel i v .queue ++ onWire (s .channel i v)) (offered e i v) (s .opened i v) (after .opened i v) (p .reads) (kinds-in-order i v));
+        reads = rw (← held (s .channel i v) (offered e i v))
+            (reads-append look (isOpen (p .inside)) (s .channel i v .queue ++ onWire (s .channel i v)) (offered e i v) (s .opened i v) (after .opened i v)
+            (p .reads) (kinds-in-order i v));
         left = p .left;
         onOutput = p .onOutput;
       }
 
-  place-bound : (i v : ℕ) → Place look i v (boundNow s k i v) (queueNow (s .channel i v)) (onWire (after .channel i v)) (after .opened i v) (leftFrom i v h) (onOutVc h)
+  place-bound : (i v : ℕ) → Place look i v (boundNow s k i v) (queueNow (s .channel i v)) (onWire (after .channel i v)) (after .opened i v) (leftFrom i v h)
+      (onOutVc h)
   place-bound i v = go (k .grant i v) refl
     where
-      go : (g : Option OutVc) → k .grant i v ≡ g → Place look i v (granted g (s .bound i v)) (queueNow (s .channel i v)) (onWire (after .channel i v)) (after .opened i v) (leftFrom i v h) (onOutVc h)
+      go : (g : Option OutVc) → k .grant i v ≡ g →
+          Place look i v (granted g (s .bound i v)) (queueNow (s .channel i v)) (onWire (after .channel i v)) (after .opened i v) (leftFrom i v h) (onOutVc h)
       go none q = place-taken i v
-      go (some b) q = place-bind look i v b (rw (legal .bindsUnbound i v b q) at (place-taken i v)) (legal .bindsFront i v b q) (inv .idle b (legal .bindsFree i v b q))
+      go (some b) q = place-bind look i v b (rw (legal .bindsUnbound i v b q) at (place-taken i v)) (legal .bindsFront i v b q)
+          (inv .idle b (legal .bindsFree i v b q))
 
-  place-after : (i v : ℕ) → Place look i v (after .bound i v) (after .channel i v .queue) (onWire (after .channel i v)) (after .opened i v) (leftFrom i v (now ∷ h)) (onOutVc (now ∷ h))
+  place-after : (i v : ℕ) → Place look i v (after .bound i v) (after .channel i v .queue) (onWire (after .channel i v)) (after .opened i v)
+      (leftFrom i v (now ∷ h)) (onOutVc (now ∷ h))
   place-after i v =
       rw (now-from i v)
-      (place-cycle look i v (k .leaves i v) (boundNow s k i v) (queueNow (s .channel i v)) (legal .leavesBound i v) (legal .leavesFlit i v) (place-bound i v) (onOutVc (now ∷ h)) (λ a q. ap (λ (ds : List (Departure Flit)). onOutVc h a ++ ds) (now-on i v a q)))
+      (place-cycle look i v (k .leaves i v) (boundNow s k i v) (queueNow (s .channel i v)) (legal .leavesBound i v) (legal .leavesFlit i v) (place-bound i v)
+      (onOutVc (now ∷ h)) (λ a q. ap (λ (ds : List (Departure Flit)). onOutVc h a ++ ds) (now-on i v a q)))
 
   flow-after : (i v : ℕ) → Flow c (after .channel i v) (now ∷ h) i v
   flow-after i v =
       let front = leaving-front look i v (k .leaves i v) (boundNow s k i v) (queueNow (s .channel i v)) (legal .leavesBound i v) (legal .leavesFlit i v) in
-      rw (now-offers i v) at (flow-step c delayed (s .channel i v) h i v (inv .flow i v) now (cond (k .leaves i v) 1 0) (rw (now-from i v) (front .0)) (rw (now-from i v) (front .1)))
+      rw (now-offers i v) at (flow-step c delayed (s .channel i v) h i v (inv .flow i v) now (cond (k .leaves i v) 1 0) (rw (now-from i v) (front .0))
+      (rw (now-from i v) (front .1)))
 
   -- A binding after the cycle was there after phase 5, and one before the cycle still is.
   pub bound-before : (i v : ℕ) (b : OutVc) → after .bound i v ≡ some b → boundNow s k i v ≡ some b
@@ -178,7 +190,8 @@ module _ {Flit : Type 0} (look : Look Flit) (c : Config) (delayed : Delayed c) (
   output-after : (b : OutVc) → Packets look FromOneSource (onOutVc (now ∷ h) b) × (Free after b → Whole look FromOneSource (onOutVc (now ∷ h) b))
   output-after b = go (departuresOn (b .output) (b .vc) now) refl
     where
-      go : (ds : List (Departure Flit)) → departuresOn (b .output) (b .vc) now ≡ ds → Packets look FromOneSource (onOutVc (now ∷ h) b) × (Free after b → Whole look FromOneSource (onOutVc (now ∷ h) b))
+      go : (ds : List (Departure Flit)) → departuresOn (b .output) (b .vc) now ≡ ds →
+          Packets look FromOneSource (onOutVc (now ∷ h) b) × (Free after b → Whole look FromOneSource (onOutVc (now ∷ h) b))
       go [] q = rw (q, append-nil (onOutVc h b)) (inv .outputs b, λ free. inv .idle b (free-before b q free))
       go (d ∷ ds) q =
           let from = entry-source c s e k b d ds q in
@@ -191,7 +204,8 @@ module _ {Flit : Type 0} (look : Look Flit) (c : Config) (delayed : Delayed c) (
   -- Nothing is accepted beyond the ports and VCs.
   beyond-after : (i v : ℕ) → ¬ InRange c i v → accepted i v (now ∷ h) ≡ []
   beyond-after i v out =
-      rw (now-offers i v, inv .beyond i v out) (offered-cases i v e (λ fs. fs ≡ []) refl (λ b q w. absurd (out (legal .offerPort i b q, rw w at (legal .offerVc i b q)))))
+      rw (now-offers i v, inv .beyond i v out)
+      (offered-cases i v e (λ fs. fs ≡ []) refl (λ b q w. absurd (out (legal .offerPort i b q, rw w at (legal .offerVc i b q)))))
 
   pub inv-step : Inv look c after (now ∷ h)
   inv-step =

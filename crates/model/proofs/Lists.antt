@@ -41,7 +41,8 @@ module _ {A : Type 0} where
   keep-append p [] ys = refl
   keep-append p (x ∷ xs) ys = go (p x) (keep-append p xs ys)
     where
-      go : (b : Bool) → keep p (xs ++ ys) ≡ keep p xs ++ keep p ys → cond b (x ∷ keep p (xs ++ ys)) (keep p (xs ++ ys)) ≡ cond b (x ∷ keep p xs) (keep p xs) ++ keep p ys
+      go : (b : Bool) → keep p (xs ++ ys) ≡ keep p xs ++ keep p ys →
+          cond b (x ∷ keep p (xs ++ ys)) (keep p (xs ++ ys)) ≡ cond b (x ∷ keep p xs) (keep p xs) ++ keep p ys
       go true ih = ap (λ (r : List A). x ∷ r) ih
       go false ih = ih
 
@@ -72,7 +73,8 @@ module _ {A : Type 0} where
       go (no ne) ih = rw (ih (omega arith) (λ j m q. h j (omega arith) q), h n (omega arith) ne) (append-nil (f i))
 
   -- of a list over the ports a test keeps what it keeps at one port, if it keeps nothing elsewhere
-  pub keep-one : (p : A → Bool) (n : ℕ) (f : ℕ → List A) (i : ℕ) → ((j : ℕ) → j ≢ i → keep p (f j) ≡ []) → (¬ (i < n) → keep p (f i) ≡ []) → keep p (each n f) ≡ keep p (f i)
+  pub keep-one : (p : A → Bool) (n : ℕ) (f : ℕ → List A) (i : ℕ) → ((j : ℕ) → j ≢ i → keep p (f j) ≡ []) → (¬ (i < n) → keep p (f i) ≡ []) →
+      keep p (each n f) ≡ keep p (f i)
   keep-one p n f i other out = keep-each p n f ∙ go (decLt i n)
     where
       go : Dec (i < n) → each n (λ j. keep p (f j)) ≡ keep p (f i)
@@ -84,7 +86,8 @@ module _ {A : Type 0} where
   each-found zero f x xs e = absurd (let z : _≡_ {A = ℕ} 0 1 = cc in omega arith)
   each-found (suc n) f x xs e = go (each n f) refl (each-found n f) (f n) refl
     where
-      go : (l : List A) → each n f ≡ l → ((x : A) (xs : List A) → each n f ≡ x ∷ xs → (j : ℕ) × (j < n) × (y : A) × (ys : List A) × (f j ≡ y ∷ ys)) → (m : List A) → f n ≡ m → (j : ℕ) × (j < suc n) × (y : A) × (ys : List A) × (f j ≡ y ∷ ys)
+      go : (l : List A) → each n f ≡ l → ((x : A) (xs : List A) → each n f ≡ x ∷ xs → (j : ℕ) × (j < n) × (y : A) × (ys : List A) × (f j ≡ y ∷ ys)) →
+          (m : List A) → f n ≡ m → (j : ℕ) × (j < suc n) × (y : A) × (ys : List A) × (f j ≡ y ∷ ys)
       go (y ∷ ys) l ih m q = let r = ih y ys l in (r .0, omega (arith, r .1), r .2, r .3, r .4)
       go [] l ih (y ∷ ys) q = (n, omega arith, y, ys, q)
       go [] l ih [] q = absurd (let z : _≡_ {A = ℕ} 0 1 = cc in omega arith)
@@ -93,31 +96,37 @@ module _ {A : Type 0} where
   pub keep-grid : (p : A → Bool) (n m : ℕ) (f : ℕ → ℕ → List A) → keep p (each n (λ j. each m (f j))) ≡ each n (λ j. each m (λ u. keep p (f j u)))
   keep-grid p n m f = keep-each p n (λ j. each m (f j)) ∙ ap (each n) (fun-ext (λ j. keep-each p m (f j)))
 
-  pub grid-one : (n m : ℕ) (f : ℕ → ℕ → List A) (i v : ℕ) → ((j u : ℕ) → ¬ ((j ≡ i) × (u ≡ v)) → f j u ≡ []) → (¬ ((i < n) × (v < m)) → f i v ≡ []) → each n (λ j. each m (f j)) ≡ f i v
+  pub grid-one : (n m : ℕ) (f : ℕ → ℕ → List A) (i v : ℕ) → ((j u : ℕ) → ¬ ((j ≡ i) × (u ≡ v)) → f j u ≡ []) → (¬ ((i < n) × (v < m)) → f i v ≡ []) →
+      each n (λ j. each m (f j)) ≡ f i v
   grid-one n m f i v other out = go (decLt i n) (decLt v m)
     where
       empty : ¬ ((i < n) × (v < m)) → each n (λ j. each m (f j)) ≡ f i v
       empty q =
-          each-none n (λ j. each m (f j)) (λ j l. each-none m (f j) (λ u k. other j u (λ r. q (subst (λ x. x < n) (r .0) l, subst (λ x. x < m) (r .1) k)))) ∙ sym (out q)
+          each-none n (λ j. each m (f j)) (λ j l. each-none m (f j) (λ u k. other j u (λ r. q (subst (λ x. x < n) (r .0) l, subst (λ x. x < m) (r .1) k)))) ∙
+          sym (out q)
 
       go : Dec (i < n) → Dec (v < m) → each n (λ j. each m (f j)) ≡ f i v
       go (yes a) (yes b) =
-          each-one n (λ j. each m (f j)) i a (λ j l ne. each-none m (f j) (λ u k. other j u (λ r. ne (r .0)))) ∙ each-one m (f i) v b (λ u k ne. other i u (λ r. ne (r .1)))
+          each-one n (λ j. each m (f j)) i a (λ j l ne. each-none m (f j) (λ u k. other j u (λ r. ne (r .0)))) ∙ each-one m (f i) v b
+          (λ u k ne. other i u (λ r. ne (r .1)))
       go (yes a) (no b) = empty (λ r. b (r .1))
       go (no a) (yes b) = empty (λ r. a (r .0))
       go (no a) (no b) = empty (λ r. a (r .0))
 
-  pub keep-grid-one : (p : A → Bool) (n m : ℕ) (f : ℕ → ℕ → List A) (i v : ℕ) → ((j u : ℕ) → ¬ ((j ≡ i) × (u ≡ v)) → keep p (f j u) ≡ []) → (¬ ((i < n) × (v < m)) → keep p (f i v) ≡ []) → keep p (each n (λ j. each m (f j))) ≡ keep p (f i v)
+  pub keep-grid-one : (p : A → Bool) (n m : ℕ) (f : ℕ → ℕ → List A) (i v : ℕ) → ((j u : ℕ) → ¬ ((j ≡ i) × (u ≡ v)) → keep p (f j u) ≡ []) →
+      (¬ ((i < n) × (v < m)) → keep p (f i v) ≡ []) → keep p (each n (λ j. each m (f j))) ≡ keep p (f i v)
   keep-grid-one p n m f i v other out = keep-grid p n m f ∙ grid-one n m (λ j u. keep p (f j u)) i v other out
 
-  pub grid-found : (n m : ℕ) (f : ℕ → ℕ → List A) (x : A) (xs : List A) → each n (λ j. each m (f j)) ≡ x ∷ xs → (j : ℕ) × (u : ℕ) × (y : A) × (ys : List A) × (f j u ≡ y ∷ ys) × (j < n) × (u < m)
+  pub grid-found : (n m : ℕ) (f : ℕ → ℕ → List A) (x : A) (xs : List A) → each n (λ j. each m (f j)) ≡ x ∷ xs →
+      (j : ℕ) × (u : ℕ) × (y : A) × (ys : List A) × (f j u ≡ y ∷ ys) × (j < n) × (u < m)
   grid-found n m f x xs e =
       let r = each-found n (λ j. each m (f j)) x xs e in
       let q = each-found m (f (r .0)) (r .2) (r .3) (r .4) in
       (r .0, q .0, q .2, q .3, q .4, r .1, q .1)
 
   -- a grid in which one place at most holds something, and that at most one
-  pub grid-le-one : (n m : ℕ) (f : ℕ → ℕ → List A) → ((j u : ℕ) → length (f j u) ≤ 1) → ((j u i v : ℕ) → 0 < length (f j u) → 0 < length (f i v) → (j ≡ i) × (u ≡ v)) → length (each n (λ j. each m (f j))) ≤ 1
+  pub grid-le-one : (n m : ℕ) (f : ℕ → ℕ → List A) → ((j u : ℕ) → length (f j u) ≤ 1) →
+      ((j u i v : ℕ) → 0 < length (f j u) → 0 < length (f i v) → (j ≡ i) × (u ≡ v)) → length (each n (λ j. each m (f j))) ≤ 1
   grid-le-one n m f one alone = go (each n (λ j. each m (f j))) refl
     where
       go : (l : List A) → each n (λ j. each m (f j)) ≡ l → length l ≤ 1
@@ -125,7 +134,8 @@ module _ {A : Type 0} where
       go (x ∷ xs) e =
           let r = grid-found n m f x xs e in
           let here : 0 < length (f (r .0) (r .1)) = rw (r .4) (omega arith) in
-          let only : each n (λ j. each m (f j)) ≡ f (r .0) (r .1) = grid-one n m f (r .0) (r .1) (λ j u ne. others j u ne here (f j u) refl) (λ out. absurd (out (r .5, r .6))) in
+          let only : each n (λ j. each m (f j)) ≡ f (r .0) (r .1) = grid-one n m f (r .0) (r .1) (λ j u ne. others j u ne here (f j u) refl)
+          (λ out. absurd (out (r .5, r .6))) in
           subst (λ (l : List A). length l ≤ 1) (sym only ∙ e) (one (r .0) (r .1))
         where
           others : (j u : ℕ) {i v : ℕ} → ¬ ((j ≡ i) × (u ≡ v)) → 0 < length (f i v) → (l : List A) → f j u ≡ l → f j u ≡ []

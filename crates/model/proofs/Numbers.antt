@@ -24,7 +24,8 @@ module _ {Flit : Type 0} where
   after-take t j zero n h q l = after-none t (j + 0) n h q (omega arith)
   after-take t j (suc k) n [] q l = refl
   after-take t j (suc k) n (e ∷ h) q l =
-      rw (leb-yes (suc t) (e .cycle + (j + suc k)) (omega arith)) (ap (λ (r : History Flit). e ∷ r) (rw (add-suc j k, ← suc-add j k) (after-take t (suc j) k (e .cycle) h (q .1) (omega arith))))
+      rw (leb-yes (suc t) (e .cycle + (j + suc k)) (omega arith))
+      (ap (λ (r : History Flit). e ∷ r) (rw (add-suc j k, ← suc-add j k) (after-take t (suc j) k (e .cycle) h (q .1) (omega arith))))
 
   upTo-drop : (t j k n : ℕ) (h : History Flit) → Numbered n h → n + j ≡ suc t → upTo t (j + k) h ≡ drop k h
   upTo-drop t j zero n h q l = upTo-all t (j + 0) n h q (omega arith)

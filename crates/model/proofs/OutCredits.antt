@@ -36,7 +36,8 @@ module _ {Flit : Type 0} (look : Look Flit) (c : Config) (delayed : Delayed c) w
             let b : OutVc = record { output = o; vc = w } in
             let inv = inv-run look c delayed run in
             let r = entry-source c s e k b d ds q in
-            let one : length (departuresOn o w (entry c s e k)) ≡ 1 = ap length (now-on look c delayed s h inv e k legal (r .0) (r .1) b (r .3)) ∙ one-leaves look c delayed s h inv e k legal (r .0) (r .1) ∙ ap (λ (x : Bool). cond x 1 0) (r .2) in
+            let one : length (departuresOn o w (entry c s e k)) ≡ 1 = ap length (now-on look c delayed s h inv e k legal (r .0) (r .1) b (r .3)) ∙ one-leaves
+            look c delayed s h inv e k legal (r .0) (r .1) ∙ ap (λ (x : Bool). cond x 1 0) (r .2) in
             omega (arith, legal .leavesCredit (r .0) (r .1) b (r .2) (r .3))
 
     -- A credit comes back only for an output VC that something has left on, so only for one in range.
@@ -60,7 +61,8 @@ module _ {Flit : Type 0} (look : Look Flit) (c : Config) (delayed : Delayed c) w
         let b = before o w in
         let credits = entry-credits c s e k (λ p u q. credit-in-range before p u q .0) o w in
         record {
-          sum = rw (length-append (leftOn o w h) (departuresOn o w (entry c s e k)), length-append (creditsOn o w h) (creditsFor o w (entry c s e k))) (omega (arith, left-paid o w, b .sum, credits));
+          sum = rw (length-append (leftOn o w h) (departuresOn o w (entry c s e k)), length-append (creditsOn o w h) (creditsFor o w (entry c s e k)))
+              (omega (arith, left-paid o w, b .sum, credits));
           fits = omega (arith, credit-fits o w (b .fits));
         }
 

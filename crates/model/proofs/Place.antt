@@ -47,10 +47,12 @@ module _ {Flit : Type 0} (look : Look Flit) (i v : ℕ) where
   goes-append (some b) (some h) q r g = g
 
   -- An unbound input VC with a head for an output in front is bound to an output VC on which nothing is unfinished.
-  pub place-bind : {q later : List Flit} {opened : Bool} {from : List (Departure Flit)} {on : OutVc → List (Departure Flit)} (b : OutVc) → Place none q later opened from on → Asks look q (b .output) → Whole look FromOneSource (on b) → Place (some b) q later opened from on
+  pub place-bind : {q later : List Flit} {opened : Bool} {from : List (Departure Flit)} {on : OutVc → List (Departure Flit)} (b : OutVc) →
+      Place none q later opened from on → Asks look q (b .output) → Whole look FromOneSource (on b) → Place (some b) q later opened from on
   place-bind {q} {later} {opened} {from} {on} b p asks idle = go (p .inside) (p .goes) (p .reads) (p .left)
     where
-      go : (h : Option (Departure Flit)) → Goes none h q → Reads look (isOpen h) (q ++ later) opened → Reading look (ByHeadsPort look) h from → Place (some b) q later opened from on
+      go : (h : Option (Departure Flit)) → Goes none h q → Reads look (isOpen h) (q ++ later) opened → Reading look (ByHeadsPort look) h from →
+          Place (some b) q later opened from on
       go none g r l =
           record {
             inside = none;
@@ -67,12 +69,14 @@ module _ {Flit : Type 0} (look : Look Flit) (i v : ℕ) where
     front = gone i v b f
 
     -- it belongs to a packet whose head named that output and came from here
-    front-fits : (h : Option (Departure Flit)) (q : List Flit) → Goes (some b) h (f ∷ q) → (look .port ((headOf h front) .flit) ≡ b .output) × ((headOf h front) .input ≡ i) × ((headOf h front) .vc ≡ v)
+    front-fits : (h : Option (Departure Flit)) (q : List Flit) → Goes (some b) h (f ∷ q) →
+        (look .port ((headOf h front) .flit) ≡ b .output) × ((headOf h front) .input ≡ i) × ((headOf h front) .vc ≡ v)
     front-fits none q g = (g .1, refl, refl)
     front-fits (some h) q g = g
 
     -- The front flit of a bound input VC leaves: the VC's packets and the output VC's packets go on alike ..
-    module _ {q later : List Flit} {opened : Bool} {from : List (Departure Flit)} {on : OutVc → List (Departure Flit)} (p : Place (some b) (f ∷ q) later opened from on) where
+    module _ {q later : List Flit} {opened : Bool} {from : List (Departure Flit)} {on : OutVc → List (Departure Flit)}
+        (p : Place (some b) (f ∷ q) later opened from on) where
       abbrev pub insideAfter : Option (Departure Flit)
       insideAfter = cond (look .ends f) none (some (headOf (p .inside) front))
 
@@ -82,7 +86,8 @@ module _ {Flit : Type 0} (look : Look Flit) (i v : ℕ) where
           read-on look FromOneSource (p .inside) (on b) front (p .onOutput b refl) (p .reads .0) (sym (fits .1), sym (fits .2))
 
       -- .. and its tail unbinds.
-      pub place-leave : (after : OutVc → List (Departure Flit)) → after b ≡ on b ++ (front ∷ []) → Place (cond (look .ends f) none (some b)) q later opened (from ++ (front ∷ [])) after
+      pub place-leave : (after : OutVc → List (Departure Flit)) → after b ≡ on b ++ (front ∷ []) →
+          Place (cond (look .ends f) none (some b)) q later opened (from ++ (front ∷ [])) after
       place-leave after e =
           record {
             inside = insideAfter;
@@ -92,20 +97,25 @@ module _ {Flit : Type 0} (look : Look Flit) (i v : ℕ) where
             onOutput = λ a r. out a (look .ends f) r output-reads;
           }
         where
-          goes : (t : Bool) (h : Option (Departure Flit)) → (look .port ((headOf h front) .flit) ≡ b .output) × ((headOf h front) .input ≡ i) × ((headOf h front) .vc ≡ v) → Goes (cond t none (some b)) (cond t none (some (headOf h front))) q
+          goes : (t : Bool) (h : Option (Departure Flit)) →
+              (look .port ((headOf h front) .flit) ≡ b .output) × ((headOf h front) .input ≡ i) × ((headOf h front) .vc ≡ v) →
+              Goes (cond t none (some b)) (cond t none (some (headOf h front))) q
           goes true h g = tt
           goes false h g = g
 
-          reads : (t : Bool) (h : Option (Departure Flit)) → Reads look (not t) (q ++ later) opened → Reads look (isOpen (cond t none (some (headOf h front)))) (q ++ later) opened
+          reads : (t : Bool) (h : Option (Departure Flit)) → Reads look (not t) (q ++ later) opened →
+              Reads look (isOpen (cond t none (some (headOf h front)))) (q ++ later) opened
           reads true h r = r
           reads false h r = r
 
-          out : (a : OutVc) (t : Bool) → cond t none (some b) ≡ some a → Reading look FromOneSource insideAfter (on b ++ (front ∷ [])) → Reading look FromOneSource insideAfter (after a)
+          out : (a : OutVc) (t : Bool) → cond t none (some b) ≡ some a → Reading look FromOneSource insideAfter (on b ++ (front ∷ [])) →
+              Reading look FromOneSource insideAfter (after a)
           out a true r w = absurd (Option·none-ne-some a r)
           out a false r w = rw (← Option·some-injective b a r, e) w
 
   -- What leaves, if anything is to, is the front of the queue.
-  pub leaving-front : (l : Bool) (b : Option OutVc) (q : List Flit) → (l ≡ true → IsSome b) → (l ≡ true → 0 < length q) → (length (leaving i v l b q) ≡ cond l 1 0) × (flits (leaving i v l b q) ++ drop (cond l 1 0) q ≡ q)
+  pub leaving-front : (l : Bool) (b : Option OutVc) (q : List Flit) → (l ≡ true → IsSome b) → (l ≡ true → 0 < length q) →
+      (length (leaving i v l b q) ≡ cond l 1 0) × (flits (leaving i v l b q) ++ drop (cond l 1 0) q ≡ q)
   leaving-front false b q bound flit = (refl, refl)
   leaving-front true none q bound flit = absurd (bound refl)
   leaving-front true (some b) [] bound flit = let l = flit refl in absurd (omega arith)
@@ -113,7 +123,9 @@ module _ {Flit : Type 0} (look : Look Flit) (i v : ℕ) where
 
   module _ {later : List Flit} {opened : Bool} {from : List (Departure Flit)} {on : OutVc → List (Departure Flit)} where
     -- An input VC's place after the cycle, in which it lets its front flit leave or not ..
-    pub place-cycle : (l : Bool) (b : Option OutVc) (q : List Flit) → (l ≡ true → IsSome b) → (l ≡ true → 0 < length q) → Place b q later opened from on → (after : OutVc → List (Departure Flit)) → ((a : OutVc) → b ≡ some a → after a ≡ on a ++ leaving i v l b q) → Place (boundAfter look l q b) (drop (cond l 1 0) q) later opened (from ++ leaving i v l b q) after
+    pub place-cycle : (l : Bool) (b : Option OutVc) (q : List Flit) → (l ≡ true → IsSome b) → (l ≡ true → 0 < length q) → Place b q later opened from on →
+        (after : OutVc → List (Departure Flit)) → ((a : OutVc) → b ≡ some a → after a ≡ on a ++ leaving i v l b q) →
+        Place (boundAfter look l q b) (drop (cond l 1 0) q) later opened (from ++ leaving i v l b q) after
     place-cycle false b q bound flit p after e =
         record {
           inside = p .inside;
@@ -127,12 +139,20 @@ module _ {Flit : Type 0} (look : Look Flit) (i v : ℕ) where
     place-cycle true (some b) (f ∷ q) bound flit p after e = place-leave b f p after (e b refl)
 
     -- .. and the packets on the output VC by which it leaves.
-    pub output-cycle : (b : Option OutVc) (q : List Flit) (a : OutVc) → b ≡ some a → 0 < length q → Place b q later opened from on → Packets look FromOneSource (on a ++ leaving i v true b q) × (boundAfter look true q b ≢ some a → Whole look FromOneSource (on a ++ leaving i v true b q))
+    pub output-cycle : (b : Option OutVc) (q : List Flit) (a : OutVc) → b ≡ some a → 0 < length q → Place b q later opened from on →
+        Packets look FromOneSource (on a ++ leaving i v true b q) ×
+        (boundAfter look true q b ≢ some a → Whole look FromOneSource (on a ++ leaving i v true b q))
     output-cycle none q a e flit p = absurd (Option·none-ne-some a e)
     output-cycle (some b) [] a e flit p = absurd (omega arith)
     output-cycle (some b) (f ∷ q) a e flit p =
-        rw (← Option·some-injective b a e) (reading-packets look FromOneSource (insideAfter b f p) (on b ++ (gone i v b f ∷ [])) (output-reads b f p), λ ne. go (look .ends f) ne (output-reads b f p))
+        rw (← Option·some-injective b a e) (
+          reading-packets look FromOneSource (insideAfter b f p) (on b ++ (gone i v b f ∷ [])) (output-reads b f p),
+          λ ne. go (look .ends f) ne
+              (output-reads b f p),
+        )
       where
-        go : (t : Bool) → cond t none (some b) ≢ some b → Reading look FromOneSource (cond t none (some (headOf (p .inside) (gone i v b f)))) (on b ++ (gone i v b f ∷ [])) → Whole look FromOneSource (on b ++ (gone i v b f ∷ []))
+        go : (t : Bool) → cond t none (some b) ≢ some b →
+            Reading look FromOneSource (cond t none (some (headOf (p .inside) (gone i v b f)))) (on b ++ (gone i v b f ∷ [])) →
+            Whole look FromOneSource (on b ++ (gone i v b f ∷ []))
         go true ne w = w
         go false ne w = absurd (ne refl)

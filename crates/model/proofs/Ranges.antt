@@ -36,7 +36,8 @@ module _ {Flit : Type 0} (look : Look Flit) (c : Config) (delayed : Delayed c) w
   nothing-beyond run i v out = let inv = inv-run look c delayed run in omega (arith, inv .flow i v .taken, ap length (inv .beyond i v out))
 
   -- Nothing beyond them is ever bound: there is no flit to ask for it.
-  granted-inside : {s : Router Flit} {h : History Flit} → Run look c s h → (e : Event Flit) (k : Choice) → Legal look c s e k → (i v : ℕ) (b : OutVc) → ¬ InRange c i v → s .bound i v ≢ some b → boundNow s k i v ≢ some b
+  granted-inside : {s : Router Flit} {h : History Flit} → Run look c s h → (e : Event Flit) (k : Choice) → Legal look c s e k → (i v : ℕ) (b : OutVc) →
+      ¬ InRange c i v → s .bound i v ≢ some b → boundNow s k i v ≢ some b
   granted-inside {s = s} {h = h} run e k legal i v b out before = go (k .grant i v) refl
     where
       inv : Inv look c s h
@@ -52,7 +53,8 @@ module _ {Flit : Type 0} (look : Look Flit) (c : Config) (delayed : Delayed c) w
   pub bound-inside : {s : Router Flit} {h : History Flit} → Run look c s h → (i v : ℕ) (b : OutVc) → ¬ InRange c i v → s .bound i v ≢ some b
   bound-inside start i v b out p = Option·none-ne-some b p
   bound-inside (accept {s = s} {h = h} run e k legal) i v b out p =
-      granted-inside run e k legal i v b out (λ q. bound-inside run i v b out q) (bound-before look c delayed s h (inv-run look c delayed run) e k legal i v b p)
+      granted-inside run e k legal i v b out (λ q. bound-inside run i v b out q)
+      (bound-before look c delayed s h (inv-run look c delayed run) e k legal i v b p)
 
   -- the destination of a head that was accepted is a port
   abbrev Routed : Flit → Type 0
@@ -64,20 +66,25 @@ module _ {Flit : Type 0} (look : Look Flit) (c : Config) (delayed : Delayed c) w
   accepted-routed : {s : Router Flit} {h : History Flit} → Run look c s h → (i v : ℕ) → All Routed (accepted i v h)
   accepted-routed start i v = tt
   accepted-routed (accept {s = s} {h = h} run e k legal) i v =
-      rw (now-offers look c delayed s h (inv-run look c delayed run) e k legal i v) (all-append Routed (accepted i v h) (offered e i v) (accepted-routed run i v) (offered-routed s e k legal i v))
+      rw (now-offers look c delayed s h (inv-run look c delayed run) e k legal i v)
+      (all-append Routed (accepted i v h) (offered e i v) (accepted-routed run i v) (offered-routed s e k legal i v))
 
   queue-routed : {s : Router Flit} {h : History Flit} → Run look c s h → (i v : ℕ) → All Routed (queueNow (s .channel i v))
   queue-routed {s = s} {h = h} run i v =
       let ch = s .channel i v in
-      let all : flits (leftFrom i v h) ++ (queueNow ch ++ flat (drop 1 (ch .wire))) ≡ accepted i v h = rw (← still-held ch, ← append-assoc (flits (leftFrom i v h)) (ch .queue) (onWire ch)) (all-in-order c delayed ch h i v (inv-run look c delayed run .flow i v)) in
-      all-left Routed (queueNow ch) (flat (drop 1 (ch .wire))) (all-right Routed (flits (leftFrom i v h)) (queueNow ch ++ flat (drop 1 (ch .wire))) (rw all (accepted-routed run i v)))
+      let all : flits (leftFrom i v h) ++ (queueNow ch ++ flat (drop 1 (ch .wire))) ≡ accepted i v h = rw
+      (← still-held ch, ← append-assoc (flits (leftFrom i v h)) (ch .queue) (onWire ch))
+      (all-in-order c delayed ch h i v (inv-run look c delayed run .flow i v)) in
+      all-left Routed (queueNow ch) (flat (drop 1 (ch .wire)))
+      (all-right Routed (flits (leftFrom i v h)) (queueNow ch ++ flat (drop 1 (ch .wire))) (rw all (accepted-routed run i v)))
 
   asks-port : (q : List Flit) (o : ℕ) → All Routed q → Asks look q o → o < c .ports
   asks-port [] o r a = absurd a
   asks-port (f ∷ q) o r a = rw (a .1) at (r .0 (a .0))
 
   -- What an input VC is bound to is in range, before the cycle and after phase 5.
-  bound-now-in-range : {s : Router Flit} {h : History Flit} → Run look c s h → (e : Event Flit) (k : Choice) → Legal look c s e k → (i v : ℕ) (b : OutVc) → (s .bound i v ≡ some b → InRange c (b .output) (b .vc)) → boundNow s k i v ≡ some b → InRange c (b .output) (b .vc)
+  bound-now-in-range : {s : Router Flit} {h : History Flit} → Run look c s h → (e : Event Flit) (k : Choice) → Legal look c s e k → (i v : ℕ) (b : OutVc) →
+      (s .bound i v ≡ some b → InRange c (b .output) (b .vc)) → boundNow s k i v ≡ some b → InRange c (b .output) (b .vc)
   bound-now-in-range {s = s} {h = h} run e k legal i v b before = go (k .grant i v) refl
     where
       go : (g : Option OutVc) → k .grant i v ≡ g → granted g (s .bound i v) ≡ some b → InRange c (b .output) (b .vc)
@@ -89,9 +96,11 @@ module _ {Flit : Type 0} (look : Look Flit) (c : Config) (delayed : Delayed c) w
   pub bound-in-range : {s : Router Flit} {h : History Flit} → Run look c s h → (i v : ℕ) (b : OutVc) → s .bound i v ≡ some b → InRange c (b .output) (b .vc)
   bound-in-range start i v b p = absurd (Option·none-ne-some b p)
   bound-in-range (accept {s = s} {h = h} run e k legal) i v b p =
-      bound-now-in-range run e k legal i v b (λ q. bound-in-range run i v b q) (bound-before look c delayed s h (inv-run look c delayed run) e k legal i v b p)
+      bound-now-in-range run e k legal i v b (λ q. bound-in-range run i v b q)
+      (bound-before look c delayed s h (inv-run look c delayed run) e k legal i v b p)
 
-  pub binds-in-range : {s : Router Flit} {h : History Flit} → Run look c s h → (e : Event Flit) (k : Choice) → Legal look c s e k → (i v : ℕ) (b : OutVc) → boundNow s k i v ≡ some b → InRange c (b .output) (b .vc)
+  pub binds-in-range : {s : Router Flit} {h : History Flit} → Run look c s h → (e : Event Flit) (k : Choice) → Legal look c s e k → (i v : ℕ) (b : OutVc) →
+      boundNow s k i v ≡ some b → InRange c (b .output) (b .vc)
   binds-in-range run e k legal i v b = bound-now-in-range run e k legal i v b (bound-in-range run i v b)
 
   -- Nothing leaves on an output VC beyond the ranges.

@@ -39,10 +39,12 @@ module _ {Flit : Type 0} (look : Look Flit) (Fits : Departure Flit → Departure
   reading-packets (some h) ds w = rw (w .2) (unfinished (w .3) (w .4))
 
   -- one more flit, of a kind that is in order and of the packet that is open
-  pub read-on : (r : Option (Departure Flit)) (ds : List (Departure Flit)) (d : Departure Flit) → Reading r ds → look .starts (d .flit) ≡ not (isOpen r) → Fits (headOf r d) d → Reading (cond (look .ends (d .flit)) none (some (headOf r d))) (ds ++ (d ∷ []))
+  pub read-on : (r : Option (Departure Flit)) (ds : List (Departure Flit)) (d : Departure Flit) → Reading r ds → look .starts (d .flit) ≡ not (isOpen r) →
+      Fits (headOf r d) d → Reading (cond (look .ends (d .flit)) none (some (headOf r d))) (ds ++ (d ∷ []))
   read-on r ds d w starts fits = go r (look .ends (d .flit)) refl w starts fits
     where
-      go : (r : Option (Departure Flit)) (ends : Bool) → look .ends (d .flit) ≡ ends → Reading r ds → look .starts (d .flit) ≡ not (isOpen r) → Fits (headOf r d) d → Reading (cond ends none (some (headOf r d))) (ds ++ (d ∷ []))
+      go : (r : Option (Departure Flit)) (ends : Bool) → look .ends (d .flit) ≡ ends → Reading r ds → look .starts (d .flit) ≡ not (isOpen r) →
+          Fits (headOf r d) d → Reading (cond ends none (some (headOf r d))) (ds ++ (d ∷ []))
       go none true e w s f = next w (single s e f)
       go none false e w s f = (ds, d ∷ [], refl, w, head s e f)
       go (some h) true e w s f = rw (w .2, append-assoc (w .0) (w .1) (d ∷ [])) (next (w .3) (tail (w .4) s e f))

@@ -50,4 +50,5 @@ pub record Legal {Flit : Type 0} (look : Look Flit) (c : Config) (s : Router Fli
   pub leavesCredit : (i v : ℕ) (b : OutVc) → k .leaves i v ≡ true → boundNow s k i v ≡ some b → 0 < outCreditNow s e (b .output) (b .vc)
   -- "Each input's V-wide arbiter picks one ready VC", "each output's P-wide arbiter picks one row": at most one flit per input and per output.
   pub inputOnce : (i v u : ℕ) → k .leaves i v ≡ true → k .leaves i u ≡ true → v ≡ u
-  pub outputOnce : (i v j u : ℕ) (a b : OutVc) → k .leaves i v ≡ true → k .leaves j u ≡ true → boundNow s k i v ≡ some a → boundNow s k j u ≡ some b → a .output ≡ b .output → (i ≡ j) × (v ≡ u)
+  pub outputOnce : (i v j u : ℕ) (a b : OutVc) → k .leaves i v ≡ true → k .leaves j u ≡ true → boundNow s k i v ≡ some a → boundNow s k j u ≡ some b →
+      a .output ≡ b .output → (i ≡ j) × (v ≡ u)
