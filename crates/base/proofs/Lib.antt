@@ -1,3 +1,5 @@
 pub mod Bits
-pub mod Search
+pub mod Configurations
 pub mod Count
+pub mod Flits
+pub mod Search

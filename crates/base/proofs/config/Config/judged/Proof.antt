@@ -1,130 +1,86 @@
 -- `base::Config::judged` meets its contract: the fields before are in range, and this one is not.
 -- Assumes nothing.
-use mathlib.Core.Path.{sym, _∙_}
-use borrow.Author.Tests.{not-true, not-false}
+use mathlib.Core.Path.{_≡_, sym, _∙_}
+use mathlib.Core.Bool.{true, false}
 use borrow.Author.Needs.{needs}
-use Rattle.base.specs.Sizes.{firstIllegal, illegalField}
+use borrow.Author.Tests.{not-true, not-false}
+use Rattle.base.specs.Sizes.{field, inRange, firstIllegal, illegalField}
 use Rattle.base.proofs.config.Config.judged.Statement.{statement}
 use Rattle.base.proofs.config.Config.judged.Tie as tie
 
-within-requires : tie.Need-within-requires
-within-requires c κs = search needs
+ports-in : (c : tie.Else1) → inRange (field (c .before .before .args .self .ports) 1 8) ≡ true
+ports-in c = sym (c .before .within .ensures) ∙ not-false (c .before .within .result) (c .if1 .left)
+
+ports-out : (c : tie.Then1) → inRange (field (c .before .before .args .self .ports) 1 8) ≡ false
+ports-out c = sym (c .before .within .ensures) ∙ not-true (c .before .within .result) (c .if1 .taken)
+
+vcs-in : (c : tie.Else2) → inRange (field (c .before .before .before .before .args .self .vcs) 1 4) ≡ true
+vcs-in c = sym (c .before .within2 .ensures) ∙ not-false (c .before .within2 .result) (c .if2 .left)
+
+vcs-out : (c : tie.Then2) → inRange (field (c .before .before .before .before .args .self .vcs) 1 4) ≡ false
+vcs-out c = sym (c .before .within2 .ensures) ∙ not-true (c .before .within2 .result) (c .if2 .taken)
+
+depth-in : (c : tie.Else3) → inRange (field (c .before .before .before .before .before .before .args .self .depth) 1 16) ≡ true
+depth-in c = sym (c .before .within3 .ensures) ∙ not-false (c .before .within3 .result) (c .if3 .left)
+
+depth-out : (c : tie.Then3) → inRange (field (c .before .before .before .before .before .before .args .self .depth) 1 16) ≡ false
+depth-out c = sym (c .before .within3 .ensures) ∙ not-true (c .before .within3 .result) (c .if3 .taken)
+
+downstream-in : (c : tie.Else4) → inRange (field (c .before .before .before .before .before .before .before .before .args .self .downstream) 1 16) ≡ true
+downstream-in c = sym (c .before .within4 .ensures) ∙ not-false (c .before .within4 .result) (c .if4 .left)
+
+downstream-out : (c : tie.Then4) → inRange (field (c .before .before .before .before .before .before .before .before .args .self .downstream) 1 16) ≡ false
+downstream-out c = sym (c .before .within4 .ensures) ∙ not-true (c .before .within4 .result) (c .if4 .taken)
+
+forward-in : (c : tie.Else5) → inRange (field (c .before .before .before .before .before .before .before .before .before .before .args .self .forward) 1 8) ≡ true
+forward-in c = sym (c .before .within5 .ensures) ∙ not-false (c .before .within5 .result) (c .if5 .left)
+
+forward-out : (c : tie.Then5) → inRange (field (c .before .before .before .before .before .before .before .before .before .before .args .self .forward) 1 8) ≡ false
+forward-out c = sym (c .before .within5 .ensures) ∙ not-true (c .before .within5 .result) (c .if5 .taken)
+
+back-in : (c : tie.Else6) → inRange (field (c .before .before .before .before .before .before .before .before .before .before .before .before .args .self .back) 1 8) ≡ true
+back-in c = sym (c .before .within6 .ensures) ∙ not-false (c .before .within6 .result) (c .if6 .left)
+
+back-out : (c : tie.Then6) → inRange (field (c .before .before .before .before .before .before .before .before .before .before .before .before .args .self .back) 1 8) ≡ false
+back-out c = sym (c .before .within6 .ensures) ∙ not-true (c .before .within6 .result) (c .if6 .taken)
+
+arbiter-in : (c : tie.Else7) → inRange (field (c .before .before .before .before .before .before .before .before .before .before .before .before .before .before .args .self .arbiter) 1 2) ≡ true
+arbiter-in c = sym (c .before .within7 .ensures) ∙ not-false (c .before .within7 .result) (c .if7 .left)
+
+arbiter-out : (c : tie.Then7) → inRange (field (c .before .before .before .before .before .before .before .before .before .before .before .before .before .before .args .self .arbiter) 1 2) ≡ false
+arbiter-out c = sym (c .before .within7 .ensures) ∙ not-true (c .before .within7 .result) (c .if7 .taken)
 
 returns : tie.Need-returns
 unfolding illegalField firstIllegal
-returns c =
-    rw (sym (c .before .within .ensures) ∙ not-true (c .before .within .result) (c .if1 .taken))
-
-within-requires-2 : tie.Need-within-requires-2
-within-requires-2 c κs = search needs
+returns c = rw (ports-out c)
 
 returns-2 : tie.Need-returns-2
 unfolding illegalField firstIllegal
-returns-2 c =
-    rw (
-      sym (c .before .before .before .within .ensures) ∙ not-false (c .before .before .before .within .result) (c .before .before .if1 .left),
-      sym (c .before .within2 .ensures) ∙ not-true (c .before .within2 .result) (c .if2 .taken),
-    )
-
-within-requires-3 : tie.Need-within-requires-3
-within-requires-3 c κs = search needs
+returns-2 c = rw (ports-in (c .before .before), vcs-out c)
 
 returns-3 : tie.Need-returns-3
 unfolding illegalField firstIllegal
-returns-3 c =
-    rw (
-      sym (c .before .before .before .before .before .within .ensures) ∙ not-false (c .before .before .before .before .before .within .result) (c .before .before .before .before .if1 .left),
-      sym (c .before .before .before .within2 .ensures) ∙ not-false (c .before .before .before .within2 .result) (c .before .before .if2 .left),
-      sym (c .before .within3 .ensures) ∙ not-true (c .before .within3 .result) (c .if3 .taken),
-    )
-
-within-requires-4 : tie.Need-within-requires-4
-within-requires-4 c κs = search needs
+returns-3 c = rw (ports-in (c .before .before .before .before), vcs-in (c .before .before), depth-out c)
 
 returns-4 : tie.Need-returns-4
 unfolding illegalField firstIllegal
-returns-4 c =
-    rw (
-      sym (c .before .before .before .before .before .before .before .within .ensures) ∙ not-false (c .before .before .before .before .before .before .before .within .result) (c .before .before .before .before .before .before .if1 .left),
-      sym (c .before .before .before .before .before .within2 .ensures) ∙ not-false (c .before .before .before .before .before .within2 .result) (c .before .before .before .before .if2 .left),
-      sym (c .before .before .before .within3 .ensures) ∙ not-false (c .before .before .before .within3 .result) (c .before .before .if3 .left),
-      sym (c .before .within4 .ensures) ∙ not-true (c .before .within4 .result) (c .if4 .taken),
-    )
-
-within-requires-5 : tie.Need-within-requires-5
-within-requires-5 c κs = search needs
+returns-4 c = rw (ports-in (c .before .before .before .before .before .before), vcs-in (c .before .before .before .before), depth-in (c .before .before), downstream-out c)
 
 returns-5 : tie.Need-returns-5
 unfolding illegalField firstIllegal
-returns-5 c =
-    rw (
-      sym (c .before .before .before .before .before .before .before .before .before .within .ensures) ∙ not-false (c .before .before .before .before .before .before .before .before .before .within .result) (c .before .before .before .before .before .before .before .before .if1 .left),
-      sym (c .before .before .before .before .before .before .before .within2 .ensures) ∙ not-false (c .before .before .before .before .before .before .before .within2 .result) (c .before .before .before .before .before .before .if2 .left),
-      sym (c .before .before .before .before .before .within3 .ensures) ∙ not-false (c .before .before .before .before .before .within3 .result) (c .before .before .before .before .if3 .left),
-      sym (c .before .before .before .within4 .ensures) ∙ not-false (c .before .before .before .within4 .result) (c .before .before .if4 .left),
-      sym (c .before .within5 .ensures) ∙ not-true (c .before .within5 .result) (c .if5 .taken),
-    )
-
-within-requires-6 : tie.Need-within-requires-6
-within-requires-6 c κs = search needs
+returns-5 c = rw (ports-in (c .before .before .before .before .before .before .before .before), vcs-in (c .before .before .before .before .before .before), depth-in (c .before .before .before .before), downstream-in (c .before .before), forward-out c)
 
 returns-6 : tie.Need-returns-6
 unfolding illegalField firstIllegal
-returns-6 c =
-    rw (
-      sym (c .before .before .before .before .before .before .before .before .before .before .before .within .ensures) ∙ not-false (c .before .before .before .before .before .before .before .before .before .before .before .within .result) (c .before .before .before .before .before .before .before .before .before .before .if1 .left),
-      sym (c .before .before .before .before .before .before .before .before .before .within2 .ensures) ∙ not-false (c .before .before .before .before .before .before .before .before .before .within2 .result) (c .before .before .before .before .before .before .before .before .if2 .left),
-      sym (c .before .before .before .before .before .before .before .within3 .ensures) ∙ not-false (c .before .before .before .before .before .before .before .within3 .result) (c .before .before .before .before .before .before .if3 .left),
-      sym (c .before .before .before .before .before .within4 .ensures) ∙ not-false (c .before .before .before .before .before .within4 .result) (c .before .before .before .before .if4 .left),
-      sym (c .before .before .before .within5 .ensures) ∙ not-false (c .before .before .before .within5 .result) (c .before .before .if5 .left),
-      sym (c .before .within6 .ensures) ∙ not-true (c .before .within6 .result) (c .if6 .taken),
-    )
-
-within-requires-7 : tie.Need-within-requires-7
-within-requires-7 c κs = search needs
+returns-6 c = rw (ports-in (c .before .before .before .before .before .before .before .before .before .before), vcs-in (c .before .before .before .before .before .before .before .before), depth-in (c .before .before .before .before .before .before), downstream-in (c .before .before .before .before), forward-in (c .before .before), back-out c)
 
 returns-7 : tie.Need-returns-7
 unfolding illegalField firstIllegal
-returns-7 c =
-    rw (
-      sym (c .before .before .before .before .before .before .before .before .before .before .before .before .before .within .ensures) ∙ not-false (c .before .before .before .before .before .before .before .before .before .before .before .before .before .within .result) (c .before .before .before .before .before .before .before .before .before .before .before .before .if1 .left),
-      sym (c .before .before .before .before .before .before .before .before .before .before .before .within2 .ensures) ∙ not-false (c .before .before .before .before .before .before .before .before .before .before .before .within2 .result) (c .before .before .before .before .before .before .before .before .before .before .if2 .left),
-      sym (c .before .before .before .before .before .before .before .before .before .within3 .ensures) ∙ not-false (c .before .before .before .before .before .before .before .before .before .within3 .result) (c .before .before .before .before .before .before .before .before .if3 .left),
-      sym (c .before .before .before .before .before .before .before .within4 .ensures) ∙ not-false (c .before .before .before .before .before .before .before .within4 .result) (c .before .before .before .before .before .before .if4 .left),
-      sym (c .before .before .before .before .before .within5 .ensures) ∙ not-false (c .before .before .before .before .before .within5 .result) (c .before .before .before .before .if5 .left),
-      sym (c .before .before .before .within6 .ensures) ∙ not-false (c .before .before .before .within6 .result) (c .before .before .if6 .left),
-      sym (c .before .within7 .ensures) ∙ not-true (c .before .within7 .result) (c .if7 .taken),
-    )
+returns-7 c = rw (ports-in (c .before .before .before .before .before .before .before .before .before .before .before .before), vcs-in (c .before .before .before .before .before .before .before .before .before .before), depth-in (c .before .before .before .before .before .before .before .before), downstream-in (c .before .before .before .before .before .before), forward-in (c .before .before .before .before), back-in (c .before .before), arbiter-out c)
 
 returns-8 : tie.Need-returns-8
 unfolding illegalField firstIllegal
-returns-8 c =
-    rw (
-      sym (c .before .before .before .before .before .before .before .before .before .before .before .before .before .within .ensures) ∙ not-false (c .before .before .before .before .before .before .before .before .before .before .before .before .before .within .result) (c .before .before .before .before .before .before .before .before .before .before .before .before .if1 .left),
-      sym (c .before .before .before .before .before .before .before .before .before .before .before .within2 .ensures) ∙ not-false (c .before .before .before .before .before .before .before .before .before .before .before .within2 .result) (c .before .before .before .before .before .before .before .before .before .before .if2 .left),
-      sym (c .before .before .before .before .before .before .before .before .before .within3 .ensures) ∙ not-false (c .before .before .before .before .before .before .before .before .before .within3 .result) (c .before .before .before .before .before .before .before .before .if3 .left),
-      sym (c .before .before .before .before .before .before .before .within4 .ensures) ∙ not-false (c .before .before .before .before .before .before .before .within4 .result) (c .before .before .before .before .before .before .if4 .left),
-      sym (c .before .before .before .before .before .within5 .ensures) ∙ not-false (c .before .before .before .before .before .within5 .result) (c .before .before .before .before .if5 .left),
-      sym (c .before .before .before .within6 .ensures) ∙ not-false (c .before .before .before .within6 .result) (c .before .before .if6 .left),
-      sym (c .before .within7 .ensures) ∙ not-false (c .before .within7 .result) (c .if7 .left),
-    )
+returns-8 c = rw (ports-in (c .before .before .before .before .before .before .before .before .before .before .before .before), vcs-in (c .before .before .before .before .before .before .before .before .before .before), depth-in (c .before .before .before .before .before .before .before .before), downstream-in (c .before .before .before .before .before .before), forward-in (c .before .before .before .before), back-in (c .before .before), arbiter-in c)
 
 pub judged-spec : {M : Type 1} → statement M
-judged-spec =
-    tie.close
-    (tie.spec
-    within-requires
-    returns
-    within-requires-2
-    returns-2
-    within-requires-3
-    returns-3
-    within-requires-4
-    returns-4
-    within-requires-5
-    returns-5
-    within-requires-6
-    returns-6
-    within-requires-7
-    returns-7
-    returns-8)
+judged-spec = tie.close (tie.spec (λ c κs. search needs) returns (λ c κs. search needs) returns-2 (λ c κs. search needs) returns-3 (λ c κs. search needs) returns-4 (λ c κs. search needs) returns-5 (λ c κs. search needs) returns-6 (λ c κs. search needs) returns-7 returns-8)
