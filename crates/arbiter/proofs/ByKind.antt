@@ -138,7 +138,8 @@ module _ (places code n : ℕ) where
   fresh-order e k = rw (e, eq-eqb code 2 (known-matrix places code n e k))
 
   -- the rows are all that is to be made
-  pub fresh-is : (rows : List ℕ) → rows ≡ fresh places code n .rows → _≡_ {A = Arbiter} (record { pointer = 0; rows = rows }) (fresh places code n)
+  pub fresh-is : (rows : List ℕ) → rows ≡ fresh places code n .rows
+      → _≡_ {A = Arbiter} (record { pointer = 0; rows = rows }) (fresh places code n)
   unfolding fresh
   fresh-is rows e = ap (λ (l : List ℕ). record { pointer = 0; rows = l }) e
 

@@ -69,7 +69,8 @@ passed-more n rows at word rank h p l =
     at-rank k g true e = subst (Link rows at) (sym (eqb-true k rank e)) l
     at-rank k g false e = p .links k (lt-of-le-ne (omega arith) (eqb-false k rank e))
 
-module _ (n : ℕ) (rows : List ℕ) (at : ℕ → ℕ) (inside : (k : ℕ) → at k < n) (ranked : (i : ℕ) → i < n → rankOf rows (at (rankOf rows i)) ≡ rankOf rows i) where
+module _ (n : ℕ) (rows : List ℕ) (at : ℕ → ℕ) (inside : (k : ℕ) → at k < n)
+    (ranked : (i : ℕ) → i < n → rankOf rows (at (rankOf rows i)) ≡ rankOf rows i) where
   abbrev asked : Bool
   asked = totalOrder n rows && within n rows
 
@@ -97,7 +98,8 @@ module _ (n : ℕ) (rows : List ℕ) (at : ℕ → ℕ) (inside : (k : ℕ) → 
       go true e =
           let full : (i : ℕ) → i < n → bit (ranksBelow at n) i ≡ true =
           λ i h. ap (λ (x : ℕ). bit x i) (eqb-true (ranksBelow at n) (2 ^ n - 1) e) ∙ bit-all n i h in
-          sym (ap₂ _&&_ (order-holds n rows (links-order n rows at inside links full)) (all-within n rows (links-within n rows at inside links full)))
+          sym
+          (ap₂ _&&_ (order-holds n rows (links-order n rows at inside links full)) (all-within n rows (links-within n rows at inside links full)))
       go false e = sym (unnamed asked refl)
         where
           unnamed : (b : Bool) → asked ≡ b → b ≡ false

@@ -39,9 +39,11 @@ ranks-has : (at : ℕ → ℕ) (r k : ℕ) → k < r → bit (ranksBelow at r) (
 ranks-has at zero k h = absurd (omega arith)
 ranks-has at (suc r) k h = ranks-more at r (at k) ∙ go (eqb k r) refl (ranks-has at r k)
   where
-    go : (b : Bool) → eqb k r ≡ b → (k < r → bit (ranksBelow at r) (at k) ≡ true) → (bit (ranksBelow at r) (at k) || eqb (at k) (at r)) ≡ true
+    go : (b : Bool) → eqb k r ≡ b → (k < r → bit (ranksBelow at r) (at k) ≡ true)
+        → (bit (ranksBelow at r) (at k) || eqb (at k) (at r)) ≡ true
     go true e rest =
-        ap (λ (b : Bool). bit (ranksBelow at r) (at k) || b) (eq-eqb (at k) (at r) (ap at (eqb-true k r e))) ∙ or-true (bit (ranksBelow at r) (at k))
+        ap (λ (b : Bool). bit (ranksBelow at r) (at k) || b) (eq-eqb (at k) (at r) (ap at (eqb-true k r e)))
+        ∙ or-true (bit (ranksBelow at r) (at k))
     go false e rest = ap (λ (b : Bool). b || eqb (at k) (at r)) (rest (lt-of-le-ne (omega arith) (eqb-false k r e)))
 
 ranks-found : (at : ℕ → ℕ) (r j : ℕ) → bit (ranksBelow at r) j ≡ true → (k : ℕ) × (k < r) × (at k ≡ j)
@@ -49,7 +51,8 @@ unfolding ranksBelow
 ranks-found at zero j p = absurd (false≢true (sym (bit-zero j) ∙ p))
 ranks-found at (suc r) j p = go (eqb j (at r)) refl (bit (ranksBelow at r) j) refl (ranks-found at r j)
   where
-    go : (b : Bool) → eqb j (at r) ≡ b → (d : Bool) → bit (ranksBelow at r) j ≡ d → (bit (ranksBelow at r) j ≡ true → (k : ℕ) × (k < r) × (at k ≡ j))
+    go : (b : Bool) → eqb j (at r) ≡ b → (d : Bool) → bit (ranksBelow at r) j ≡ d
+        → (bit (ranksBelow at r) j ≡ true → (k : ℕ) × (k < r) × (at k ≡ j))
         → (k : ℕ) × (k < suc r) × (at k ≡ j)
     go true e d f rest = (r, le-refl (suc r), sym (eqb-true j (at r) e))
     go false e true f rest = let q = rest f in (q .0, omega (arith, q .1), q .2)
@@ -142,7 +145,8 @@ module _ (n : ℕ) (rows : List ℕ) (at : ℕ → ℕ) (o : Order n rows) (narr
   next : (r : ℕ) → r < n → Lowest r → Link rows at r × Lowest (suc r)
   unfolding beats
   next r h low =
-      go (top n beaten-by (λ i j h g d. swapped (o .total i j h g d)) (λ i j k h g l p q. o .transitive k j i l g h q p) (λ (x : ℕ). not (bit (ranksBelow at r) x)) n (le-refl n))
+      go
+      (top n beaten-by (λ i j h g d. swapped (o .total i j h g d)) (λ i j k h g l p q. o .transitive k j i l g h q p) (λ (x : ℕ). not (bit (ranksBelow at r) x)) n (le-refl n))
     where
       beaten-by : ℕ → ℕ → Bool
       beaten-by i j = beats rows j i
@@ -197,7 +201,8 @@ module _ (n : ℕ) (rows : List ℕ) (at : ℕ → ℕ) (o : Order n rows) (narr
               count-ext (bit (ranksBelow at (suc r))) (λ (j : ℕ). S j || eqb j m) n (λ j g. grown j)
               ∙ count-more S n m (q .below) (out-set (S m) (q .passes)) ∙ ap suc (low .many)
 
-          beaten : (s x : ℕ) → s < n → x < n → bit (ranksBelow at (suc r)) s ≡ true → bit (ranksBelow at (suc r)) x ≡ false → beats rows x s ≡ true
+          beaten : (s x : ℕ) → s < n → x < n → bit (ranksBelow at (suc r)) s ≡ true → bit (ranksBelow at (suc r)) x ≡ false
+              → beats rows x s ≡ true
           beaten s x g l p f = by-new (eqb s m) refl (neither (S x) (eqb x m) (sym (grown x) ∙ f))
             where
               neither : (a b : Bool) → (a || b) ≡ false → (a ≡ false) × (b ≡ false)
@@ -206,7 +211,8 @@ module _ (n : ℕ) (rows : List ℕ) (at : ℕ → ℕ) (o : Order n rows) (narr
 
               by-new : (b : Bool) → eqb s m ≡ b → (S x ≡ false) × (eqb x m ≡ false) → beats rows x s ≡ true
               by-new true e (off, d) = ap (beats rows x) (eqb-true s m e) ∙ q .others x l (ap not off) (eqb-false x m d)
-              by-new false e (off, d) = low .beaten s x g l (sym (or-false (S s)) ∙ ap (λ (b : Bool). S s || b) (sym e) ∙ sym (grown s) ∙ p) off
+              by-new false e (off, d) =
+                  low .beaten s x g l (sym (or-false (S s)) ∙ ap (λ (b : Bool). S s || b) (sym e) ∙ sym (grown s) ∙ p) off
 
   lowest : (r : ℕ) → r ≤ n → Lowest r
   unfolding ranksBelow ones

@@ -37,7 +37,8 @@ ranked-none n rows h =
 pub ranked-more : (n : ℕ) (rows at : List ℕ) (i : ℕ) → n ≤ 32 → i < n → rankOf rows i < 33 → Ranked n rows at i
     → Ranked n rows (set at (rankOf rows i) (i % 256)) (i + 1)
 ranked-more n rows at i w h r t =
-    record { room = length-set at (rankOf rows i) (i % 256) ∙ t .room; inside = λ k. inside k (eqb k (rankOf rows i)) refl; same = λ k l. same k l (eqb (rankOf rows k) (rankOf rows i)) refl (eqb k i) refl }
+    record
+    { room = length-set at (rankOf rows i) (i % 256) ∙ t .room; inside = λ k. inside k (eqb k (rankOf rows i)) refl; same = λ k l. same k l (eqb (rankOf rows k) (rankOf rows i)) refl (eqb k i) refl }
   where
     fits : rankOf rows i < length at
     fits = let e = t .room in omega arith
@@ -49,7 +50,8 @@ ranked-more n rows at i w h r t =
     here = getD-set-same at (rankOf rows i) (i % 256) 0 fits ∙ small
 
     inside : (k : ℕ) (b : Bool) → eqb k (rankOf rows i) ≡ b → getD (set at (rankOf rows i) (i % 256)) k 0 < n
-    inside k true e = subst (λ (x : ℕ). x < n) (sym (ap (λ (m : ℕ). getD (set at (rankOf rows i) (i % 256)) m 0) (eqb-true k (rankOf rows i) e) ∙ here)) h
+    inside k true e =
+        subst (λ (x : ℕ). x < n) (sym (ap (λ (m : ℕ). getD (set at (rankOf rows i) (i % 256)) m 0) (eqb-true k (rankOf rows i) e) ∙ here)) h
     inside k false e =
         subst (λ (x : ℕ). x < n) (sym (getD-set-other at (rankOf rows i) k (i % 256) 0 (eqb-false k (rankOf rows i) e))) (t .inside k)
 

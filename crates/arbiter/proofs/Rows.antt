@@ -58,7 +58,8 @@ all-above i (suc n) h = go (ltb i n) refl (all-above i n)
         omega arith
 
 -- one row more
-pub filled-more : (f : ℕ → ℕ) (rows : List ℕ) (i x : ℕ) → i < length rows → take i rows ≡ listOf f i → x ≡ f i → take (i + 1) (set rows i x) ≡ listOf f (i + 1)
+pub filled-more : (f : ℕ → ℕ) (rows : List ℕ) (i x : ℕ) → i < length rows → take i rows ≡ listOf f i → x ≡ f i
+    → take (i + 1) (set rows i x) ≡ listOf f (i + 1)
 unfolding listOf
 filled-more f rows i x h e v =
     subst (λ (k : ℕ). take k (set rows i x) ≡ listOf f k) (sym (add-one i))
@@ -71,7 +72,8 @@ raised-from : (w k : ℕ) (rows : List ℕ) (i : ℕ) → k ≤ i → getD (rais
 unfolding raised
 raised-from w zero rows i h = refl
 raised-from w (suc k) rows i h =
-    getD-set-other (raised w k rows) k i (withBit w (getD (raised w k rows) k 0)) 0 (λ e. omega arith) ∙ raised-from w k rows i (omega arith)
+    getD-set-other (raised w k rows) k i (withBit w (getD (raised w k rows) k 0)) 0 (λ e. omega arith)
+    ∙ raised-from w k rows i (omega arith)
 
 raised-below : (w k : ℕ) (rows : List ℕ) (i : ℕ) → k ≤ length rows → i < k → getD (raised w k rows) i 0 ≡ withBit w (getD rows i 0)
 unfolding raised

@@ -172,7 +172,8 @@ fresh-sound places code n k = go (k .kind)
           no-pointer = λ _. refl;
           order = λ _. subst (Order n) rows (fresh-order-holds places n (k .room));
           within-width = λ _ i h.
-              subst (λ (l : List ℕ). getD l i 0 < 2 ^ n) rows (subst (λ (x : ℕ). x < 2 ^ n) (sym (fresh-row places n i (omega arith))) (fresh-lt n i));
+              subst (λ (l : List ℕ). getD l i 0 < 2 ^ n) rows
+              (subst (λ (x : ℕ). x < 2 ^ n) (sym (fresh-row places n i (omega arith))) (fresh-lt n i));
           beyond-width = λ _ i h g. ap (λ (l : List ℕ). getD l i 0) (sym rows) ∙ fresh-row places n i g ∙ sym (none-above i n h);
         }
 

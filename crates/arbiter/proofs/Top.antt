@@ -29,7 +29,8 @@ module _ (n : ℕ) (before : ℕ → ℕ → Bool)
       under : (x : ℕ) → x < suc k → (x ≡ k → ⊥) → x < k
       under x l d = lt-of-le-ne (omega arith) d
 
-      go : (b : Bool) → test k ≡ b → None test k ⊎ ((m : ℕ) × Top before test k m) → None test (suc k) ⊎ ((m : ℕ) × Top before test (suc k) m)
+      go : (b : Bool) → test k ≡ b → None test k ⊎ ((m : ℕ) × Top before test k m)
+          → None test (suc k) ⊎ ((m : ℕ) × Top before test (suc k) m)
       go false e (inl none) = inl (λ x l. last x l (eqb x k) refl)
         where
           last : (x : ℕ) → x < suc k → (b : Bool) → eqb x k ≡ b → test x ≡ false
@@ -49,14 +50,16 @@ module _ (n : ℕ) (before : ℕ → ℕ → Bool)
       go true e (inr (m, q)) = by-order (total k m h (let l = q .below in omega arith) (λ same. let l = q .below in omega arith))
         where
           by-order : (before k m ≡ true) ⊎ (before m k ≡ true) → None test (suc k) ⊎ ((m : ℕ) × Top before test (suc k) m)
-          by-order (inl b) = inr (k, record { below = le-refl (suc k); passes = e; others = λ x g t d. past x (under x g d) t (eqb x m) refl })
+          by-order (inl b) =
+              inr (k, record { below = le-refl (suc k); passes = e; others = λ x g t d. past x (under x g d) t (eqb x m) refl })
             where
               past : (x : ℕ) → x < k → test x ≡ true → (b : Bool) → eqb x m ≡ b → before k x ≡ true
               past x g t true same = ap (before k) (eqb-true x m same) ∙ b
               past x g t false differs =
                   transitive k m x h (let l = q .below in omega arith) (omega arith) b (q .others x g t (eqb-false x m differs))
           by-order (inr b) =
-              inr (m, record { below = let l = q .below in omega arith; passes = q .passes; others = λ x g t d. keep x g t d (eqb x k) refl })
+              inr
+              (m, record { below = let l = q .below in omega arith; passes = q .passes; others = λ x g t d. keep x g t d (eqb x k) refl })
             where
               keep : (x : ℕ) → x < suc k → test x ≡ true → (x ≡ m → ⊥) → (b : Bool) → eqb x k ≡ b → before m x ≡ true
               keep x g t d true same = ap (before m) (eqb-true x k same) ∙ b

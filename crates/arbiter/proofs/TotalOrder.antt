@@ -41,7 +41,8 @@ module _ (n : ℕ) (rows : List ℕ) where
   pub order-of : totalOrder n rows ≡ true → Order n rows
   unfolding totalOrder xor
   order-of e =
-      record { irreflexive = λ i h. off (beats rows i i) (every-at n nobodyItself (parts .0) i h); total = total; asymmetric = asymmetric; transitive = transitive }
+      record
+      { irreflexive = λ i h. off (beats rows i i) (every-at n nobodyItself (parts .0) i h); total = total; asymmetric = asymmetric; transitive = transitive }
     where
       parts : (every n nobodyItself ≡ true) × (every n (λ (i : ℕ). every n (exactlyOne i)) ≡ true)
           × (every n (λ (i : ℕ). every n (λ (j : ℕ). every n (carriesOver i j))) ≡ true)

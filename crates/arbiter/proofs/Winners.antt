@@ -86,7 +86,8 @@ module _ (n p : ℕ) (ask : ℕ → Bool) (low : p < n) where
   turn-nearest : (w : ℕ) → nextInTurn n ask p ≡ some w → (j : ℕ) → j < n → ask j ≡ true → turnsFrom n p w ≤ turnsFrom n p j
   turn-nearest w e j h t = go (turn-cases n p ask w e) (ltb j p) refl
     where
-      go : First ask (n - p) p w ⊎ (First ask p 0 w × (firstFrom ask (n - p) p ≡ none)) → (b : Bool) → ltb j p ≡ b → turnsFrom n p w ≤ turnsFrom n p j
+      go : First ask (n - p) p w ⊎ (First ask p 0 w × (firstFrom ask (n - p) p ≡ none)) → (b : Bool) → ltb j p ≡ b
+          → turnsFrom n p w ≤ turnsFrom n p j
       go (inl f) true q =
           let l : w < n = let b = f .below in omega arith in
           let x = turns-after n p w (f .from) l in
@@ -206,10 +207,12 @@ module _ (n : ℕ) (ask : ℕ → Bool) (rows : List ℕ) where
 -- ---- either kind
 
 module _ (places code n : ℕ) (ask : ℕ → Bool) (a : Arbiter) where
-  by-kind : (o : Option ℕ) → choice places code n ask a ≡ o → (b : Bool) → usable places code n (a .pointer) ≡ b → (d : Bool) → eqb code 1 ≡ d
+  by-kind : (o : Option ℕ) → choice places code n ask a ≡ o → (b : Bool) → usable places code n (a .pointer) ≡ b → (d : Bool)
+      → eqb code 1 ≡ d
       → cond b (cond d (nextInTurn n ask (a .pointer)) (champion n ask (a .rows))) none ≡ o
   unfolding choice
-  by-kind o e b f d g = ap₂ (λ (b d : Bool). cond b (cond d (nextInTurn n ask (a .pointer)) (champion n ask (a .rows))) none) (sym f) (sym g) ∙ e
+  by-kind o e b f d g =
+      ap₂ (λ (b d : Bool). cond b (cond d (nextInTurn n ask (a .pointer)) (champion n ask (a .rows))) none) (sym f) (sym g) ∙ e
 
   -- the winner is one of the n, and it asks
   pub winner-asks : (w : ℕ) → choice places code n ask a ≡ some w → (w < n) × (ask w ≡ true)

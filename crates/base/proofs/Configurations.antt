@@ -56,7 +56,8 @@ out-first k (f ∷ fs) zero o =
 out-first k (f ∷ fs) (suc m) o =
     let e : suc k + m ≡ k + suc m = omega arith in
     ap (λ (b : Bool). cond b (firstIllegal (suc k) fs) (some k)) (o .before 0 (omega arith))
-    ∙ out-first (suc k) fs m (record { there = let l = o .there in omega arith; out = o .out; before = λ j l. o .before (suc j) (omega arith) })
+    ∙ out-first (suc k) fs m
+    (record { there = let l = o .there in omega arith; out = o .out; before = λ j l. o .before (suc j) (omega arith) })
     ∙ ap some e
 
 -- 1 with field m + 1 comes exactly when that field is the first out of its range

@@ -39,7 +39,8 @@ pub every-ext : (n : ℕ) (f g : ℕ → Bool) → ((i : ℕ) → i < n → f i 
 unfolding every
 every-ext zero f g same = refl
 every-ext (suc n) f g same =
-    ap (λ (b : Bool). b && f n) (every-ext n f g (λ i h. same i (omega arith))) ∙ ap (λ (b : Bool). every n g && b) (same n (le-refl (suc n)))
+    ap (λ (b : Bool). b && f n) (every-ext n f g (λ i h. same i (omega arith)))
+    ∙ ap (λ (b : Bool). every n g && b) (same n (le-refl (suc n)))
 
 -- a test that fails somewhere is not passed by all
 pub not-every : (n : ℕ) (test : ℕ → Bool) (i : ℕ) → i < n → test i ≡ false → every n test ≡ false

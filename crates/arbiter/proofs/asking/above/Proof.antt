@@ -24,7 +24,9 @@ sub-result c =
     omega arith
 
 returns : tie.Need-returns
-returns c = rw (c .before .all .ensures, c .all2 .ensures) (all-above (c .before .before .before .args .i) (c .before .before .before .args .n) (c .before .before .if1 .taken))
+returns c =
+    rw (c .before .all .ensures, c .all2 .ensures)
+    (all-above (c .before .before .before .args .i) (c .before .before .before .args .n) (c .before .before .if1 .taken))
 
 returns-2 : tie.Need-returns-2
 returns-2 c = none-above (c .before .args .i) (c .before .args .n) (c .if1 .left)

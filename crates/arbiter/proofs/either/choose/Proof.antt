@@ -14,7 +14,8 @@ use Rattle.arbiter.proofs.either.choose.Tie as tie
 is-usable-requires : tie.Need-is-usable-requires
 is-usable-requires c κs = search needs
 
-ok : (c : tie.Else1) → usable (c .before .before .before .args .places) (c .before .before .before .args .code) (c .before .before .before .args .n) (c .before .before .before .args .pointer) ≡ true
+ok : (c : tie.Else1)
+    → usable (c .before .before .before .args .places) (c .before .before .before .args .code) (c .before .before .before .args .n) (c .before .before .before .args .pointer) ≡ true
 ok c = sym (c .before .is-usable .ensures) ∙ not-false (c .before .is-usable .result) (c .if1 .left)
 
 returns : tie.Need-returns
@@ -53,7 +54,8 @@ returns-2 c =
     let q = usable-is (a .places) (a .code) (a .n) (a .pointer) u in
     let k = known-is (a .places) (a .code) (a .n) (q .0) in
     c .choose .ensures
-    ∙ rw (c .before .before .below .ensures) (choice-turn (a .places) (a .code) (a .n) (a .requests .set) (record { pointer = a .pointer; rows = a .rows .now }) u (c .before .if2 .taken))
+    ∙ rw (c .before .before .below .ensures)
+    (choice-turn (a .places) (a .code) (a .n) (a .requests .set) (record { pointer = a .pointer; rows = a .rows .now }) u (c .before .if2 .taken))
 
 choose-requires-2 : tie.Need-choose-requires-2
 choose-requires-2 c κs =
@@ -75,7 +77,8 @@ returns-3 c =
     let q = usable-is (a .places) (a .code) (a .n) (a .pointer) u in
     let k = known-is (a .places) (a .code) (a .n) (q .0) in
     c .choose2 .ensures
-    ∙ rw (c .before .before .below .ensures) (choice-champion (a .places) (a .code) (a .n) (a .requests .set) (record { pointer = a .pointer; rows = a .rows .now }) u (c .before .if2 .left))
+    ∙ rw (c .before .before .below .ensures)
+    (choice-champion (a .places) (a .code) (a .n) (a .requests .set) (record { pointer = a .pointer; rows = a .rows .now }) u (c .before .if2 .left))
 
 pub choose-spec : {M : Type 1} → statement M
 choose-spec =

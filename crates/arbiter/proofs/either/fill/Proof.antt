@@ -19,7 +19,8 @@ returns : tie.Need-returns
 returns c =
     let a = c .before .before .before .args in
     c .before .before .before .pre .1
-    ∙ fresh-unknown (a .places) (a .code) (a .n) (sym (c .before .is-known .ensures) ∙ not-true (c .before .is-known .result) (c .if1 .taken))
+    ∙ fresh-unknown (a .places) (a .code) (a .n)
+    (sym (c .before .is-known .ensures) ∙ not-true (c .before .is-known .result) (c .if1 .taken))
 
 returns-2 : tie.Need-returns-2
 returns-2 c =
@@ -43,7 +44,8 @@ returns-3 c =
     let p = c .before .before .before .before .before .before .before .before .pre in
     let long : length (a .rows .now) ≡ a .places = ap length (p .1) ∙ length-replicate (a .places) 0 in
     c .before .before .order .ensures ∙ ap (λ (k : ℕ). freshRows k (a .n)) long
-    ∙ fresh-order (a .places) (a .code) (a .n) (sym (c .before .before .before .before .before .before .is-known .ensures) ∙ not-false (c .before .before .before .before .before .before .is-known .result) (c .before .before .before .before .before .if1 .left)) (c .before .before .before .before .if2 .left)
+    ∙ fresh-order (a .places) (a .code) (a .n)
+    (sym (c .before .before .before .before .before .before .is-known .ensures) ∙ not-false (c .before .before .before .before .before .before .is-known .result) (c .before .before .before .before .before .if1 .left)) (c .before .before .before .before .if2 .left)
 
 pub fill-spec : {M : Type 1} → statement M
 fill-spec =

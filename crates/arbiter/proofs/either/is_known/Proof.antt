@@ -19,13 +19,19 @@ returns-3 : tie.Need-returns-3
 unfolding known
 returns-3 c =
     let a = c .before .before .before .args in
-    simp (le-leb 1 (a .n) (c .before .before .if1 .left), le-leb (a .n) (a .places) (c .before .if2 .left), eq-eqb (a .code) 1 (c .if3 .taken))
+    simp
+    (le-leb 1 (a .n) (c .before .before .if1 .left), le-leb (a .n) (a .places) (c .before .if2 .left), eq-eqb (a .code) 1 (c .if3 .taken))
 
 returns-4 : tie.Need-returns-4
 unfolding known
 returns-4 c =
     let a = c .before .before .before .args in
-    simp (le-leb 1 (a .n) (c .before .before .if1 .left), le-leb (a .n) (a .places) (c .before .if2 .left), ne-eqb (a .code) 1 (c .if3 .left), and-true)
+    simp (
+      le-leb 1 (a .n) (c .before .before .if1 .left),
+      le-leb (a .n) (a .places) (c .before .if2 .left),
+      ne-eqb (a .code) 1 (c .if3 .left),
+      and-true,
+    )
 
 pub is-known-spec : {M : Type 1} → statement M
 is-known-spec = tie.close (tie.spec returns returns-2 returns-3 returns-4)

@@ -15,11 +15,13 @@ use Rattle.arbiter.proofs.either.is_sound.Tie as tie
 is-known-requires : tie.Need-is-known-requires
 is-known-requires c κs = search needs
 
-ok : (c : tie.Else1) → known (c .before .before .before .args .places) (c .before .before .before .args .code) (c .before .before .before .args .n) ≡ true
+ok : (c : tie.Else1)
+    → known (c .before .before .before .args .places) (c .before .before .before .args .code) (c .before .before .before .args .n) ≡ true
 ok c = sym (c .before .is-known .ensures) ∙ not-false (c .before .is-known .result) (c .if1 .left)
 
 blank : (c : tie.After-are-blank2)
-    → c .are-blank2 .result ≡ blankFrom (c .before .before .before .before .before .before .args .n) (c .before .before .before .before .before .before .args .places) (c .before .before .before .before .before .before .args .rows .now)
+    → c .are-blank2 .result ≡ blankFrom (c .before .before .before .before .before .before .args .n)
+    (c .before .before .before .before .before .before .args .places) (c .before .before .before .before .before .before .args .rows .now)
 blank c =
     let a = c .before .before .before .before .before .before .args in
     c .are-blank2 .ensures ∙ ap (λ (k : ℕ). blankFrom (a .n) k (a .rows .now)) (c .before .before .before .before .before .before .pre .1)
@@ -27,12 +29,14 @@ blank c =
 returns : tie.Need-returns
 returns c =
     let a = c .before .before .before .args in
-    sound-unknown (a .places) (a .code) (a .n) (record { pointer = a .pointer; rows = a .rows .now }) (sym (c .before .is-known .ensures) ∙ not-true (c .before .is-known .result) (c .if1 .taken))
+    sound-unknown (a .places) (a .code) (a .n) (record { pointer = a .pointer; rows = a .rows .now })
+    (sym (c .before .is-known .ensures) ∙ not-true (c .before .is-known .result) (c .if1 .taken))
 
 returns-2 : tie.Need-returns-2
 returns-2 c =
     let a = c .before .before .before .before .before .args in
-    sound-past (a .places) (a .code) (a .n) (record { pointer = a .pointer; rows = a .rows .now }) (ok (c .before .before)) (c .before .before .before .before .before .pre .1) (c .before .if2 .taken) (c .if3 .taken)
+    sound-past (a .places) (a .code) (a .n) (record { pointer = a .pointer; rows = a .rows .now }) (ok (c .before .before))
+    (c .before .before .before .before .before .pre .1) (c .before .if2 .taken) (c .if3 .taken)
 
 are-blank-requires : tie.Need-are-blank-requires
 are-blank-requires c κs = search needs
@@ -41,12 +45,14 @@ returns-3 : tie.Need-returns-3
 returns-3 c =
     let a = c .before .before .before .before .before .before .args in
     c .are-blank .ensures ∙ ap (λ (k : ℕ). blankFrom 0 k (a .rows .now)) (c .before .before .before .before .before .before .pre .1)
-    ∙ sound-turn (a .places) (a .code) (a .n) (record { pointer = a .pointer; rows = a .rows .now }) (ok (c .before .before .before)) (c .before .before .before .before .before .before .pre .1) (c .before .before .if2 .taken) (c .before .if3 .left)
+    ∙ sound-turn (a .places) (a .code) (a .n) (record { pointer = a .pointer; rows = a .rows .now }) (ok (c .before .before .before))
+    (c .before .before .before .before .before .before .pre .1) (c .before .before .if2 .taken) (c .before .if3 .left)
 
 returns-4 : tie.Need-returns-4
 returns-4 c =
     let a = c .before .before .before .before .before .args in
-    sound-pointer (a .places) (a .code) (a .n) (record { pointer = a .pointer; rows = a .rows .now }) (ok (c .before .before)) (c .before .before .before .before .before .pre .1) (c .before .if2 .left) (c .if4 .taken)
+    sound-pointer (a .places) (a .code) (a .n) (record { pointer = a .pointer; rows = a .rows .now }) (ok (c .before .before))
+    (c .before .before .before .before .before .pre .1) (c .before .if2 .left) (c .if4 .taken)
 
 are-blank-requires-2 : tie.Need-are-blank-requires-2
 are-blank-requires-2 c κs =
@@ -58,7 +64,9 @@ are-blank-requires-2 c κs =
 returns-5 : tie.Need-returns-5
 returns-5 c =
     let a = c .before .before .before .before .before .before .before .args in
-    sound-beyond (a .places) (a .code) (a .n) (record { pointer = a .pointer; rows = a .rows .now }) (ok (c .before .before .before .before)) (c .before .before .before .before .before .before .before .pre .1) (c .before .before .before .if2 .left) (sym (blank (c .before)) ∙ not-true (c .before .are-blank2 .result) (c .if5 .taken))
+    sound-beyond (a .places) (a .code) (a .n) (record { pointer = a .pointer; rows = a .rows .now })
+    (ok (c .before .before .before .before)) (c .before .before .before .before .before .before .before .pre .1)
+    (c .before .before .before .if2 .left) (sym (blank (c .before)) ∙ not-true (c .before .are-blank2 .result) (c .if5 .taken))
 
 is-total-requires : tie.Need-is-total-requires
 is-total-requires c κs =
@@ -71,7 +79,10 @@ returns-6 : tie.Need-returns-6
 returns-6 c =
     let a = c .before .before .before .before .before .before .before .before .args in
     c .is-total .ensures
-    ∙ sound-order (a .places) (a .code) (a .n) (record { pointer = a .pointer; rows = a .rows .now }) (ok (c .before .before .before .before .before)) (c .before .before .before .before .before .before .before .before .pre .1) (c .before .before .before .before .if2 .left) (c .before .before .before .if4 .left) (sym (blank (c .before .before)) ∙ not-false (c .before .before .are-blank2 .result) (c .before .if5 .left))
+    ∙ sound-order (a .places) (a .code) (a .n) (record { pointer = a .pointer; rows = a .rows .now })
+    (ok (c .before .before .before .before .before)) (c .before .before .before .before .before .before .before .before .pre .1)
+    (c .before .before .before .before .if2 .left) (c .before .before .before .if4 .left)
+    (sym (blank (c .before .before)) ∙ not-false (c .before .before .are-blank2 .result) (c .before .if5 .left))
 
 pub is-sound-spec : {M : Type 1} → statement M
 is-sound-spec =

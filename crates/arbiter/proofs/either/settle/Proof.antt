@@ -15,7 +15,8 @@ use Rattle.arbiter.proofs.either.settle.Tie as tie
 is-usable-requires : tie.Need-is-usable-requires
 is-usable-requires c κs = search needs
 
-ok : (c : tie.Else1) → usable (c .before .before .before .args .places) (c .before .before .before .args .code) (c .before .before .before .args .n) (c .before .before .before .args .pointer) ≡ true
+ok : (c : tie.Else1)
+    → usable (c .before .before .before .args .places) (c .before .before .before .args .code) (c .before .before .before .args .n) (c .before .before .before .args .pointer) ≡ true
 ok c = sym (c .before .is-usable .ensures) ∙ not-false (c .before .is-usable .result) (c .if1 .left)
 
 returns : tie.Need-returns
@@ -36,7 +37,8 @@ returns-3 : tie.Need-returns-3
 returns-3 c =
     let a = c .before .before .before .before .before .before .args in
     ap (λ (p : ℕ). record { pointer = p; rows = a .rows .now }) (c .next .ensures)
-    ∙ moved-turn (a .places) (a .code) (a .n) (a .w) (record { pointer = a .pointer; rows = a .rows .now }) (ok (c .before .before .before)) (c .before .before .if2 .left) (c .before .if3 .taken)
+    ∙ moved-turn (a .places) (a .code) (a .n) (a .w) (record { pointer = a .pointer; rows = a .rows .now }) (ok (c .before .before .before))
+    (c .before .before .if2 .left) (c .before .if3 .taken)
 
 defeat-requires : tie.Need-defeat-requires
 defeat-requires c κs =
@@ -53,7 +55,9 @@ returns-4 : tie.Need-returns-4
 returns-4 c =
     let a = c .before .before .before .before .before .before .before .before .before .args in
     ap (λ (l : List ℕ). record { pointer = a .pointer; rows = l }) (c .before .before .defeat .ensures)
-    ∙ moved-defeat (a .places) (a .code) (a .n) (a .w) (record { pointer = a .pointer; rows = a .rows .now }) (ok (c .before .before .before .before .before .before)) (c .before .before .before .before .before .if2 .left) (c .before .before .before .before .if3 .left)
+    ∙ moved-defeat (a .places) (a .code) (a .n) (a .w) (record { pointer = a .pointer; rows = a .rows .now })
+    (ok (c .before .before .before .before .before .before)) (c .before .before .before .before .before .if2 .left)
+    (c .before .before .before .before .if3 .left)
 
 pub settle-spec : {M : Type 1} → statement M
 settle-spec =

@@ -20,13 +20,15 @@ tried : (c : tie.In-loop Inv-loop μ-loop) → trailingZeros 32 (c .before .loop
 tried c =
     let a = c .before .before .before .args in
     let p = c .before .before .before .pre in
-    trying-below (a .n) (a .asking) (a .rows .now) (c .before .loop .left) (p .0) (p .2) (c .before .loop .inv) (omega (arith, c .loop-test .taken))
+    trying-below (a .n) (a .asking) (a .rows .now) (c .before .loop .left) (p .0) (p .2) (c .before .loop .inv)
+    (omega (arith, c .loop-test .taken))
 
 own-le : (c : tie.In-loop Inv-loop μ-loop) → 2 ^ trailingZeros 32 (c .before .loop .left) ≤ c .before .loop .left
 own-le c =
     let a = c .before .before .before .args in
     let p = c .before .before .before .pre in
-    trying-own (a .n) (a .asking) (a .rows .now) (c .before .loop .left) (p .0) (p .2) (c .before .loop .inv) (omega (arith, c .loop-test .taken))
+    trying-own (a .n) (a .asking) (a .rows .now) (c .before .loop .left) (p .0) (p .2) (c .before .loop .inv)
+    (omega (arith, c .loop-test .taken))
 
 loop-holds : tie.Need-loop-holds Inv-loop μ-loop
 loop-holds c = trying-all (c .before .args .n) (c .before .args .asking) (c .before .args .rows .now) (c .before .pre .2)
@@ -49,7 +51,8 @@ returns c =
     let a = c .before .before .before .before .before .before .args in
     let p = c .before .before .before .before .before .before .pre in
     let l = c .before .before .before .before .loop in
-    trying-wins (a .n) (a .asking) (a .rows .now) (l .left) (p .0) (p .2) (l .inv) (omega (arith, c .before .before .before .loop-test .taken))
+    trying-wins (a .n) (a .asking) (a .rows .now) (l .left) (p .0) (p .2) (l .inv)
+    (omega (arith, c .before .before .before .loop-test .taken))
     (rw (c .before .before .only .ensures) at (c .if1 .taken))
 
 sub-left : tie.Need-sub-left Inv-loop μ-loop

@@ -55,7 +55,8 @@ loop-again c =
     let i = c .before .before .loop .inv in (
       search needs,
       simp length-set (i .1),
-      rw (c .before .before .before .only .ensures) (raised-more (a .w) (c .before .before .loop .j) (a .rows .now) (c .before .before .loop .rows) (i .2)),
+      rw (c .before .before .before .only .ensures)
+          (raised-more (a .w) (c .before .before .loop .j) (a .rows .now) (c .before .before .loop .rows) (i .2)),
     )
 
 mul-rows-3 : tie.Need-mul-rows-3 Inv-loop μ-loop

@@ -44,7 +44,8 @@ loop-again c =
     let i = c .before .before .loop .inv in (
       search needs,
       simp length-set (i .1),
-      filled-more (freshRow (c .before .before .before .before .args .n)) (c .before .before .loop .rows) (c .before .before .loop .i) (c .above .result) (c .before .loop-test .taken) (i .2) (c .above .ensures),
+      filled-more (freshRow (c .before .before .before .before .args .n)) (c .before .before .loop .rows) (c .before .before .loop .i)
+          (c .above .result) (c .before .loop-test .taken) (i .2) (c .above .ensures),
     )
 
 same-length : tie.Need-same-length Inv-loop μ-loop

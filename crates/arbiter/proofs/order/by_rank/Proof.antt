@@ -16,7 +16,8 @@ abbrev μ-loop : tie.MeasureT-loop
 μ-loop n rows at₀ i₀ at i = n - i
 
 -- a word of 32 bits has at most 32 of them set
-small : (c : tie.After-shared-slice-known Inv-loop μ-loop) → ones (getD (c .before .before .before .args .rows .now) (c .before .before .loop .i) 0) < 33
+small : (c : tie.After-shared-slice-known Inv-loop μ-loop)
+    → ones (getD (c .before .before .before .args .rows .now) (c .before .before .loop .i) 0) < 33
 small c =
     let l = ones-le 32 (getD (c .before .before .before .args .rows .now) (c .before .before .loop .i) 0) (c .shared-slice-known .given (c .before .before .loop .i) .fits) in
     omega arith

@@ -29,7 +29,8 @@ cast-i-2 : tie.Need-cast-i-2 Inv-loop μ-loop
 cast-i-2 c = search needs
 
 only-requires : tie.Need-only-requires Inv-loop μ-loop
-only-requires c κs = let p = c .before .before .before .before .pre in omega (arith, c .before .before .by-rank .ensures .0 (c .before .loop .rank))
+only-requires c κs =
+    let p = c .before .before .before .before .pre in omega (arith, c .before .before .by-rank .ensures .0 (c .before .loop .rank))
 
 cast-if1 : tie.Need-cast-if1 Inv-loop μ-loop
 cast-if1 c = search needs
@@ -49,7 +50,8 @@ returns c =
     let a = c .before .before .before .before .before .before .before .args in
     let r = c .before .before .before .before .before .by-rank in
     let l = c .before .before .before .before .loop in
-    test-fails (a .n) (a .rows .now) (entry (r .result)) (r .ensures .0) (r .ensures .1) (l .rank) (c .before .before .before .loop-test .taken)
+    test-fails (a .n) (a .rows .now) (entry (r .result)) (r .ensures .0) (r .ensures .1) (l .rank)
+    (c .before .before .before .loop-test .taken)
     (λ link. c .if1 .taken (here-link (a .n) (a .rows .now) (entry (r .result)) (l .lower) (l .rank) (l .inv) link .0))
 
 returns-2 : tie.Need-returns-2 Inv-loop μ-loop
@@ -57,7 +59,8 @@ returns-2 c =
     let a = c .before .before .before .before .before .before .before .before .args in
     let r = c .before .before .before .before .before .before .by-rank in
     let l = c .before .before .before .before .before .loop in
-    test-fails (a .n) (a .rows .now) (entry (r .result)) (r .ensures .0) (r .ensures .1) (l .rank) (c .before .before .before .before .loop-test .taken)
+    test-fails (a .n) (a .rows .now) (entry (r .result)) (r .ensures .0) (r .ensures .1) (l .rank)
+    (c .before .before .before .before .loop-test .taken)
     (λ link. c .if2 .taken (rw (c .before .before .before .only .ensures) (here-link (a .n) (a .rows .now) (entry (r .result)) (l .lower) (l .rank) (l .inv) link .1)))
 
 add-rank : tie.Need-add-rank Inv-loop μ-loop

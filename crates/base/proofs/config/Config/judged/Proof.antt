@@ -26,28 +26,36 @@ depth-in c = sym (c .before .within3 .ensures) ∙ not-false (c .before .within3
 depth-out : (c : tie.Then3) → inRange (field (c .before .before .before .before .before .before .args .self .depth) 1 16) ≡ false
 depth-out c = sym (c .before .within3 .ensures) ∙ not-true (c .before .within3 .result) (c .if3 .taken)
 
-downstream-in : (c : tie.Else4) → inRange (field (c .before .before .before .before .before .before .before .before .args .self .downstream) 1 16) ≡ true
+downstream-in : (c : tie.Else4)
+    → inRange (field (c .before .before .before .before .before .before .before .before .args .self .downstream) 1 16) ≡ true
 downstream-in c = sym (c .before .within4 .ensures) ∙ not-false (c .before .within4 .result) (c .if4 .left)
 
-downstream-out : (c : tie.Then4) → inRange (field (c .before .before .before .before .before .before .before .before .args .self .downstream) 1 16) ≡ false
+downstream-out : (c : tie.Then4)
+    → inRange (field (c .before .before .before .before .before .before .before .before .args .self .downstream) 1 16) ≡ false
 downstream-out c = sym (c .before .within4 .ensures) ∙ not-true (c .before .within4 .result) (c .if4 .taken)
 
-forward-in : (c : tie.Else5) → inRange (field (c .before .before .before .before .before .before .before .before .before .before .args .self .forward) 1 8) ≡ true
+forward-in : (c : tie.Else5)
+    → inRange (field (c .before .before .before .before .before .before .before .before .before .before .args .self .forward) 1 8) ≡ true
 forward-in c = sym (c .before .within5 .ensures) ∙ not-false (c .before .within5 .result) (c .if5 .left)
 
-forward-out : (c : tie.Then5) → inRange (field (c .before .before .before .before .before .before .before .before .before .before .args .self .forward) 1 8) ≡ false
+forward-out : (c : tie.Then5)
+    → inRange (field (c .before .before .before .before .before .before .before .before .before .before .args .self .forward) 1 8) ≡ false
 forward-out c = sym (c .before .within5 .ensures) ∙ not-true (c .before .within5 .result) (c .if5 .taken)
 
-back-in : (c : tie.Else6) → inRange (field (c .before .before .before .before .before .before .before .before .before .before .before .before .args .self .back) 1 8) ≡ true
+back-in : (c : tie.Else6)
+    → inRange (field (c .before .before .before .before .before .before .before .before .before .before .before .before .args .self .back) 1 8) ≡ true
 back-in c = sym (c .before .within6 .ensures) ∙ not-false (c .before .within6 .result) (c .if6 .left)
 
-back-out : (c : tie.Then6) → inRange (field (c .before .before .before .before .before .before .before .before .before .before .before .before .args .self .back) 1 8) ≡ false
+back-out : (c : tie.Then6)
+    → inRange (field (c .before .before .before .before .before .before .before .before .before .before .before .before .args .self .back) 1 8) ≡ false
 back-out c = sym (c .before .within6 .ensures) ∙ not-true (c .before .within6 .result) (c .if6 .taken)
 
-arbiter-in : (c : tie.Else7) → inRange (field (c .before .before .before .before .before .before .before .before .before .before .before .before .before .before .args .self .arbiter) 1 2) ≡ true
+arbiter-in : (c : tie.Else7)
+    → inRange (field (c .before .before .before .before .before .before .before .before .before .before .before .before .before .before .args .self .arbiter) 1 2) ≡ true
 arbiter-in c = sym (c .before .within7 .ensures) ∙ not-false (c .before .within7 .result) (c .if7 .left)
 
-arbiter-out : (c : tie.Then7) → inRange (field (c .before .before .before .before .before .before .before .before .before .before .before .before .before .before .args .self .arbiter) 1 2) ≡ false
+arbiter-out : (c : tie.Then7)
+    → inRange (field (c .before .before .before .before .before .before .before .before .before .before .before .before .before .before .args .self .arbiter) 1 2) ≡ false
 arbiter-out c = sym (c .before .within7 .ensures) ∙ not-true (c .before .within7 .result) (c .if7 .taken)
 
 returns : tie.Need-returns
@@ -64,23 +72,64 @@ returns-3 c = rw (ports-in (c .before .before .before .before), vcs-in (c .befor
 
 returns-4 : tie.Need-returns-4
 unfolding illegalField firstIllegal
-returns-4 c = rw (ports-in (c .before .before .before .before .before .before), vcs-in (c .before .before .before .before), depth-in (c .before .before), downstream-out c)
+returns-4 c =
+    rw (
+      ports-in (c .before .before .before .before .before .before),
+      vcs-in (c .before .before .before .before),
+      depth-in (c .before .before),
+      downstream-out c,
+    )
 
 returns-5 : tie.Need-returns-5
 unfolding illegalField firstIllegal
-returns-5 c = rw (ports-in (c .before .before .before .before .before .before .before .before), vcs-in (c .before .before .before .before .before .before), depth-in (c .before .before .before .before), downstream-in (c .before .before), forward-out c)
+returns-5 c =
+    rw (
+      ports-in (c .before .before .before .before .before .before .before .before),
+      vcs-in (c .before .before .before .before .before .before),
+      depth-in (c .before .before .before .before),
+      downstream-in (c .before .before),
+      forward-out c,
+    )
 
 returns-6 : tie.Need-returns-6
 unfolding illegalField firstIllegal
-returns-6 c = rw (ports-in (c .before .before .before .before .before .before .before .before .before .before), vcs-in (c .before .before .before .before .before .before .before .before), depth-in (c .before .before .before .before .before .before), downstream-in (c .before .before .before .before), forward-in (c .before .before), back-out c)
+returns-6 c =
+    rw (
+      ports-in (c .before .before .before .before .before .before .before .before .before .before),
+      vcs-in (c .before .before .before .before .before .before .before .before),
+      depth-in (c .before .before .before .before .before .before),
+      downstream-in (c .before .before .before .before),
+      forward-in (c .before .before),
+      back-out c,
+    )
 
 returns-7 : tie.Need-returns-7
 unfolding illegalField firstIllegal
-returns-7 c = rw (ports-in (c .before .before .before .before .before .before .before .before .before .before .before .before), vcs-in (c .before .before .before .before .before .before .before .before .before .before), depth-in (c .before .before .before .before .before .before .before .before), downstream-in (c .before .before .before .before .before .before), forward-in (c .before .before .before .before), back-in (c .before .before), arbiter-out c)
+returns-7 c =
+    rw (
+      ports-in (c .before .before .before .before .before .before .before .before .before .before .before .before),
+      vcs-in (c .before .before .before .before .before .before .before .before .before .before),
+      depth-in (c .before .before .before .before .before .before .before .before),
+      downstream-in (c .before .before .before .before .before .before),
+      forward-in (c .before .before .before .before),
+      back-in (c .before .before),
+      arbiter-out c,
+    )
 
 returns-8 : tie.Need-returns-8
 unfolding illegalField firstIllegal
-returns-8 c = rw (ports-in (c .before .before .before .before .before .before .before .before .before .before .before .before), vcs-in (c .before .before .before .before .before .before .before .before .before .before), depth-in (c .before .before .before .before .before .before .before .before), downstream-in (c .before .before .before .before .before .before), forward-in (c .before .before .before .before), back-in (c .before .before), arbiter-in c)
+returns-8 c =
+    rw (
+      ports-in (c .before .before .before .before .before .before .before .before .before .before .before .before),
+      vcs-in (c .before .before .before .before .before .before .before .before .before .before),
+      depth-in (c .before .before .before .before .before .before .before .before),
+      downstream-in (c .before .before .before .before .before .before),
+      forward-in (c .before .before .before .before),
+      back-in (c .before .before),
+      arbiter-in c,
+    )
 
 pub judged-spec : {M : Type 1} → statement M
-judged-spec = tie.close (tie.spec (λ c κs. search needs) returns (λ c κs. search needs) returns-2 (λ c κs. search needs) returns-3 (λ c κs. search needs) returns-4 (λ c κs. search needs) returns-5 (λ c κs. search needs) returns-6 (λ c κs. search needs) returns-7 returns-8)
+judged-spec =
+    tie.close
+    (tie.spec (λ c κs. search needs) returns (λ c κs. search needs) returns-2 (λ c κs. search needs) returns-3 (λ c κs. search needs) returns-4 (λ c κs. search needs) returns-5 (λ c κs. search needs) returns-6 (λ c κs. search needs) returns-7 returns-8)
