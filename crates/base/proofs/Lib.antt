@@ -3,3 +3,4 @@ pub mod Configurations
 pub mod Count
 pub mod Flits
 pub mod Search
+pub mod Zeros
