@@ -1,0 +1,4 @@
+pub mod Spelling
+pub mod Sums
+pub mod Weights
+pub mod Examples

@@ -1,0 +1,21 @@
+-- The bytes of a block, and numbers and zeros among them.
+-- Assumes nothing.
+use mathlib.Core.Bool.{Bool, _||_}
+use mathlib.Core.List.{List}
+use Prim.Native.Nat.{ℕ, zero, suc, _+_, _*_}
+use lib.Dec.{eqb, ltb}
+use lib.ListN.{getD}
+use Rattle.base.specs.Search.{every}
+
+-- byte i of a block; 0 past its end
+abbrev pub byte : List ℕ → ℕ → ℕ
+byte block i = getD block i 0
+
+-- "big-endian": the number that the n bytes from `from` on spell, the first the highest
+unfoldable pub bigEndian : List ℕ → ℕ → ℕ → ℕ
+bigEndian block from zero = 0
+bigEndian block from (suc n) = 256 * bigEndian block from n + byte block (from + n)
+
+-- each byte at `from` or after it, and before `to`, is zero
+unfoldable pub zeros : List ℕ → ℕ → ℕ → Bool
+zeros block from to = every to (λ (i : ℕ). ltb i from || eqb (byte block i) 0)

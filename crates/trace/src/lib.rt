@@ -1,0 +1,3 @@
+// The 512-byte blocks of a trace.
+mod bytes;
+mod check;
