@@ -1,2 +1,4 @@
 pub mod Bytes
 pub mod Check
+pub mod Blocks
+pub mod Cycles

@@ -1,0 +1,71 @@
+-- "Blocks" (01): what each byte of a block is for.
+-- Assumes nothing.
+use mathlib.Core.Bool.{cond}
+use mathlib.Core.List.{List}
+use Prim.Native.Nat.{ℕ, _+_, _*_}
+use lib.Dec.{eqb}
+use Rattle.base.specs.declared.config.Config.{Config}
+use Rattle.trace.specs.Bytes.{byte, bigEndian}
+
+-- "512 bytes."
+abbrev pub blockLength : ℕ
+blockLength = 512
+
+-- "Byte 0 kind (1 configuration, 2 cycles, 3 end)"
+abbrev pub kindOf : List ℕ → ℕ
+kindOf block = byte block 0
+
+abbrev pub configuration : ℕ
+configuration = 1
+
+abbrev pub cycles : ℕ
+cycles = 2
+
+abbrev pub end : ℕ
+end = 3
+
+-- "byte 1 cycles held (1..7 ..)"
+abbrev pub heldOf : List ℕ → ℕ
+heldOf block = byte block 1
+
+abbrev pub mostHeld : ℕ
+mostHeld = 7
+
+-- "bytes 2..5 block number from 0, big-endian"
+abbrev pub numberOf : List ℕ → ℕ
+numberOf block = bigEndian block 2 4
+
+-- "8..509 body; 510..511 the check"
+abbrev pub bodyStart : ℕ
+bodyStart = 8
+
+abbrev pub checkStart : ℕ
+checkStart = 510
+
+-- "Configuration body: P, V, D, E, F, B, arbiter code at bytes 8..14."
+abbrev pub configOf : List ℕ → Config
+configOf block =
+    record {
+      ports = byte block 8;
+      vcs = byte block 9;
+      depth = byte block 10;
+      downstream = byte block 11;
+      forward = byte block 12;
+      back = byte block 13;
+      arbiter = byte block 14;
+    }
+
+-- "End body: accepted cycles, bytes 8..11 big-endian."
+abbrev pub totalOf : List ℕ → ℕ
+totalOf block = bigEndian block 8 4
+
+-- "Cycles: 64 bytes each from byte 8"
+abbrev pub cycleLength : ℕ
+cycleLength = 64
+
+abbrev pub cycleStart : ℕ → ℕ
+cycleStart k = bodyStart + cycleLength * k
+
+-- the first byte after those that the kind's body uses: 8..14, the cycles held, or 8..11
+unfoldable pub bodyEnd : List ℕ → ℕ
+bodyEnd block = cond (eqb (kindOf block) configuration) 15 (cond (eqb (kindOf block) cycles) (cycleStart (heldOf block)) 12)
