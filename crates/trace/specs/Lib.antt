@@ -2,3 +2,4 @@ pub mod Bytes
 pub mod Check
 pub mod Blocks
 pub mod Cycles
+pub mod Place

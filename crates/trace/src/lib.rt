@@ -2,5 +2,7 @@
 mod bytes;
 mod check;
 mod cycles;
+mod place;
 
 pub use cycles::cycle_part;
+pub use place::Place;
