@@ -1,4 +1,9 @@
 pub mod Spelling
 pub mod Sums
 pub mod Weights
+pub mod Tests
+pub mod Used
+pub mod Places
+pub mod Reading
+pub mod Order
 pub mod Examples

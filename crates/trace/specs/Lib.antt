@@ -3,3 +3,5 @@ pub mod Check
 pub mod Blocks
 pub mod Cycles
 pub mod Place
+pub mod Rules
+pub mod Judged
