@@ -7,3 +7,4 @@ pub mod Places
 pub mod Reading
 pub mod Order
 pub mod Examples
+pub mod Longer
