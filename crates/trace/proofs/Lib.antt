@@ -8,3 +8,4 @@ pub mod Reading
 pub mod Order
 pub mod Examples
 pub mod Longer
+pub mod Exactness
