@@ -9,3 +9,5 @@ pub mod Order
 pub mod Examples
 pub mod Longer
 pub mod Exactness
+pub mod Passing
+pub mod OneByte

@@ -5,3 +5,4 @@ pub mod Cycles
 pub mod Place
 pub mod Rules
 pub mod Judged
+pub mod Changed

@@ -1,0 +1,26 @@
+-- "Any one byte changed, in a block whose check holds, must be noticed." (01, blocks): what one byte changed is.
+-- Assumes nothing.
+use mathlib.Core.Path.{_≡_}
+use mathlib.Core.List.{List}
+use Prim.Native.Nat.{ℕ, _<_}
+use Rattle.trace.specs.Bytes.{byte}
+use Rattle.base.specs.Numbers as numbers
+use Rattle.trace.specs.declared.place.Place.{Place}
+use Rattle.trace.specs.Blocks.{blockLength}
+use Rattle.trace.specs.Judged.{judged}
+
+-- a list of bytes, as every lent slice is
+abbrev pub AreBytes : List ℕ → Type 0
+AreBytes l = (i : ℕ) → byte l i < 256
+
+-- of the 512 bytes the one at k differs, and no other
+pub record ChangedAt (k : ℕ) (x y : List ℕ) : Type 0 where
+  pub inside : k < blockLength
+  pub differs : byte x k ≡ byte y k → ⊥
+  pub same : (i : ℕ) → i < blockLength → (i ≡ k → ⊥) → byte x i ≡ byte y i
+
+-- at a place before the end block a block passes its check: judging it gives none of the numbers up to 7
+pub record PassesCheck (p : Place) (c : ℕ) (block : List ℕ) : Type 0 where
+  pub not2 : judged p c block .number ≡ numbers.notSound → ⊥
+  pub not9 : judged p c block .number ≡ numbers.blockShort → ⊥
+  pub not7 : judged p c block .number ≡ numbers.checkWrong → ⊥
