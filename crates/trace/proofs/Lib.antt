@@ -11,3 +11,5 @@ pub mod Longer
 pub mod Exactness
 pub mod Passing
 pub mod OneByte
+pub mod Formed
+pub mod Ways

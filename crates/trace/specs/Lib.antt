@@ -6,3 +6,4 @@ pub mod Place
 pub mod Rules
 pub mod Judged
 pub mod Changed
+pub mod Way
