@@ -12,7 +12,7 @@ use Rattle.trace.specs.Bytes.{bigEndian, zeros}
 use Rattle.trace.specs.Check.{sum, checkOf, checkHolds}
 use Rattle.trace.specs.Blocks.{configOf, bodyEnd}
 use Rattle.trace.specs.Place.{start, mayHold, goodPlace}
-use Rattle.trace.specs.Rules.{placeUnsound, blockShort, checkWrong, kindWrong, numberWrong, countWrong, unusedWrong, orderWrong, totalWrong, bytesFollow, formWrong, blockWrong, fieldWrong}
+use Rattle.trace.specs.Rules.{placeUnsound, blockShort, checkWrong, kindWrong, numberWrong, countWrong, unusedWrong, orderWrong, totalWrong, formWrong, blockWrong, fieldWrong}
 use Rattle.trace.specs.Judged.{aConfiguration, theEnd, accepted, refused, readOf, taken, byField, judged}
 
 -- a block of these bytes, zeros, and this check

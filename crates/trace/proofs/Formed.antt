@@ -1,13 +1,12 @@
 -- A block that the rule of 8 lets through before the end block, byte by byte: exactly what the document says of each.
 -- Assumes nothing.
-use mathlib.Core.Path.{_≡_, refl, sym, ap, _∙_}
+use mathlib.Core.Path.{_≡_, refl, ap}
 use mathlib.Core.Logic.{_↔_}
 use mathlib.Core.Bool.{Bool, true, false, cond, not, _&&_, _||_}
 use mathlib.Core.List.{List}
 use Prim.Native.Nat.{ℕ, _≤_, _<_}
 use lib.Dec.{eqb, leb}
-use borrow.Author.Tests.{eqb-true, eqb-false, eq-eqb, ne-eqb, leb-true, le-leb, not-false, not-true}
-use Rattle.base.specs.Search.{every}
+use borrow.Author.Tests.{eqb-true, eqb-false, eq-eqb, ne-eqb, leb-true, le-leb, not-false}
 use Rattle.base.proofs.Search.{both, neither}
 use Rattle.base.proofs.Zeros.{blank-at, all-blank}
 use Rattle.trace.specs.declared.place.Place.{Place}

@@ -13,3 +13,6 @@ pub mod Passing
 pub mod OneByte
 pub mod Formed
 pub mod Ways
+pub mod Sealed
+pub mod Made
+pub mod Reached

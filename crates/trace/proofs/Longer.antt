@@ -11,17 +11,15 @@ use lib.Dec.{eqb, leb, ltb, lit<}
 use lib.ListN.{length, take}
 use lib.Seq.{length-take-le, getD-take}
 use borrow.Author.Tests.{lt-ltb, le-ltb}
-use Rattle.base.specs.declared.config.Config.{Config}
-use Rattle.base.specs.Search.{every}
 use Rattle.base.specs.Sizes.{illegalField}
 use Rattle.base.specs.Numbers as numbers
 use Rattle.base.proofs.Search.{every-ext}
 use Rattle.trace.specs.declared.place.Place.{Place}
 use Rattle.trace.specs.Bytes.{byte, bigEndian, zeros}
 use Rattle.trace.specs.Blocks.{kindOf, heldOf, configOf, cycleStart, bodyEnd}
-use Rattle.trace.specs.Check.{sum, weighed, checkOf, checkHolds}
+use Rattle.trace.specs.Check.{weighed, checkOf, checkHolds}
 use Rattle.trace.specs.Rules.{placeUnsound, blockShort, checkWrong, kindWrong, numberWrong, countWrong, unusedWrong, orderWrong, totalWrong, bytesFollow, formWrong, blockWrong, fieldWrong}
-use Rattle.trace.specs.Judged.{Outcome, aConfiguration, someCycles, theEnd, noMore, accepted, refused, nextPlace, readOf, taken, byField, judged}
+use Rattle.trace.specs.Judged.{aConfiguration, someCycles, theEnd, noMore, accepted, refused, readOf, taken, byField, judged}
 use Rattle.trace.proofs.Spelling.{spell-ext}
 use Rattle.trace.proofs.Sums.{sum-ext}
 

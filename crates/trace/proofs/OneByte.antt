@@ -1,12 +1,11 @@
 -- One byte changed is noticed. 65,521 is prime, so it divides no product of a weight, at most 510, and a byte's change, at most 255; and a
 -- change of the stored check itself shows as it is compared as a value.
 -- Assumes nothing.
-use mathlib.Core.Path.{_≡_, refl, sym, ap, ap₂, _∙_}
-use mathlib.Core.Logic.{_⊎_, inl, inr}
+use mathlib.Core.Path.{_≡_, refl, sym, ap, _∙_}
 use mathlib.Core.Bool.{Bool, true, false, not, _||_, true≢false}
 use mathlib.Core.List.{List}
 use Prim.Native.Nat.{ℕ, _+_, _*_, _-_, _%_, _≤_, _<_}
-use native.Mathlib.Nat.{mul-add, mul-mod-left, mul-le-mul, mul-le-mul-right, mul-pos, le-refl}
+use native.Mathlib.Nat.{mul-add, mul-mod-left, mul-le-mul, mul-le-mul-right, mul-pos}
 use native.Mathlib.Omega.{arith}
 use lib.Arith.{lt-of-le-ne}
 use lib.Dec.{eqb, leb, ltb}
@@ -16,8 +15,8 @@ use Rattle.base.specs.Search.{every}
 use Rattle.base.proofs.Search.{every-at}
 use Rattle.base.specs.Numbers as numbers
 use Rattle.trace.specs.declared.place.Place.{Place}
-use Rattle.trace.specs.Bytes.{byte, bigEndian}
-use Rattle.trace.specs.Changed.{AreBytes, ChangedAt, PassesCheck}
+use Rattle.trace.specs.Bytes.{byte, AreBytes, bigEndian}
+use Rattle.trace.specs.Changed.{ChangedAt, PassesCheck}
 use Rattle.trace.specs.Check.{sum, weighed, checkOf, checkHolds}
 use Rattle.trace.specs.Place.{goodPlace}
 use Rattle.trace.specs.Judged.{refused, judged}

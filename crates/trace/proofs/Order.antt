@@ -1,21 +1,17 @@
 -- The order of the refusals, case by case: what is judged where the tests came out so.
 -- Assumes nothing.
-use mathlib.Core.Path.{_≡_, refl, sym, ap, _∙_}
-use mathlib.Core.Bool.{Bool, true, false, cond, not, _&&_, false≢true}
+use mathlib.Core.Path.{_≡_}
+use mathlib.Core.Bool.{true, false}
 use mathlib.Core.List.{List}
-use Prim.Native.Nat.{ℕ, _-_, _≤_, _<_}
-use native.Mathlib.Omega.{arith}
-use lib.Dec.{leb, lit<}
+use Prim.Native.Nat.{ℕ, _≤_, _<_}
 use lib.ListN.{length}
-use borrow.Author.Tests.{lt-ltb, le-ltb, leb-true, eqb-true}
+use borrow.Author.Tests.{lt-ltb, le-ltb}
 use Rattle.base.specs.Numbers as numbers
-use Rattle.base.specs.Sizes.{cycleLimit}
-use Rattle.base.proofs.Search.{both}
 use Rattle.trace.specs.declared.place.Place.{Place}
 use Rattle.trace.specs.Check.{checkHolds}
-use Rattle.trace.specs.Place.{mayHold, goodPlace}
+use Rattle.trace.specs.Place.{goodPlace}
 use Rattle.trace.specs.Rules.{placeUnsound, blockShort, checkWrong, bytesFollow, formWrong, blockWrong, fieldWrong}
-use Rattle.trace.specs.Judged.{Outcome, noMore, accepted, refused, taken, byField, judged}
+use Rattle.trace.specs.Judged.{noMore, accepted, refused, taken, byField, judged}
 
 module _ (p : Place) (c : ℕ) (l : List ℕ) where
   pub judged-unsound : goodPlace p c ≡ false → judged p c l ≡ refused numbers.notSound 0 p

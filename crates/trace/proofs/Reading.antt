@@ -1,18 +1,17 @@
 -- What a block before the end block holds, where no rule before 1 refuses it.
 -- Assumes nothing.
-use mathlib.Core.Path.{_≡_, refl, sym, ap, _∙_}
-use mathlib.Core.Bool.{Bool, true, false, cond, not, _&&_}
+use mathlib.Core.Path.{_≡_}
+use mathlib.Core.Bool.{false}
 use mathlib.Core.List.{List}
-use mathlib.Core.Option.{Option, some, none}
+use mathlib.Core.Option.{some, none}
 use Prim.Native.Nat.{ℕ}
-use lib.Dec.{eqb}
 use borrow.Author.Tests.{eq-eqb, ne-eqb}
 use Rattle.base.specs.Sizes.{illegalField}
 use Rattle.base.specs.Numbers as numbers
 use Rattle.trace.specs.declared.place.Place.{Place}
 use Rattle.trace.specs.Blocks.{kindOf, heldOf, configOf}
 use Rattle.trace.specs.Rules.{fieldWrong}
-use Rattle.trace.specs.Judged.{Outcome, aConfiguration, someCycles, theEnd, accepted, refused, nextPlace, readOf, taken, byField}
+use Rattle.trace.specs.Judged.{aConfiguration, someCycles, theEnd, accepted, refused, nextPlace, readOf, taken, byField}
 
 module _ (p : Place) (l : List ℕ) (before : p .ended ≡ false) where
   -- a configuration value out of range

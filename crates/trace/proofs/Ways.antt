@@ -3,8 +3,7 @@
 use mathlib.Core.Path.{_≡_, refl, sym, ap, ap₂, subst, _∙_}
 use mathlib.Core.Bool.{Bool, true, false, cond, not, true≢false}
 use mathlib.Core.List.{List}
-use mathlib.Core.Option.{Option, some, none}
-use Prim.Native.Nat.{ℕ, _+_, _*_, _≤_, _<_}
+use Prim.Native.Nat.{ℕ, _+_, _≤_, _<_}
 use native.Mathlib.Nat.{add-zero}
 use native.Mathlib.Omega.{arith}
 use lib.Arith.{lt-of-le-ne}
@@ -14,13 +13,13 @@ use Rattle.base.specs.Numbers as numbers
 use Rattle.base.specs.Sizes.{cycleLimit}
 use Rattle.trace.specs.declared.place.Place.{Place}
 use Rattle.trace.specs.Blocks.{kindOf, heldOf, configOf}
-use Rattle.trace.specs.Place.{start, mayHold, withoutCycles, goodPlace}
+use Rattle.trace.specs.Place.{start, withoutCycles, goodPlace}
 use Rattle.trace.specs.Rules.{placeUnsound, bytesFollow, blockWrong, formWrong}
 use Rattle.trace.specs.Judged.{Outcome, aConfiguration, someCycles, theEnd, noMore, accepted, nextPlace, readOf, taken, judged}
 use Rattle.trace.specs.Way.{cyclesIn, Way, begins, goes-on}
 use Rattle.trace.proofs.Exactness.{two-exactly, accepted-exactly, accepted-taken}
 use Rattle.trace.proofs.Formed.{Formed, formed-is}
-use Rattle.trace.proofs.Places.{Held, Good, nothing, after, good-is, good-holds}
+use Rattle.trace.proofs.Places.{Good, nothing, after, good-is, good-holds}
 
 pub start-good : goodPlace start 0 ≡ true
 unfolding goodPlace
@@ -105,7 +104,7 @@ accepted-leads-on p c l g e =
 -- every place on a file's way is good
 pub way-good : (p : Place) (c : ℕ) → Way p c → goodPlace p c ≡ true
 way-good _ _ begins = start-good
-way-good _ _ (goes-on p c l w e limit) = accepted-leads-on p c l (way-good p c w) e limit
+way-good _ _ (goes-on p c l w b e limit) = accepted-leads-on p c l (way-good p c w) e limit
 
 -- so that 2 never comes there
 pub way-never-2 : (p : Place) (c : ℕ) (l : List ℕ) → Way p c → judged p c l .number ≡ numbers.notSound → ⊥

@@ -2,7 +2,7 @@
 -- Assumes nothing.
 use mathlib.Core.Bool.{Bool, _||_}
 use mathlib.Core.List.{List}
-use Prim.Native.Nat.{ℕ, zero, suc, _+_, _*_}
+use Prim.Native.Nat.{ℕ, zero, suc, _+_, _*_, _<_}
 use lib.Dec.{eqb, ltb}
 use lib.ListN.{getD}
 use Rattle.base.specs.Search.{every}
@@ -10,6 +10,10 @@ use Rattle.base.specs.Search.{every}
 -- byte i of a block; 0 past its end
 abbrev pub byte : List ℕ → ℕ → ℕ
 byte block i = getD block i 0
+
+-- a list of bytes, as every lent slice is
+abbrev pub AreBytes : List ℕ → Type 0
+AreBytes block = (i : ℕ) → byte block i < 256
 
 -- "big-endian": the number that the n bytes from `from` on spell, the first the highest
 unfoldable pub bigEndian : List ℕ → ℕ → ℕ → ℕ

@@ -9,10 +9,6 @@ use Rattle.trace.specs.declared.place.Place.{Place}
 use Rattle.trace.specs.Blocks.{blockLength}
 use Rattle.trace.specs.Judged.{judged}
 
--- a list of bytes, as every lent slice is
-abbrev pub AreBytes : List ℕ → Type 0
-AreBytes l = (i : ℕ) → byte l i < 256
-
 -- of the 512 bytes the one at k differs, and no other
 pub record ChangedAt (k : ℕ) (x y : List ℕ) : Type 0 where
   pub inside : k < blockLength

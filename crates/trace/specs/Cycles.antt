@@ -2,7 +2,7 @@
 -- is under 512 bytes or has byte 1 above 7, it shows an empty part" (01, blocks)
 -- Assumes nothing.
 use mathlib.Core.Bool.{Bool, cond, _&&_}
-use mathlib.Core.List.{List, []}
+use mathlib.Core.List.{List}
 use Prim.Native.Nat.{ℕ, _+_}
 use denote.Ref.{RefT}
 use lib.Dec.{leb, ltb}

@@ -1,6 +1,6 @@
 -- What judging a block gives back: "Order. Block: 9, 7, 8, then 1", and 2 before all; else what was read.
 -- Assumes nothing.
-use mathlib.Core.Bool.{Bool, true, cond}
+use mathlib.Core.Bool.{true, cond}
 use mathlib.Core.List.{List}
 use mathlib.Core.Option.{Option, some, none}
 use Prim.Native.Nat.{ℕ, _+_}

@@ -7,6 +7,7 @@ use Prim.Native.Nat.{ℕ, _+_, _≤_}
 use Rattle.base.specs.Numbers as numbers
 use Rattle.base.specs.Sizes.{cycleLimit}
 use Rattle.trace.specs.declared.place.Place.{Place}
+use Rattle.trace.specs.Bytes.{AreBytes}
 use Rattle.trace.specs.Place.{start}
 use Rattle.trace.specs.Judged.{Read, aConfiguration, someCycles, theEnd, noMore, judged}
 
@@ -21,5 +22,5 @@ cyclesIn (some noMore) = 0
 -- some file leads to the place p with c cycles accepted: each block before it was accepted, and after it all cycles that it holds
 pub data Way : Place → ℕ → Type 0 where
   begins : Way start 0
-  goes-on : (p : Place) (c : ℕ) (block : List ℕ) → Way p c → judged p c block .number ≡ numbers.done
+  goes-on : (p : Place) (c : ℕ) (block : List ℕ) → Way p c → AreBytes block → judged p c block .number ≡ numbers.done
       → c + cyclesIn (judged p c block .read) ≤ cycleLimit → Way (judged p c block .place) (c + cyclesIn (judged p c block .read))

@@ -1,6 +1,6 @@
 -- `trace::bytes::are_zero` meets its contract: the `|` of the bytes passed is 0 just when each of them is.
 -- Assumes nothing.
-use Prim.Native.Nat.{ℕ, _≤_, _-_}
+use Prim.Native.Nat.{_≤_, _-_}
 use mathlib.Core.Path.{_≡_, ap, _∙_}
 use native.Mathlib.Omega.{arith}
 use lib.Dec.{eqb}

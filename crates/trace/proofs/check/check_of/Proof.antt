@@ -1,10 +1,10 @@
 -- `trace::check::check_of` meets its contract: the loop has summed the bytes passed, each with its weight.
 -- Assumes nothing.
-use mathlib.Core.Path.{_≡_, ap, ap₂, _∙_}
-use Prim.Native.Nat.{ℕ, _+_, _*_, _%_, _-_, _≤_}
+use mathlib.Core.Path.{_≡_, ap₂}
+use Prim.Native.Nat.{_+_, _*_, _-_, _≤_}
 use native.Mathlib.Omega.{arith}
 use borrow.Author.Needs.{needs}
-use Rattle.trace.specs.Check.{sum, weighed, checkOf}
+use Rattle.trace.specs.Check.{sum, weighed}
 use Rattle.trace.proofs.Weights.{sum-start, weighed-le, weights-le, weights-more, weights-end}
 use Rattle.trace.proofs.check.check_of.Statement.{statement}
 use Rattle.trace.proofs.check.check_of.Tie as tie
