@@ -20,10 +20,10 @@ use Rattle.trace.specs.Check.{sum, checkOf, checkHolds}
 use Rattle.trace.specs.Place.{start, mayHold, goodPlace}
 use Rattle.trace.specs.Rules.{placeUnsound, blockShort, checkWrong, kindWrong, numberWrong, countWrong, unusedWrong, orderWrong, totalWrong, formWrong, blockWrong, fieldWrong}
 use Rattle.trace.specs.Judged.{Outcome, Read, aConfiguration, someCycles, theEnd, accepted, readOf, taken, byField, judged}
-use Rattle.trace.specs.Way.{cyclesIn, Way, begins, goes-on}
+use Rattle.trace.specs.Way.{cyclesIn, Way, begins}
 use Rattle.trace.proofs.Places.{Held, Good, nothing, after, good-is, good-number}
 use Rattle.trace.proofs.Sealed.{sealed, sealed-bytes, known-bytes}
-use Rattle.trace.proofs.Ways.{way-good, way-never-2}
+use Rattle.trace.proofs.Ways.{way-good, way-never-2, way-judged}
 use Rattle.trace.proofs.Exactness.{two-exactly}
 use Rattle.trace.proofs.Made.{at, cyclesBlock, cycles-bytes, cycles-judged, endBlock, end-bytes, end-judged}
 
@@ -32,7 +32,7 @@ go-on : (p : Place) (c : ℕ) (l : List ℕ) (r : Read) (q : Place) → Way p c 
     → c + cyclesIn (some r) ≤ cycleLimit → Way q (c + cyclesIn (some r))
 go-on p c l r q w b e limit =
     subst (λ (o : Outcome). Way (o .place) (c + cyclesIn (o .read))) e
-    (goes-on p c l w b (ap (λ (o : Outcome). o .number) e) (subst (λ (o : Outcome). c + cyclesIn (o .read) ≤ cycleLimit) (sym e) limit))
+    (way-judged p c l w b (ap (λ (o : Outcome). o .number) e) (subst (λ (o : Outcome). c + cyclesIn (o .read) ≤ cycleLimit) (sym e) limit))
 
 -- ---- the configuration block
 

@@ -12,6 +12,7 @@ use borrow.Author.Tests.{eqb-true, eqb-false, eq-eqb, ne-eqb}
 use Rattle.base.specs.Numbers as numbers
 use Rattle.base.specs.Sizes.{cycleLimit}
 use Rattle.trace.specs.declared.place.Place.{Place}
+use Rattle.trace.specs.Bytes.{AreBytes}
 use Rattle.trace.specs.Blocks.{kindOf, heldOf, configOf}
 use Rattle.trace.specs.Place.{start, withoutCycles, goodPlace}
 use Rattle.trace.specs.Rules.{placeUnsound, bytesFollow, blockWrong, formWrong}
@@ -104,9 +105,18 @@ accepted-leads-on p c l g e =
 -- every place on a file's way is good
 pub way-good : (p : Place) (c : ℕ) → Way p c → goodPlace p c ≡ true
 way-good _ _ begins = start-good
-way-good _ _ (goes-on p c l w b e limit) = accepted-leads-on p c l (way-good p c w) e limit
+way-good _ _ (goes-on p c l w b s k f n limit) = taken-leads-on p c l (way-good p c w) f limit
 
 -- so that 2 never comes there
 pub way-never-2 : (p : Place) (c : ℕ) (l : List ℕ) → Way p c → judged p c l .number ≡ numbers.notSound → ⊥
 unfolding placeUnsound
 way-never-2 p c l w e = true≢false (sym (two-exactly p c l .0 e) ∙ ap not (way-good p c w))
+
+-- a block that the judge accepts goes on
+pub way-judged : (p : Place) (c : ℕ) (l : List ℕ) → Way p c → AreBytes l → judged p c l .number ≡ numbers.done
+    → c + cyclesIn (judged p c l .read) ≤ cycleLimit → Way (judged p c l .place) (c + cyclesIn (judged p c l .read))
+way-judged p c l w b e limit =
+    let r = accepted-exactly p c l .0 e in
+    let same = accepted-taken p c l e in
+    subst (λ (o : Outcome). Way (o .place) (c + cyclesIn (o .read))) (sym same)
+    (goes-on p c l w b (r .0 .whole) (r .0 .checked) (r .0 .formed) (r .1) (subst (λ (o : Outcome). c + cyclesIn (o .read) ≤ cycleLimit) same limit))
