@@ -1,12 +1,25 @@
 // A place in a file: what was read before the next block.
 ghost use mathlib.Core.Path.{_≡_};
-ghost use Rattle.trace.specs.Place.{mayHold, goodPlace};
+ghost use Rattle.trace.specs.Place.{start, mayHold, goodPlace};
 
 // The number of the next block, and whether the configuration block and the end block were read.
 pub struct Place {
     pub number: u32,
     pub configured: bool,
     pub ended: bool,
+}
+
+impl Place {
+    // Before the first block of a file.
+    pub fn start() -> Self
+        ensures { λ r. ⌜ r ≡ start ⌝ }
+    {
+        Place {
+            number: 0,
+            configured: false,
+            ended: false,
+        }
+    }
 }
 
 // Whether so many cycle blocks can hold so many cycles.
