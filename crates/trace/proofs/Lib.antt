@@ -17,3 +17,4 @@ pub mod Sealed
 pub mod Made
 pub mod Reached
 pub mod Determined
+pub mod Parts
