@@ -8,7 +8,6 @@ use native.Mathlib.Numerals.{add-one}
 use native.Mathlib.Omega.{arith}
 use lib.Arith.{lt-of-le-ne}
 use lib.Bits.{bitAnd, bitOr}
-use lib.Count.{ones}
 use lib.Dec.{eqb, ltb}
 use lib.ListN.{getD}
 use lib.Pow.{ones-lt}
@@ -19,7 +18,7 @@ use Rattle.base.proofs.Search.{both, every-at, all-every}
 use Rattle.arbiter.specs.Matrix.{totalOrder, within}
 use Rattle.arbiter.proofs.Ranks.{rankOf}
 use Rattle.arbiter.proofs.RankTest.{Link, ranksBelow, ranks-lt, links-order, links-within, order-links, order-full}
-use Rattle.arbiter.proofs.TotalOrder.{Order, order-of, order-holds}
+use Rattle.arbiter.proofs.TotalOrder.{order-of, order-holds}
 
 pub within-at : (n : ℕ) (rows : List ℕ) → within n rows ≡ true → (i : ℕ) → i < n → getD rows i 0 < 2 ^ n
 unfolding within

@@ -1,16 +1,16 @@
 -- Round robin by the trailing zeros of words: what the code finds is the next in turn.
 -- Assumes nothing.
-use mathlib.Core.Path.{_≡_, refl, sym, ap, ap₂, subst, _∙_}
-use mathlib.Core.Bool.{Bool, true, false, true≢false}
-use mathlib.Core.Option.{Option, some, none}
-use Prim.Native.Nat.{ℕ, zero, suc, _+_, _-_, _/_, _%_, _^_, _≤_, _<_}
+use mathlib.Core.Path.{_≡_, sym, ap, subst, _∙_}
+use mathlib.Core.Bool.{true, false}
+use mathlib.Core.Option.{some, none}
+use Prim.Native.Nat.{ℕ, _+_, _-_, _/_, _%_, _^_, _≤_, _<_}
 use native.Mathlib.Nat.{lt-of-le-of-lt, lt-of-lt-of-le, mod-self, mod-lt, mod-eq-of-lt, one-mul, div-lt-iff-lt-mul}
 use native.Mathlib.Omega.{arith}
 use lib.Arith.{lt-of-le-ne}
 use lib.Count.{trailingZeros}
 use lib.Pow.{pow-pos, pow-mono, shr-le}
 use Rattle.base.specs.Bits.{bit}
-use Rattle.base.specs.Search.{firstFrom, orElse}
+use Rattle.base.specs.Search.{orElse}
 use Rattle.base.proofs.Bits.{bit-zero, bit-shr, bit-below}
 use Rattle.base.proofs.Search.{First, first-at, first-none, trailing-first}
 use Rattle.arbiter.specs.RoundRobin.{nextInTurn, pointerAfter}

@@ -13,12 +13,10 @@ use lib.Dec.{eqb, ltb}
 use lib.ListN.{length, getD, set, take, length-set, length-append, List·getD-append}
 use lib.Pow.{pow-mono, pow-pos}
 use lib.Seq.{take-suc-set, getD-set-same, getD-set-other, getD-at}
-use borrow.Author.Tests.{eqb-true, eqb-false, ltb-true, ltb-false, lt-ltb, le-ltb}
+use borrow.Author.Tests.{eqb-true, eqb-false, ltb-true, ltb-false, le-ltb}
 use Rattle.base.specs.Bits.{bit, wordOf, withBit}
-use Rattle.base.proofs.Bits.{or-with, or-zero, bit-zero, bit-with, bit-word, word-lt, with-lt}
-use Rattle.base.specs.Search.{every}
-use Rattle.base.proofs.Search.{all-every}
-use Rattle.arbiter.specs.Matrix.{beats, raised, defeated, listOf, freshRow, freshRows, blankFrom}
+use Rattle.base.proofs.Bits.{or-with, bit-zero, bit-with, bit-word, word-lt, with-lt}
+use Rattle.arbiter.specs.Matrix.{beats, raised, defeated, listOf, freshRow, freshRows}
 
 pub length-raised : (w k : ℕ) (rows : List ℕ) → length (raised w k rows) ≡ length rows
 unfolding raised
@@ -166,19 +164,3 @@ fresh-beats places n i j h g = ap (λ (x : ℕ). bit x j) (fresh-row places n i 
 pub fresh-lt : (n i : ℕ) → freshRow n i < 2 ^ n
 unfolding freshRow
 fresh-lt n i = word-lt (λ (j : ℕ). ltb i j) n
-
--- ---- rows that are zero
-
-pub blank-none : (k : ℕ) (rows : List ℕ) → true ≡ blankFrom k k rows
-unfolding blankFrom
-blank-none k rows =
-    sym (all-every k (λ (i : ℕ). ltb i k || eqb (getD rows i 0) 0) (λ i h. ap (λ (b : Bool). b || eqb (getD rows i 0) 0) (lt-ltb i k h)))
-
--- one row more
-pub blank-more : (k i any : ℕ) (rows : List ℕ) → k ≤ i → eqb any 0 ≡ blankFrom k i rows
-    → eqb (bitOr any (getD rows i 0)) 0 ≡ blankFrom k (i + 1) rows
-unfolding blankFrom every
-blank-more k i any rows h e =
-    or-zero any (getD rows i 0)
-    ∙ ap₂ _&&_ e (ap (λ (b : Bool). b || eqb (getD rows i 0) 0) (sym (le-ltb i k h)))
-    ∙ sym (ap (λ (m : ℕ). blankFrom k m rows) (add-one i))

@@ -3,17 +3,17 @@
 use mathlib.Core.Path.{_≡_, refl, sym, ap, ap₂, subst, _∙_}
 use mathlib.Core.Logic.{_⊎_, inl, inr, _↔_}
 use mathlib.Core.Bool.{Bool, true, false, cond, not, _&&_, _||_, true≢false, or-true, or-false}
-use mathlib.Core.List.{List, [], _∷_, _++_}
+use mathlib.Core.List.{List}
 use mathlib.Core.Option.{Option, some, none}
-use Prim.Native.Nat.{ℕ, zero, suc, _+_, _^_, _≤_, _<_}
-use native.Mathlib.Nat.{mod-lt, le-refl}
+use Prim.Native.Nat.{ℕ, _^_, _≤_, _<_}
+use native.Mathlib.Nat.{le-refl}
 use native.Mathlib.Omega.{arith}
 use lib.Arith.{lt-of-le-ne}
 use lib.Dec.{eqb, ltb}
 use lib.ListN.{length, getD, replicate, length-replicate, getD-replicate}
 use borrow.Author.Tests.{eqb-true, eqb-false, eq-eqb, ne-eqb, ltb-true, ltb-false, lt-ltb, le-ltb}
-use Rattle.base.specs.Search.{every}
-use Rattle.base.proofs.Search.{both, every-at, all-every}
+use Rattle.base.proofs.Search.{both}
+use Rattle.base.proofs.Zeros.{blank-at, all-blank}
 use Rattle.arbiter.specs.Matrix.{beats, defeated, freshRows, totalOrder, within, blankFrom}
 use Rattle.arbiter.specs.Arbiter.{Arbiter, known, usable, moved, after, fresh, sound}
 use Rattle.arbiter.proofs.ByKind.{Known, known-is, known-holds, usable-holds, fresh-turn, fresh-order, sound-turn, sound-order, moved-nobody, moved-turn, moved-defeat}
@@ -21,20 +21,6 @@ use Rattle.arbiter.proofs.OrderTest.{within-at, all-within}
 use Rattle.arbiter.proofs.RoundRobin.{pointer-after}
 use Rattle.arbiter.proofs.Rows.{none-above, fresh-row, fresh-beats, fresh-lt, length-fresh, defeated-beats, defeated-beyond, defeated-within, length-defeated}
 use Rattle.arbiter.proofs.TotalOrder.{Order, order-of, order-holds}
-
-blank-at : (k places : ℕ) (rows : List ℕ) → blankFrom k places rows ≡ true → (i : ℕ) → k ≤ i → i < places → getD rows i 0 ≡ 0
-unfolding blankFrom
-blank-at k places rows e i h g =
-    eqb-true (getD rows i 0) 0
-    (ap (λ (b : Bool). b || eqb (getD rows i 0) 0) (sym (le-ltb i k h)) ∙ every-at places (λ (i : ℕ). ltb i k || eqb (getD rows i 0) 0) e i g)
-
-all-blank : (k places : ℕ) (rows : List ℕ) → ((i : ℕ) → k ≤ i → i < places → getD rows i 0 ≡ 0) → blankFrom k places rows ≡ true
-unfolding blankFrom
-all-blank k places rows all = all-every places (λ (i : ℕ). ltb i k || eqb (getD rows i 0) 0) (λ i g. go i g (ltb i k) refl)
-  where
-    go : (i : ℕ) → i < places → (b : Bool) → ltb i k ≡ b → (b || eqb (getD rows i 0) 0) ≡ true
-    go i g true e = refl
-    go i g false e = eq-eqb (getD rows i 0) 0 (all i (ltb-false i k e) g)
 
 -- a sound arbiter, clause by clause
 pub record Sound (places code n : ℕ) (a : Arbiter) : Type 0 where
@@ -51,7 +37,7 @@ one-not-two : (code : ℕ) → code ≡ 1 → code ≡ 2 → ⊥
 one-not-two code p q = omega arith
 
 pub sound-is : (places code n : ℕ) (a : Arbiter) → sound places code n a ≡ true → Sound places code n a
-unfolding sound
+unfolding sound blankFrom
 sound-is places code n a e = go (known-is places code n (q .0) .kind)
   where
     rest : Bool
@@ -102,6 +88,7 @@ sound-is places code n a e = go (known-is places code n (q .0) .kind)
         }
 
 pub sound-holds : (places code n : ℕ) (a : Arbiter) → Sound places code n a → sound places code n a ≡ true
+unfolding blankFrom
 sound-holds places code n a s = go (s .given .kind)
   where
     is-known : known places code n ≡ true

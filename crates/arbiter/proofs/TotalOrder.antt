@@ -2,19 +2,14 @@
 -- Assumes nothing.
 use mathlib.Core.Path.{_≡_, refl, sym, ap, ap₂, subst, _∙_}
 use mathlib.Core.Logic.{_⊎_, inl, inr}
-use mathlib.Core.Bool.{Bool, true, false, cond, not, _&&_, _||_, xor, Bool·beq, true≢false, false≢true, or-false, or-true}
+use mathlib.Core.Bool.{Bool, true, false, not, _&&_, _||_, xor, Bool·beq, true≢false, false≢true}
 use mathlib.Core.List.{List}
-use Prim.Native.Nat.{ℕ, zero, suc, _+_, _-_, _^_, _≤_, _<_}
-use native.Mathlib.Nat.{le-refl}
-use native.Mathlib.Omega.{arith}
-use lib.Arith.{lt-of-le-ne}
-use lib.Dec.{eqb, ltb}
-use lib.ListN.{getD}
+use Prim.Native.Nat.{ℕ, _<_}
+use lib.Dec.{eqb}
 use borrow.Author.Tests.{eqb-false, ne-eqb}
-use Rattle.base.specs.Bits.{bit}
 use Rattle.base.specs.Search.{every}
 use Rattle.base.proofs.Search.{both, every-at, all-every}
-use Rattle.arbiter.specs.Matrix.{beats, totalOrder, within}
+use Rattle.arbiter.specs.Matrix.{beats, totalOrder}
 
 -- the four facts of a total order, as a reader would state them
 pub record Order (n : ℕ) (rows : List ℕ) : Type 0 where

@@ -1,14 +1,14 @@
 -- Laws of a word's bits, each once for every width: what `&`, `|`, shifts and remainders do to them, and that a word is its bits.
 -- Assumes nothing.
-use mathlib.Core.Path.{_≡_, refl, sym, ap, ap₂, subst, subst₂, _∙_}
+use mathlib.Core.Path.{_≡_, refl, sym, ap, subst, subst₂, _∙_}
 use mathlib.Core.Logic.{_⊎_, inl, inr}
 use mathlib.Core.Bool.{Bool, true, false, cond, not, _&&_, _||_, true≢false, false≢true, and-true, and-false, or-false}
 use Prim.Native.Nat.{ℕ, zero, suc, _+_, _-_, _*_, _/_, _%_, _^_, _≤_, _<_}
-use native.Mathlib.Nat.{zero-div, div-eq-of-lt, add-zero, zero-add, add-suc, add-comm, mul-one, one-mul, pow-suc, lt-of-lt-of-le, le-of-lt, mod-lt, div-one, mod-eq-of-lt, le-refl, not-suc-le-zero, suc-mul}
-use native.Mathlib.Numerals.{add-one, one-add}
+use native.Mathlib.Nat.{zero-div, div-eq-of-lt, add-zero, one-mul, pow-suc, lt-of-lt-of-le, mod-lt, div-one, mod-eq-of-lt, le-refl, not-suc-le-zero, suc-mul}
+use native.Mathlib.Numerals.{one-add}
 use native.Mathlib.Omega.{arith}
 use lib.Dec.{eqb, ltb, lit<, eqb·zero-suc, eqb·suc-zero, eqb·suc-suc}
-use lib.Pow.{pow-pos, pow-mono, pow-lt, shr-shr, shr-lt, split, field, mod-mod-pow, pow-add, shl-shr}
+use lib.Pow.{pow-pos, pow-mono, pow-lt, shr-shr, split, field, mod-mod-pow}
 use lib.Arith.{lt-of-le-ne, digits-div}
 use lib.Bits.{bitAnd, bitOr, and-shr, or-shr, and-mod, or-mod, and-le-r, or-lt, or-add-and, or-disjoint, or-zero-l, and-mask}
 use borrow.Author.Tests.{eqb-true, eqb-false, eq-eqb, ne-eqb, ltb-true, ltb-false}

@@ -3,7 +3,7 @@
 use mathlib.Core.Path.{_≡_, refl, sym, ap, subst, _∙_}
 use mathlib.Core.Logic.{_⊎_, inl, inr}
 use mathlib.Core.Bool.{Bool, true, false, cond, _&&_, _||_, true≢false, false≢true}
-use mathlib.Core.Option.{Option, some, none, Option·some-injective, Option·none-ne-some, Option·some-ne-none}
+use mathlib.Core.Option.{some, none, Option·some-injective, Option·none-ne-some, Option·some-ne-none}
 use Prim.Native.Nat.{ℕ, zero, suc, _+_, _/_, _%_, _^_, _≤_, _<_}
 use native.Mathlib.Nat.{le-refl, not-suc-le-zero, pow-suc}
 use native.Mathlib.Omega.{arith}
@@ -12,7 +12,7 @@ use lib.Count.{trailingZeros, under}
 use lib.Dec.{eqb}
 use borrow.Author.Tests.{eqb-true, eqb-false}
 use Rattle.base.specs.Bits.{bit}
-use Rattle.base.specs.Search.{firstFrom, every, orElse}
+use Rattle.base.specs.Search.{firstFrom, every}
 use Rattle.base.proofs.Bits.{digit, bit-first, bit-half}
 
 -- both halves of an `&&`

@@ -1,6 +1,5 @@
 -- `arbiter::asking::only` meets its contract: shifting 1 by less than 32 loses nothing.
 -- Assumes nothing.
-use native.Mathlib.Omega.{arith}
 use Rattle.base.proofs.Bits.{shl-one}
 use borrow.Author.Needs.{needs}
 use Rattle.arbiter.proofs.asking.only.Statement.{statement}

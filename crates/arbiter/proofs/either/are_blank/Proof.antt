@@ -7,7 +7,7 @@ use lib.Dec.{eqb}
 use lib.ListN.{length}
 use borrow.Author.Needs.{needs}
 use Rattle.arbiter.specs.Matrix.{blankFrom}
-use Rattle.arbiter.proofs.Rows.{blank-none, blank-more}
+use Rattle.base.proofs.Zeros.{blank-none, blank-more}
 use Rattle.arbiter.proofs.either.are_blank.Statement.{statement}
 use Rattle.arbiter.proofs.either.are_blank.Tie as tie
 
@@ -18,6 +18,7 @@ abbrev μ-loop : tie.MeasureT-loop
 μ-loop from rows any₀ i₀ any i = length rows - i
 
 loop-holds : tie.Need-loop-holds Inv-loop μ-loop
+unfolding blankFrom
 loop-holds c = (search needs, search needs, blank-none (c .args .from) (c .args .rows .now))
 
 mul-any : tie.Need-mul-any Inv-loop μ-loop
@@ -33,6 +34,7 @@ loop-less : tie.Need-loop-less Inv-loop μ-loop
 loop-less c = search needs
 
 loop-again : tie.Need-loop-again Inv-loop μ-loop
+unfolding blankFrom
 loop-again c =
     let i = c .before .before .loop .inv in
     (search needs, search needs, blank-more (c .before .before .before .args .from) (c .before .before .loop .i) (c .before .before .loop .any) (c .before .before .before .args .rows .now) (i .0) (i .2))

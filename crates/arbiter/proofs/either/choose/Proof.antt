@@ -1,13 +1,13 @@
 -- `arbiter::either::choose` meets its contract, kind by kind.
 -- Assumes nothing.
 use mathlib.Core.Path.{_≡_, sym, _∙_}
-use mathlib.Core.Bool.{true, false}
+use mathlib.Core.Bool.{true}
 use native.Mathlib.Omega.{arith}
 use borrow.Author.Tests.{not-true, not-false}
 use borrow.Author.Needs.{needs}
 use Rattle.arbiter.specs.Requests.{asks}
 use Rattle.arbiter.specs.Arbiter.{usable}
-use Rattle.arbiter.proofs.ByKind.{Known, known-is, usable-is, masked-lt, choice-unusable, choice-turn, choice-champion}
+use Rattle.arbiter.proofs.ByKind.{known-is, usable-is, masked-lt, choice-unusable, choice-turn, choice-champion}
 use Rattle.arbiter.proofs.either.choose.Statement.{statement}
 use Rattle.arbiter.proofs.either.choose.Tie as tie
 

@@ -1,14 +1,13 @@
 -- `arbiter::either::fill` meets its contract, kind by kind.
 -- Assumes nothing.
-use mathlib.Core.Path.{_≡_, sym, ap, subst, _∙_}
-use mathlib.Core.Bool.{true, false}
+use mathlib.Core.Path.{_≡_, sym, ap, _∙_}
 use Prim.Native.Nat.{ℕ}
 use native.Mathlib.Omega.{arith}
 use lib.ListN.{length, length-replicate}
 use borrow.Author.Tests.{not-true, not-false}
 use borrow.Author.Needs.{needs}
 use Rattle.arbiter.specs.Matrix.{freshRows}
-use Rattle.arbiter.proofs.ByKind.{Known, known-is, fresh-unknown, fresh-turn, fresh-order}
+use Rattle.arbiter.proofs.ByKind.{known-is, fresh-unknown, fresh-turn, fresh-order}
 use Rattle.arbiter.proofs.either.fill.Statement.{statement}
 use Rattle.arbiter.proofs.either.fill.Tie as tie
 

@@ -2,7 +2,6 @@
 -- Assumes nothing.
 use mathlib.Core.Bool.{and-true, and-false}
 use borrow.Author.Tests.{lt-leb, le-leb, eq-eqb, ne-eqb}
-use borrow.Author.Needs.{needs}
 use Rattle.arbiter.specs.Arbiter.{known}
 use Rattle.arbiter.proofs.either.is_known.Statement.{statement}
 use Rattle.arbiter.proofs.either.is_known.Tie as tie

@@ -1,14 +1,14 @@
 -- `arbiter::either::is_sound` meets its contract, kind by kind.
 -- Assumes nothing.
 use mathlib.Core.Path.{_≡_, sym, ap, _∙_}
-use mathlib.Core.Bool.{true, false}
+use mathlib.Core.Bool.{true}
 use Prim.Native.Nat.{ℕ}
 use native.Mathlib.Omega.{arith}
 use borrow.Author.Tests.{not-true, not-false}
 use borrow.Author.Needs.{needs}
 use Rattle.arbiter.specs.Matrix.{blankFrom}
 use Rattle.arbiter.specs.Arbiter.{known}
-use Rattle.arbiter.proofs.ByKind.{Known, known-is, sound-unknown, sound-past, sound-turn, sound-pointer, sound-beyond, sound-order}
+use Rattle.arbiter.proofs.ByKind.{known-is, sound-unknown, sound-past, sound-turn, sound-pointer, sound-beyond, sound-order}
 use Rattle.arbiter.proofs.either.is_sound.Statement.{statement}
 use Rattle.arbiter.proofs.either.is_sound.Tie as tie
 

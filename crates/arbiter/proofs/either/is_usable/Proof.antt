@@ -1,6 +1,5 @@
 -- `arbiter::either::is_usable` meets its contract.
 -- Assumes nothing.
-use mathlib.Core.Path.{sym, _∙_}
 use borrow.Author.Tests.{not-true, not-false}
 use borrow.Author.Needs.{needs}
 use Rattle.arbiter.specs.Arbiter.{usable}

@@ -1,14 +1,14 @@
 -- `arbiter::either::settle` meets its contract, kind by kind.
 -- Assumes nothing.
 use mathlib.Core.Path.{_≡_, sym, ap, _∙_}
-use mathlib.Core.Bool.{true, false}
+use mathlib.Core.Bool.{true}
 use mathlib.Core.List.{List}
 use Prim.Native.Nat.{ℕ}
 use native.Mathlib.Omega.{arith}
 use borrow.Author.Tests.{not-true, not-false}
 use borrow.Author.Needs.{needs}
-use Rattle.arbiter.specs.Arbiter.{Arbiter, usable}
-use Rattle.arbiter.proofs.ByKind.{Known, known-is, usable-is, moved-unusable, moved-nobody, moved-turn, moved-defeat}
+use Rattle.arbiter.specs.Arbiter.{usable}
+use Rattle.arbiter.proofs.ByKind.{known-is, usable-is, moved-unusable, moved-nobody, moved-turn, moved-defeat}
 use Rattle.arbiter.proofs.either.settle.Statement.{statement}
 use Rattle.arbiter.proofs.either.settle.Tie as tie
 

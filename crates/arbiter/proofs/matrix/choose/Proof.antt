@@ -4,7 +4,6 @@ use Prim.Native.Nat.{_≤_, _<_, _^_}
 use native.Mathlib.Omega.{arith}
 use lib.Count.{trailingZeros}
 use lib.Pow.{pow-pos}
-use borrow.Author.Needs.{needs}
 use Rattle.arbiter.proofs.Champion.{covered, Trying, trying-all, trying-below, trying-own, trying-wins, trying-less, trying-none}
 use Rattle.arbiter.proofs.matrix.choose.Statement.{statement}
 use Rattle.arbiter.proofs.matrix.choose.Tie as tie

@@ -1,6 +1,5 @@
 -- `arbiter::round_robin::choose` meets its contract: the first bit at or after the pointer, else the first.
 -- Assumes nothing.
-use Prim.Native.Nat.{_<_, _/_, _^_}
 use native.Mathlib.Omega.{arith}
 use borrow.Author.Needs.{needs}
 use Rattle.arbiter.proofs.RoundRobin.{found-after, turn-after, turn-before, turn-nobody}

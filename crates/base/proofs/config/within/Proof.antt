@@ -1,7 +1,6 @@
 -- `base::config::within` meets its contract.
 -- Assumes nothing.
 use borrow.Author.Tests.{lt-leb, le-leb}
-use borrow.Author.Needs.{needs}
 use Rattle.base.specs.Sizes.{inRange}
 use Rattle.base.proofs.config.within.Statement.{statement}
 use Rattle.base.proofs.config.within.Tie as tie

@@ -1,7 +1,6 @@
 -- `base::ends` meets its contract.
 -- Assumes nothing.
 use borrow.Author.Tests.{eq-eqb, ne-eqb}
-use borrow.Author.Needs.{needs}
 use Rattle.base.specs.Flit.{endsKind}
 use Rattle.base.proofs.flit.ends.Statement.{statement}
 use Rattle.base.proofs.flit.ends.Tie as tie

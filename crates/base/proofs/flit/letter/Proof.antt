@@ -1,7 +1,6 @@
 -- `base::letter` meets its contract.
 -- Assumes nothing.
 use borrow.Author.Tests.{eq-eqb, ne-eqb}
-use borrow.Author.Needs.{needs}
 use Rattle.base.specs.Flit.{letterOf}
 use Rattle.base.proofs.flit.letter.Statement.{statement}
 use Rattle.base.proofs.flit.letter.Tie as tie

@@ -1,7 +1,6 @@
 -- `base::starts` meets its contract.
 -- Assumes nothing.
 use borrow.Author.Tests.{eq-eqb, ne-eqb}
-use borrow.Author.Needs.{needs}
 use Rattle.base.specs.Flit.{startsKind}
 use Rattle.base.proofs.flit.starts.Statement.{statement}
 use Rattle.base.proofs.flit.starts.Tie as tie
