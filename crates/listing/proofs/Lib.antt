@@ -1,0 +1,4 @@
+pub mod Decimals
+pub mod Examples
+pub mod ReadBack
+pub mod Stores

@@ -1,0 +1,28 @@
+-- `listing::digits::glyph` meets its contract.
+-- Assumes nothing.
+use borrow.Author.Needs.{needs}
+use Rattle.listing.proofs.Decimals.{glyph-sum}
+use Rattle.listing.proofs.digits.glyph.Statement.{statement}
+use Rattle.listing.proofs.digits.glyph.Tie as tie
+
+add-result : tie.Need-add-result
+add-result c = search needs
+
+add-result-2 : tie.Need-add-result-2
+add-result-2 c = search needs
+
+mul-result : tie.Need-mul-result
+mul-result c = search needs
+
+add-result-3 : tie.Need-add-result-3
+add-result-3 c = search needs
+
+cast-result : tie.Need-cast-result
+cast-result c = search needs
+
+returns : tie.Need-returns
+returns c = glyph-sum (c .args .d) (search needs)
+
+pub glyph-spec : {M : Type 1} → statement M
+glyph-spec =
+    tie.close (tie.spec add-result add-result-2 mul-result add-result-3 cast-result returns)

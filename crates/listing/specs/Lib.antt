@@ -1,0 +1,5 @@
+pub mod Digits
+pub mod Inside
+pub mod Lines
+pub mod Reading
+pub mod Writing
