@@ -137,3 +137,7 @@ hex-laid l p n a b c d e f g h ea eb ec ed ee ef eg eh =
       stored = stores-from l p a (b ∷ c ∷ d ∷ e ∷ f ∷ g ∷ h ∷ []) ∙ ap (sets l p) same;
       ahead = ap (λ (k : ℕ). p + k) (sym (last-length 16 8 n));
     }
+
+pub hex-length : (n : ℕ) → length (hex n) ≡ 8
+unfolding hex
+hex-length n = last-length 16 8 n

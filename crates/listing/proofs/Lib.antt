@@ -1,5 +1,9 @@
+pub mod Bytes
 pub mod Decimals
 pub mod Examples
+pub mod Laying
+pub mod Lengths
+pub mod Outcomes
 pub mod Ports
 pub mod Ranges
 pub mod ReadBack

@@ -17,6 +17,7 @@ use Rattle.base.specs.declared.reply.Left.the-variants as left
 use Rattle.base.specs.declared.reply.Reply.{Reply}
 use Rattle.base.specs.Reply.{creditOf, departureOf}
 use Rattle.listing.specs.Lines.{Line, credit, flit, valuesOf, allInRange, printable, print, text, byPort, creditLine, flitLine, cycleLines}
+use Rattle.listing.proofs.Ranges.{both}
 
 -- the bytes of two runs of lines
 pub text-append : (ks ls : List Line) → text (ks ++ ls) ≡ text ks ++ text ls
@@ -90,3 +91,8 @@ pub cycle-printable : (cycle : ℕ) (reply : Reply)
     → printable (cycleLines cycle reply) ≡ (printable (byPort (creditLine cycle reply) 8) && printable (byPort (flitLine cycle reply) 8))
 unfolding cycleLines
 cycle-printable cycle reply = printable-append (byPort (creditLine cycle reply) 8) (byPort (flitLine cycle reply) 8)
+
+pub cycle-parts : (cycle : ℕ) (reply : Reply) → printable (cycleLines cycle reply) ≡ true
+    → (printable (byPort (creditLine cycle reply) 8) ≡ true) × (printable (byPort (flitLine cycle reply) 8) ≡ true)
+cycle-parts cycle reply ok =
+    both (printable (byPort (creditLine cycle reply) 8)) (printable (byPort (flitLine cycle reply) 8)) (sym (cycle-printable cycle reply) ∙ ok)

@@ -36,6 +36,14 @@ sets-append l p (a ∷ xs) bs =
 pub laid-none : (l : List ℕ) (p : ℕ) → Laid l p [] l p
 laid-none l p = record { stored = refl; ahead = sym (add-zero p) }
 
+-- the same bytes under another name
+pub laid-as : {l m : List ℕ} {p q : ℕ} {bs cs : List ℕ} → Laid l p bs m q → bs ≡ cs → Laid l p cs m q
+laid-as {l} {m} {p} {q} {bs} {cs} x e = subst (λ (ds : List ℕ). Laid l p ds m q) e x
+
+-- straight-line stores at p, p + 1, .. lay their bytes
+pub laid-stores : (l : List ℕ) (p b : ℕ) (bs : List ℕ) → Laid l p (b ∷ bs) (stores (set l p b) p 1 bs) (p + length (b ∷ bs))
+laid-stores l p b bs = record { stored = stores-from l p b bs; ahead = refl }
+
 -- bytes laid after bytes
 pub laid-more : {l m n : List ℕ} {p q r : ℕ} {xs bs : List ℕ} → Laid l p xs m q → Laid m q bs n r → Laid l p (xs ++ bs) n r
 laid-more {l} {m} {n} {p} {q} {r} {xs} {bs} x y =

@@ -74,7 +74,7 @@ pub(crate) fn copy(out: &mut [u8], at: usize, digits: &[u8; 10], zeros: usize) -
 
 pub(crate) fn decimal(out: &mut [u8], at: usize, n: u64) -> usize
     requires { ⌜ (n < 10000000000) × (at + 10 ≤ length (now out)) ⌝ }
-    ensures { λ r. ⌜ Laid (now (out .entry)) at (Digits·decimal n) (now (out .exit)) r ⌝ }
+    ensures { λ r. ⌜ Laid (now (out .entry)) at (Digits·decimal n) (now (out .exit)) r × (r ≤ at + 10) ⌝ }
 {
     let digits = ten(n);
     copy(out, at, &digits, zeros(n))

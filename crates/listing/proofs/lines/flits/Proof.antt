@@ -1,0 +1,105 @@
+-- `listing::lines::flits` meets its contract: the lines of the ports passed are laid.
+-- Assumes nothing.
+use mathlib.Core.Path.{_≡_, refl, sym, ap, subst, _∙_}
+use Prim.Native.Nat.{ℕ, _+_, _*_, _-_, _≤_}
+use native.Mathlib.Omega.{arith}
+use lib.ListN.{length}
+use borrow.Author.Needs.{needs}
+use Rattle.listing.specs.Inside.{Laid}
+use Rattle.listing.specs.Lines.{flit, text, printable, byPort, flitLine}
+use Rattle.listing.proofs.Laying.{ports-none, ports-same, ports-line}
+use Rattle.listing.proofs.Ports.{printable-at, no-flit, one-flit}
+use Rattle.listing.proofs.lines.flits.Statement.{statement}
+use Rattle.listing.proofs.lines.flits.Tie as tie
+
+abbrev Inv-loop : tie.InvT-loop
+Inv-loop out₀ from cycle digits zeros reply at₀ i₀ out at i = (i ≤ 8) × (at ≤ from + 31 * i) × (length out ≡ length out₀) × Laid out₀ from (text (byPort (flitLine cycle reply) i)) out at
+
+abbrev μ-loop : tie.MeasureT-loop
+μ-loop out₀ from cycle digits zeros reply at₀ i₀ out at i = 8 - i
+
+loop-holds : tie.Need-loop-holds Inv-loop μ-loop
+loop-holds c = (search needs, search needs, refl, ports-none (flitLine (c .before .args .cycle) (c .before .args .t6)) (c .before .args .out .now) (c .before .args .from))
+
+cast-output : tie.Need-cast-output Inv-loop μ-loop
+cast-output c = search needs
+
+mul-output : tie.Need-mul-output Inv-loop μ-loop
+mul-output c = search needs
+
+element-copy-out-output : tie.Need-element-copy-out-output Inv-loop μ-loop
+element-copy-out-output c = search needs
+
+add-i : tie.Need-add-i Inv-loop μ-loop
+add-i c = search needs
+
+enum-known-left : tie.Need-enum-known-left Inv-loop μ-loop
+enum-known-left c = search needs
+
+enum-told : tie.Need-enum-told Inv-loop μ-loop
+enum-told c = search needs
+
+loop-less : tie.Need-loop-less Inv-loop μ-loop
+loop-less c = search needs
+
+loop-again : tie.Need-loop-again Inv-loop μ-loop
+loop-again c =
+    let a = c .before .before .before .before .before .before .args in
+    let turn = c .before .before .before .before .loop in
+    (omega arith, omega arith, turn .inv .2, ports-same (flitLine (a .cycle) (a .t6)) (turn .i) (no-flit (a .cycle) (a .t6) (turn .i) (c .enum-told .given .1)) (turn .inv .3))
+
+flit-requires : tie.Need-flit-requires Inv-loop μ-loop
+flit-requires c κs =
+    let a = c .before .before .before .before .before .before .before .before .args in
+    let p = c .before .before .before .before .before .before .before .before .pre in
+    let turn = c .before .before .before .before .before .before .loop in
+    let found = c .before .before .left .given in (
+      sym (ap printable (one-flit (a .cycle) (a .t6) (turn .i) (found .0 .0) (found .1))) ∙ printable-at (flitLine (a .cycle) (a .t6)) (turn .i) 8 (omega arith) (p .0),
+      p .1,
+      omega arith,
+    )
+
+loop-less-2 : tie.Need-loop-less-2 Inv-loop μ-loop
+loop-less-2 c = search needs
+
+loop-again-2 : tie.Need-loop-again-2 Inv-loop μ-loop
+loop-again-2 c =
+    let a = c .before .before .before .before .before .before .before .before .before .before .before .args in
+    let turn = c .before .before .before .before .before .before .before .before .before .loop in
+    let found = c .before .before .before .before .before .left .given in
+    let wrote = c .before .before .flit in (
+      omega arith,
+      omega arith,
+      wrote .kept .0 ∙ turn .inv .2,
+      ports-line (flitLine (a .cycle) (a .t6)) (turn .i) (flit (a .cycle) (turn .i) (found .0 .0)) (one-flit (a .cycle) (a .t6) (turn .i) (found .0 .0) (found .1)) (turn .inv .3) (wrote .ensures .0),
+    )
+
+same-length : tie.Need-same-length Inv-loop μ-loop
+same-length c = c .before .loop .inv .2
+
+returns : tie.Need-returns Inv-loop μ-loop
+returns c =
+    let a = c .before .before .before .args in
+    let all : c .before .loop .i ≡ 8 = omega arith in
+    subst (λ (n : ℕ). Laid (a .out .now) (a .from) (text (byPort (flitLine (a .cycle) (a .t6)) n)) (c .before .loop .out) (c .before .loop .at)) all (c .before .loop .inv .3)
+
+pub flits-spec : {M : Type 1} → statement M
+flits-spec =
+    tie.close
+    (tie.spec
+    Inv-loop
+    μ-loop
+    loop-holds
+    cast-output
+    mul-output
+    element-copy-out-output
+    add-i
+    enum-known-left
+    enum-told
+    loop-less
+    loop-again
+    flit-requires
+    loop-less-2
+    loop-again-2
+    same-length
+    returns)
