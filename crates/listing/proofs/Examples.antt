@@ -17,14 +17,40 @@ use Rattle.listing.specs.Lines.{Line, credit, flit, finish, spaced, prin
 abbrev from : ℕ → ℕ → ℕ → Departure
 from input kind payload = record { «out_vc» = 0; input = input; vc = 0; kind = kind; payload = payload }
 
+-- each line of the listing, as its bytes
 pub record Listing : Type 0 where
   -- F 1 1 0 0 0 S 00000011
-  pub first : print (flit 1 1 (from 0 single 0x11)) ≡ 70 ∷ 32 ∷ 49 ∷ 32 ∷ 49 ∷ 32 ∷ 48 ∷ 32 ∷ 48 ∷ 32 ∷ 48 ∷ 32 ∷ 83 ∷ 32 ∷ 48 ∷ 48 ∷ 48 ∷ 48 ∷ 48 ∷ 48 ∷ 49 ∷ 49 ∷ 10 ∷ []
+  pub first-single : print (flit 1 1 (from 0 single 0x11)) ≡ 70 ∷ 32 ∷ 49 ∷ 32 ∷ 49 ∷ 32 ∷ 48 ∷ 32 ∷ 48 ∷ 32 ∷ 48 ∷ 32 ∷ 83 ∷ 32 ∷ 48 ∷ 48 ∷ 48 ∷ 48 ∷ 48 ∷ 48 ∷ 49 ∷ 49 ∷ 10 ∷ []
+  -- C 2 0 0
+  pub its-credit : print (credit 2 0 0) ≡ 67 ∷ 32 ∷ 50 ∷ 32 ∷ 48 ∷ 32 ∷ 48 ∷ 10 ∷ []
+  -- F 2 1 0 2 0 S 00000031
+  pub second-single : print (flit 2 1 (from 2 single 0x31)) ≡ 70 ∷ 32 ∷ 50 ∷ 32 ∷ 49 ∷ 32 ∷ 48 ∷ 32 ∷ 50 ∷ 32 ∷ 48 ∷ 32 ∷ 83 ∷ 32 ∷ 48 ∷ 48 ∷ 48 ∷ 48 ∷ 48 ∷ 48 ∷ 51 ∷ 49 ∷ 10 ∷ []
+  -- C 3 2 0
+  pub second-credit : print (credit 3 2 0) ≡ 67 ∷ 32 ∷ 51 ∷ 32 ∷ 50 ∷ 32 ∷ 48 ∷ 10 ∷ []
+  -- F 4 1 0 0 0 H 00000021
+  pub packet-head : print (flit 4 1 (from 0 head 0x21)) ≡ 70 ∷ 32 ∷ 52 ∷ 32 ∷ 49 ∷ 32 ∷ 48 ∷ 32 ∷ 48 ∷ 32 ∷ 48 ∷ 32 ∷ 72 ∷ 32 ∷ 48 ∷ 48 ∷ 48 ∷ 48 ∷ 48 ∷ 48 ∷ 50 ∷ 49 ∷ 10 ∷ []
+  -- C 5 0 0
+  pub head-credit : print (credit 5 0 0) ≡ 67 ∷ 32 ∷ 53 ∷ 32 ∷ 48 ∷ 32 ∷ 48 ∷ 10 ∷ []
+  -- F 5 1 0 0 0 T 00000022
+  pub packet-tail : print (flit 5 1 (from 0 tail 0x22)) ≡ 70 ∷ 32 ∷ 53 ∷ 32 ∷ 49 ∷ 32 ∷ 48 ∷ 32 ∷ 48 ∷ 32 ∷ 48 ∷ 32 ∷ 84 ∷ 32 ∷ 48 ∷ 48 ∷ 48 ∷ 48 ∷ 48 ∷ 48 ∷ 50 ∷ 50 ∷ 10 ∷ []
+  -- E 6 4
+  pub end : print (finish 6 4) ≡ 69 ∷ 32 ∷ 54 ∷ 32 ∷ 52 ∷ 10 ∷ []
 
 pub listing : Listing
 unfolding letterOf glyph decimalWithin decimal lastDigits hex spaced print
-listing = record { first = refl }
+listing =
+    record {
+      first-single = refl;
+      its-credit = refl;
+      second-single = refl;
+      second-credit = refl;
+      packet-head = refl;
+      head-credit = refl;
+      packet-tail = refl;
+      end = refl;
+    }
 
+-- C 999999999 i 3 and F 999999999 o 3 7 3 H ffffffff for every port
 abbrev full : Reply
 full =
     record {

@@ -1,5 +1,6 @@
 pub mod Bytes
 pub mod Decimals
+pub mod Exactness
 pub mod Examples
 pub mod Laying
 pub mod Lengths
@@ -7,4 +8,5 @@ pub mod Outcomes
 pub mod Ports
 pub mod Ranges
 pub mod ReadBack
+pub mod Reread
 pub mod Stores

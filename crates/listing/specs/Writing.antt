@@ -1,14 +1,16 @@
 -- A write: its lines laid over the caller's buffer from a place on, or a refusal that leaves the buffer (01, numbers and the list).
 -- Assumes nothing.
 use mathlib.Core.Bool.{Bool, cond, _||_}
-use mathlib.Core.List.{List, _++_}
-use Prim.Native.Nat.{ℕ, _+_, _-_}
+use mathlib.Core.List.{List, _++_, List·Memᴰ}
+use mathlib.Core.Logic.{_⊎_}
+use Prim.Native.Nat.{ℕ, _+_, _-_, _<_}
 use lib.Dec.{ltb}
 use lib.ListN.{length, take, drop}
+use Rattle.base.specs.Sizes.{Field}
 use Rattle.base.specs.Numbers.{done, noRoom, outOfRange, room}
 use Rattle.listing.specs.declared.Written.{Written}
 use Rattle.listing.specs.declared.Written.the-variants.{Lines, NoRoom, OutOfRange}
-use Rattle.listing.specs.Lines.{Line, text, printable}
+use Rattle.listing.specs.Lines.{Line, valuesOf, text, printable}
 
 -- the number given back, the bytes written, and the buffer afterwards
 pub record Outcome : Type 0 where
@@ -41,3 +43,11 @@ abbrev pub outcomeOf : Written → List ℕ → Outcome
 outcomeOf (Lines bytes) buffer = record { number = done; bytes = bytes; buffer = buffer }
 outcomeOf NoRoom buffer = refusedWith noRoom buffer
 outcomeOf OutOfRange buffer = refusedWith outOfRange buffer
+
+-- "reply or line value outside its range": some value of some of the lines that would be written
+pub record Outside (lines : List Line) : Type 0 where
+  pub line : Line
+  pub among : List·Memᴰ line lines
+  pub value : Field
+  pub held : List·Memᴰ value (valuesOf line)
+  pub out : (value .value < value .least) ⊎ (value .most < value .value)
