@@ -9,9 +9,11 @@ use Rattle.base.specs.declared.reply.Left.the-variants as left
 use Rattle.base.specs.declared.reply.Reached.the-variants as reached
 use Rattle.base.specs.declared.reply.Reply.{Reply}
 use Rattle.base.specs.Flit.{head, tail, single, letterOf}
-use Rattle.base.specs.Numbers.{room}
+use Rattle.base.specs.Numbers.{done, noRoom, room}
+use Rattle.base.specs.Reply.{emptyReply}
 use Rattle.listing.specs.Digits.{glyph, decimalWithin, decimal, lastDigits, hex}
-use Rattle.listing.specs.Lines.{Line, credit, flit, finish, spaced, print, text, byPort, creditLine, flitLine, cycleLines}
+use Rattle.listing.specs.Lines.{Line, credit, flit, finish, spaced, print, text, printable, byPort, creditLine, flitLine, cycleLines}
+use Rattle.listing.specs.Writing.{lacksRoom, written}
 
 -- a flit out on VC 0, from VC 0
 abbrev from : ℕ → ℕ → ℕ → Departure
@@ -62,3 +64,17 @@ full =
 pub room-reached : length (text (cycleLines 999999999 full)) ≡ room
 unfolding letterOf glyph decimalWithin decimal lastDigits hex spaced print text byPort creditLine flitLine cycleLines
 room-reached = refl
+
+-- an empty reply prints nothing, so that any cycle number passes
+pub nothing-printed : (cycle : ℕ) → cycleLines cycle emptyReply ≡ []
+unfolding byPort creditLine flitLine cycleLines
+nothing-printed cycle = refl
+
+-- "Room 376 serves, 375 gives 11.", also when nothing is written
+pub room-serves : written (replicate 376 0) 0 [] .number ≡ done
+unfolding printable lacksRoom written
+room-serves = refl
+
+pub room-short : written (replicate 375 0) 0 [] .number ≡ noRoom
+unfolding printable lacksRoom written
+room-short = refl

@@ -21,7 +21,7 @@ use Rattle.listing.specs.Digits.{decimal, hex}
 use Rattle.listing.specs.Lines.{Line, credit, flit, finish, refusal, print, text, printable, byPort, creditLine, flitLine, cycleLines}
 use Rattle.listing.proofs.Bytes.{credit-bytes, flit-bytes, finish-bytes, refusal-bytes}
 use Rattle.listing.proofs.Decimals.{decimal-length, hex-length}
-use Rattle.listing.proofs.Ports.{text-append, text-one, printable-at, no-credit, one-credit, no-flit, one-flit, cycle-parts}
+use Rattle.listing.proofs.Ports.{text-append, text-one, printable-at, no-credit, one-credit, no-flit, one-flit, cycle-text, cycle-parts}
 use Rattle.listing.proofs.Ranges.{credit-in, flit-in, finish-in, refusal-in}
 
 -- "8·31 + 8·16": a C line has at most 16 bytes, an F line 31
@@ -109,13 +109,12 @@ module _ (cycle : ℕ) (reply : Reply) where
 
   -- "Longest cycle: 8·31 + 8·16 = 376 bytes."
   pub cycle-length : printable (cycleLines cycle reply) ≡ true → length (text (cycleLines cycle reply)) ≤ room
-  unfolding cycleLines
   cycle-length ok =
       let parts = cycle-parts cycle reply ok in
       let cs = ports-length (creditLine cycle reply) 16 8 (λ i h. credits-each i (printable-at (creditLine cycle reply) i 8 h (parts .0))) in
       let fs = ports-length (flitLine cycle reply) 31 8 (λ i h. flits-each i (printable-at (flitLine cycle reply) i 8 h (parts .1))) in
       omega (
         arith,
-        ap length (text-append (byPort (creditLine cycle reply) 8) (byPort (flitLine cycle reply) 8)),
+        ap length (cycle-text cycle reply),
         length-append (text (byPort (creditLine cycle reply) 8)) (text (byPort (flitLine cycle reply) 8)),
       )

@@ -86,6 +86,12 @@ module _ (cycle : ℕ) (reply : Reply) (i : ℕ) where
   unfolding flitLine
   one-flit d e = rw e
 
+-- a cycle's bytes are those of its C lines, then those of its F lines
+pub cycle-text : (cycle : ℕ) (reply : Reply)
+    → text (byPort (creditLine cycle reply) 8) ++ text (byPort (flitLine cycle reply) 8) ≡ text (cycleLines cycle reply)
+unfolding cycleLines
+cycle-text cycle reply = sym (text-append (byPort (creditLine cycle reply) 8) (byPort (flitLine cycle reply) 8))
+
 -- a cycle's lines are printable when those of its credits and those of its flits are
 pub cycle-printable : (cycle : ℕ) (reply : Reply)
     → printable (cycleLines cycle reply) ≡ (printable (byPort (creditLine cycle reply) 8) && printable (byPort (flitLine cycle reply) 8))

@@ -24,13 +24,14 @@ pub data Line : Type 0 where
   finish : ℕ → ℕ → Line
   refusal : ℕ → ℕ → ℕ → Line
 
--- the first letter of a line, and its other words: "Kind is its letter, payload eight lower-case hex digits; the rest are decimal"
+-- C, F, E and R, by their ASCII codes as all text here
 abbrev pub letterOfLine : Line → ℕ
 letterOfLine (credit cycle input vc) = 67
 letterOfLine (flit cycle output d) = 70
 letterOfLine (finish cycles flits) = 69
 letterOfLine (refusal number cycle place) = 82
 
+-- the words after it: "Kind is its letter, payload eight lower-case hex digits; the rest are decimal"
 abbrev pub wordsOf : Line → List (List ℕ)
 wordsOf (credit cycle input vc) = decimal cycle ∷ decimal input ∷ decimal vc ∷ []
 wordsOf (flit cycle output d) =
@@ -39,10 +40,16 @@ wordsOf (flit cycle output d) =
 wordsOf (finish cycles flits) = decimal cycles ∷ decimal flits ∷ []
 wordsOf (refusal number cycle place) = decimal number ∷ decimal cycle ∷ decimal place ∷ []
 
+abbrev pub space : ℕ
+space = 32
+
+abbrev pub newline : ℕ
+newline = 10
+
 -- "one space between, a newline after"
 unfoldable pub spaced : List (List ℕ) → List ℕ
-spaced [] = 10 ∷ []
-spaced (word ∷ words) = 32 ∷ (word ++ spaced words)
+spaced [] = newline ∷ []
+spaced (word ∷ words) = space ∷ (word ++ spaced words)
 
 unfoldable pub print : Line → List ℕ
 print l = letterOfLine l ∷ spaced (wordsOf l)

@@ -7,7 +7,7 @@ use lib.Dec.{eqb, ltb}
 use lib.ListN.{getD}
 use Rattle.base.specs.declared.reply.Departure.{Departure}
 use Rattle.base.specs.Flit.{head, body, tail, single}
-use Rattle.listing.specs.Lines.{Line, credit, flit, finish, refusal}
+use Rattle.listing.specs.Lines.{Line, credit, flit, finish, refusal, space, newline}
 
 -- the value of a digit: `0` to `9`, then `a` to `f`
 unfoldable pub digitOf : ℕ → ℕ
@@ -34,8 +34,8 @@ pub record Cut : Type 0 where
 unfoldable pub cut : List ℕ → List ℕ → Cut
 cut word [] = record { words = word ∷ []; rest = [] }
 cut word (c ∷ cs) =
-    cond (eqb c 10) (record { words = word ∷ []; rest = cs })
-    (cond (eqb c 32) (record { words = word ∷ cut [] cs .words; rest = cut [] cs .rest }) (cut (word ++ (c ∷ [])) cs))
+    cond (eqb c newline) (record { words = word ∷ []; rest = cs })
+    (cond (eqb c space) (record { words = word ∷ cut [] cs .words; rest = cut [] cs .rest }) (cut (word ++ (c ∷ [])) cs))
 
 -- the line of some words: the first names its kind; where it names none it is taken for an R line
 unfoldable pub lineOf : List (List ℕ) → Line

@@ -6,6 +6,7 @@ use base::Reply;
 ghost use mathlib.Core.Path.{_≡_};
 ghost use mathlib.Core.Bool.{not};
 ghost use mathlib.Core.List.{[], _∷_};
+ghost use Rattle.base.specs.Sizes.{mostPorts};
 ghost use Rattle.listing.specs.Lines.{credit as Line·credit, flit as Line·flit, finish as Line·finish, refusal as Line·refusal};
 ghost use Rattle.listing.specs.Lines.{printable, byPort, creditLine, flitLine, cycleLines};
 ghost use Rattle.listing.specs.Writing.{lacksRoom};
@@ -57,10 +58,10 @@ fn flit(cycle: u64, output: u8, d: Departure) -> bool
 }
 
 fn credits(cycle: u64, reply: Reply) -> bool
-    ensures { λ r. ⌜ r ≡ printable (byPort (creditLine cycle reply) 8) ⌝ }
+    ensures { λ r. ⌜ r ≡ printable (byPort (creditLine cycle reply) mostPorts) ⌝ }
 {
     let mut i: u8 = 0;
-    while i < 8 {
+    while i < base::PORTS {
         let sender = reply.senders[i as usize];
         let input = i;
         i += 1;
@@ -76,10 +77,10 @@ fn credits(cycle: u64, reply: Reply) -> bool
 }
 
 fn flits(cycle: u64, reply: Reply) -> bool
-    ensures { λ r. ⌜ r ≡ printable (byPort (flitLine cycle reply) 8) ⌝ }
+    ensures { λ r. ⌜ r ≡ printable (byPort (flitLine cycle reply) mostPorts) ⌝ }
 {
     let mut i: u8 = 0;
-    while i < 8 {
+    while i < base::PORTS {
         let output = reply.outputs[i as usize];
         let number = i;
         i += 1;

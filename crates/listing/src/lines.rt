@@ -9,6 +9,8 @@ ghost use mathlib.Core.Bool.{true};
 ghost use mathlib.Core.List.{[], _∷_, _++_};
 ghost use Prim.Native.Nat.{_+_, _*_, _≤_, _<_};
 ghost use lib.ListN.{length};
+ghost use Rattle.base.specs.Numbers.{room};
+ghost use Rattle.base.specs.Sizes.{mostPorts};
 ghost use Rattle.listing.specs.Digits.{decimal};
 ghost use Rattle.listing.specs.Inside.{Laid, Spelled};
 ghost use Rattle.listing.specs.Lines.{credit as Line·credit, flit as Line·flit, finish as Line·finish, refusal as Line·refusal};
@@ -86,12 +88,12 @@ fn flit(
 
 // "first `C cycle input vc` for each credit reaching a sender, by input"
 fn credits(out: &mut [u8], cycle: u64, digits: &[u8; 10], zeros: usize, reply: Reply) -> usize
-    requires { ⌜ (printable (byPort (creditLine cycle reply) 8) ≡ true) × Spelled cycle (now digits) zeros × (128 ≤ length (now out)) ⌝ }
-    ensures { λ r. ⌜ Laid (now (out .entry)) 0 (text (byPort (creditLine cycle reply) 8)) (now (out .exit)) r × (r ≤ 128) ⌝ }
+    requires { ⌜ (printable (byPort (creditLine cycle reply) mostPorts) ≡ true) × Spelled cycle (now digits) zeros × (128 ≤ length (now out)) ⌝ }
+    ensures { λ r. ⌜ Laid (now (out .entry)) 0 (text (byPort (creditLine cycle reply) mostPorts)) (now (out .exit)) r × (r ≤ 128) ⌝ }
 {
     let mut at: usize = 0;
     let mut i: u8 = 0;
-    while i < 8 {
+    while i < base::PORTS {
         let sender = reply.senders[i as usize];
         let input = i;
         i += 1;
@@ -113,12 +115,12 @@ fn flits(
     zeros: usize,
     reply: Reply,
 ) -> usize
-    requires { ⌜ (printable (byPort (flitLine cycle reply) 8) ≡ true) × Spelled cycle (now digits) zeros × (from + 248 ≤ length (now out)) ⌝ }
-    ensures { λ r. ⌜ Laid (now (out .entry)) from (text (byPort (flitLine cycle reply) 8)) (now (out .exit)) r ⌝ }
+    requires { ⌜ (printable (byPort (flitLine cycle reply) mostPorts) ≡ true) × Spelled cycle (now digits) zeros × (from + 248 ≤ length (now out)) ⌝ }
+    ensures { λ r. ⌜ Laid (now (out .entry)) from (text (byPort (flitLine cycle reply) mostPorts)) (now (out .exit)) r ⌝ }
 {
     let mut at: usize = from;
     let mut i: u8 = 0;
-    while i < 8 {
+    while i < base::PORTS {
         let output = reply.outputs[i as usize];
         let number = i;
         i += 1;
@@ -132,7 +134,7 @@ fn flits(
 }
 
 pub(crate) fn cycle(out: &mut [u8], cycle: u64, reply: Reply) -> usize
-    requires { ⌜ (printable (cycleLines cycle reply) ≡ true) × (376 ≤ length (now out)) ⌝ }
+    requires { ⌜ (printable (cycleLines cycle reply) ≡ true) × (room ≤ length (now out)) ⌝ }
     ensures { λ r. ⌜ Laid (now (out .entry)) 0 (text (cycleLines cycle reply)) (now (out .exit)) r ⌝ }
 {
     let digits = digits::ten(cycle);
@@ -143,7 +145,7 @@ pub(crate) fn cycle(out: &mut [u8], cycle: u64, reply: Reply) -> usize
 
 // "E cycles flits"
 pub(crate) fn finish(out: &mut [u8], cycles: u64, flits: u64) -> usize
-    requires { ⌜ (printable (Line·finish cycles flits ∷ []) ≡ true) × (376 ≤ length (now out)) ⌝ }
+    requires { ⌜ (printable (Line·finish cycles flits ∷ []) ≡ true) × (room ≤ length (now out)) ⌝ }
     ensures { λ r. ⌜ Laid (now (out .entry)) 0 (print (Line·finish cycles flits)) (now (out .exit)) r ⌝ }
 {
     out[0] = b'E';
@@ -157,7 +159,7 @@ pub(crate) fn finish(out: &mut [u8], cycles: u64, flits: u64) -> usize
 
 // "R number cycle place": a place is one digit.
 pub(crate) fn refusal(out: &mut [u8], number: u8, cycles: u64, place: u8) -> usize
-    requires { ⌜ (printable (Line·refusal number cycles place ∷ []) ≡ true) × (376 ≤ length (now out)) ⌝ }
+    requires { ⌜ (printable (Line·refusal number cycles place ∷ []) ≡ true) × (room ≤ length (now out)) ⌝ }
     ensures { λ r. ⌜ Laid (now (out .entry)) 0 (print (Line·refusal number cycles place)) (now (out .exit)) r ⌝ }
 {
     out[0] = b'R';

@@ -1,15 +1,12 @@
 -- `listing::lines::cycle` meets its contract: the C lines, then the F lines after them.
 -- Assumes nothing.
-use mathlib.Core.Path.{_≡_, sym, ap, subst, _∙_}
-use mathlib.Core.Bool.{true}
+use mathlib.Core.Path.{sym, subst}
 use mathlib.Core.List.{List}
 use Prim.Native.Nat.{ℕ}
 use native.Mathlib.Omega.{arith}
-use Rattle.base.specs.declared.reply.Reply.{Reply}
 use borrow.Author.Needs.{needs}
 use Rattle.listing.specs.Inside.{Spelled}
-use Rattle.listing.specs.Lines.{printable, byPort, creditLine, flitLine, cycleLines}
-use Rattle.listing.proofs.Ports.{text-append, cycle-parts}
+use Rattle.listing.proofs.Ports.{cycle-text, cycle-parts}
 use Rattle.listing.proofs.Stores.{laid-as, laid-more}
 use Rattle.listing.proofs.lines.cycle.Statement.{statement}
 use Rattle.listing.proofs.lines.cycle.Tie as tie
@@ -45,10 +42,9 @@ same-length : tie.Need-same-length
 same-length c = search needs
 
 returns : tie.Need-returns
-unfolding cycleLines
 returns c =
     let a = c .before .before .before .before .before .before .before .before .before .before .before .before .before .args in
-    laid-as (laid-more (c .before .before .before .before .before .before .before .credits .ensures .0) (c .before .before .flits .ensures)) (sym (text-append (byPort (creditLine (a .cycle) (a .reply)) 8) (byPort (flitLine (a .cycle) (a .reply)) 8)))
+    laid-as (laid-more (c .before .before .before .before .before .before .before .credits .ensures .0) (c .before .before .flits .ensures)) (cycle-text (a .cycle) (a .reply))
 
 pub cycle-spec : {M : Type 1} → statement M
 cycle-spec =
