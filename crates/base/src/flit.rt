@@ -4,6 +4,15 @@ ghost use mathlib.Core.Path.{_≡_};
 ghost use Prim.Native.Nat.{_^_};
 ghost use Rattle.base.specs.Flit.{flitOf, kindOf, destinationOf, payloadOf, startsKind, endsKind, letterOf};
 
+// "1 head H, 2 body B, 3 tail T, 4 single S"
+pub const HEAD: u8 = 1;
+
+pub const BODY: u8 = 2;
+
+pub const TAIL: u8 = 3;
+
+pub const SINGLE: u8 = 4;
+
 pub struct Flit {
     pub word: u64,
 }
@@ -19,7 +28,7 @@ impl Flit {
         }
     }
 
-    // "1 head H, 2 body B, 3 tail T, 4 single S"; 0 in an empty slot.
+    // 0 in an empty slot.
     pub fn kind(self) -> u8
         ensures { λ r. ⌜ r ≡ kindOf self ⌝ }
     {
@@ -43,30 +52,30 @@ impl Flit {
 pub fn starts(kind: u8) -> bool
     ensures { λ r. ⌜ r ≡ startsKind kind ⌝ }
 {
-    kind == 1 || kind == 4
+    kind == HEAD || kind == SINGLE
 }
 
 // Whether a packet ends with a flit of this kind: T or S.
 pub fn ends(kind: u8) -> bool
     ensures { λ r. ⌜ r ≡ endsKind kind ⌝ }
 {
-    kind == 3 || kind == 4
+    kind == TAIL || kind == SINGLE
 }
 
 // The letter of a kind in the list; 0 for a number that is no kind.
 pub fn letter(kind: u8) -> u8
     ensures { λ r. ⌜ r ≡ letterOf kind ⌝ }
 {
-    if kind == 1 {
+    if kind == HEAD {
         return b'H';
     }
-    if kind == 2 {
+    if kind == BODY {
         return b'B';
     }
-    if kind == 3 {
+    if kind == TAIL {
         return b'T';
     }
-    if kind == 4 {
+    if kind == SINGLE {
         return b'S';
     }
     0

@@ -51,10 +51,10 @@ fn flit(cycle: u64, output: u8, d: Departure) -> bool
     if d.vc >= base::VCS {
         return false;
     }
-    if d.kind < 1 {
+    if d.kind < base::HEAD {
         return false;
     }
-    d.kind <= 4
+    d.kind <= base::SINGLE
 }
 
 fn credits(cycle: u64, reply: Reply) -> bool
