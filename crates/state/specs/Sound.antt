@@ -1,0 +1,2 @@
+-- "Sound states" (01).
+-- Assumes nothing.
