@@ -29,17 +29,17 @@ pub router-made : (c : Config) (inputs : List InputVc) (outputs : List OutputVc)
     → ins ≡ freshArbiters c .inputs
     → outs ≡ freshArbiters c .outputs
     → _≡_ {A = Router}
-      (record {
-        config = c;
-        cycle = 0;
-        inputs = inputs;
-        outputs = outputs;
-        store = replicate 512 0;
-        wire = replicate 64 0;
-        home = replicate 64 0;
-        arbiters = record { vcs = vcs; inputs = ins; outputs = outs }
-      })
-      (freshRouter c)
+    (record {
+      config = c;
+      cycle = 0;
+      inputs = inputs;
+      outputs = outputs;
+      store = replicate 512 0;
+      wire = replicate 64 0;
+      home = replicate 64 0;
+      arbiters = record { vcs = vcs; inputs = ins; outputs = outs };
+    })
+    (freshRouter c)
 unfolding freshRouter
 router-made c inputs outputs vcs ins outs e f g h k =
     λ i. record {
@@ -50,7 +50,7 @@ router-made c inputs outputs vcs ins outs e f g h k =
       store = replicate 512 0;
       wire = replicate 64 0;
       home = replicate 64 0;
-      arbiters = record { vcs = g i; inputs = h i; outputs = k i }
+      arbiters = record { vcs = g i; inputs = h i; outputs = k i };
     }
 
 -- a construction: refused with the field, or made

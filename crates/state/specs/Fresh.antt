@@ -40,13 +40,20 @@ asNarrow a = record { pointer = a .pointer; rows = a .rows }
 abbrev pub asWide : Arbiter → Wide
 asWide a = record { pointer = a .pointer; rows = a .rows }
 
+-- no arbiter
+abbrev pub zeroNarrow : Narrow
+zeroNarrow = record { pointer = 0; rows = replicate 8 0 }
+
+abbrev pub zeroWide : Wide
+zeroWide = record { pointer = 0; rows = replicate 32 0 }
+
 -- arbiters of the ports that there are; all zero beyond
 abbrev pub freshArbiters : Config → Arbiters
 freshArbiters c =
     record {
-      vcs = filled (c .ports) 8 (asWide (arbiter.fresh 32 (c .arbiter) (c .ports * c .vcs))) (record { pointer = 0; rows = replicate 32 0 });
-      inputs = filled (c .ports) 8 (asNarrow (arbiter.fresh 8 (c .arbiter) (c .vcs))) (record { pointer = 0; rows = replicate 8 0 });
-      outputs = filled (c .ports) 8 (asNarrow (arbiter.fresh 8 (c .arbiter) (c .ports))) (record { pointer = 0; rows = replicate 8 0 });
+      vcs = filled (c .ports) 8 (asWide (arbiter.fresh 32 (c .arbiter) (c .ports * c .vcs))) zeroWide;
+      inputs = filled (c .ports) 8 (asNarrow (arbiter.fresh 8 (c .arbiter) (c .vcs))) zeroNarrow;
+      outputs = filled (c .ports) 8 (asNarrow (arbiter.fresh 8 (c .arbiter) (c .ports))) zeroNarrow;
     }
 
 -- "The input store is 512 slots, all zero on a fresh router. There each sender credit is D, each output credit E, the cycle count 0, no

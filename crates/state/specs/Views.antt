@@ -6,10 +6,12 @@ use Prim.Native.Nat.{ℕ, zero, suc, _+_, _*_, _/_, _%_, _^_}
 use lib.Dec.{eqb}
 use lib.ListN.{getD, take, drop}
 use Rattle.base.specs.declared.flit.Flit.{Flit}
+use Rattle.arbiter.specs.declared.Narrow.{Narrow}
+use Rattle.arbiter.specs.declared.Wide.{Wide}
 use Rattle.state.specs.declared.InputVc.{InputVc}
 use Rattle.state.specs.declared.OutputVc.{OutputVc}
 use Rattle.state.specs.declared.Router.{Router}
-use Rattle.state.specs.Fresh.{freshInput, freshOutput}
+use Rattle.state.specs.Fresh.{freshInput, freshOutput, zeroNarrow, zeroWide}
 
 -- "requester number i·V+v": the place of a channel in the arrays
 abbrev pub channel : Router → ℕ → ℕ → ℕ
@@ -52,10 +54,30 @@ onVc v place = cond (not (eqb place 0) && eqb (wireVc place) v) (wireFlit place 
 unfoldable pub wireOf : Router → ℕ → ℕ → List (List Flit)
 wireOf s i v = places (s .config .forward) (λ (k : ℕ). onVc v (wirePlace s k i))
 
+-- the home line's place k of port i, the oldest being 0: empty, or 1 + VC
+abbrev pub homePlace : Router → ℕ → ℕ → ℕ
+homePlace s k i = getD (s .home) (8 * k + i) 0
+
 -- the credits on their way home to VC v of port i, a place for each cycle, the oldest first
 unfoldable pub homeOf : Router → ℕ → ℕ → List ℕ
-homeOf s i v = places (s .config .back) (λ (k : ℕ). cond (eqb (getD (s .home) (8 * k + i) 0) (v + 1)) 1 0)
+homeOf s i v = places (s .config .back) (λ (k : ℕ). cond (eqb (homePlace s k i) (v + 1)) 1 0)
 
-flat : {A : Type 0} → List (List A) → List A
+-- the lists of a list, one after another
+unfoldable pub flat : {A : Type 0} → List (List A) → List A
 flat [] = []
 flat (x ∷ xs) = x ++ flat xs
+
+-- the sum
+unfoldable pub total : List ℕ → ℕ
+total [] = 0
+total (n ∷ ns) = n + total ns
+
+-- the arbiters: an output's over all input VCs, an input's over its VCs, an output's over the inputs
+abbrev pub vcArbiter : Router → ℕ → Wide
+vcArbiter s o = getD (s .arbiters .vcs) o zeroWide
+
+abbrev pub inputArbiter : Router → ℕ → Narrow
+inputArbiter s i = getD (s .arbiters .inputs) i zeroNarrow
+
+abbrev pub outputArbiter : Router → ℕ → Narrow
+outputArbiter s o = getD (s .arbiters .outputs) o zeroNarrow

@@ -11,10 +11,9 @@ use base::Config;
 use base::Judged;
 ghost use mathlib.Core.Path.{_≡_};
 ghost use Prim.Native.Nat.{_≤_};
-ghost use lib.ListN.{replicate};
 ghost use Rattle.base.specs.Sizes.{illegalField};
 ghost use Rattle.arbiter.specs.Arbiter.{fresh};
-ghost use Rattle.state.specs.Fresh.{filled, freshInput, freshOutput, asNarrow, asWide, freshRouter, builtOf};
+ghost use Rattle.state.specs.Fresh.{filled, freshInput, freshOutput, asNarrow, asWide, zeroNarrow, zeroWide, freshRouter, builtOf};
 
 // What a construction gives: the configuration judged, and the router, which is all zero where the configuration is refused.
 pub struct Built {
@@ -72,7 +71,7 @@ fn outputs(channels: usize, credit: u8) -> [OutputVc; 32]
 
 fn narrow(ports: usize, code: u8, n: u32) -> [Narrow; 8]
     requires { ⌜ ports ≤ 8 ⌝ }
-    ensures { λ r. ⌜ r ≡ filled ports 8 (asNarrow (fresh 8 code n)) (record { pointer = 0; rows = replicate 8 0 }) ⌝ }
+    ensures { λ r. ⌜ r ≡ filled ports 8 (asNarrow (fresh 8 code n)) zeroNarrow ⌝ }
 {
     let unused = Narrow {
         pointer: 0,
@@ -90,7 +89,7 @@ fn narrow(ports: usize, code: u8, n: u32) -> [Narrow; 8]
 
 fn wide(ports: usize, code: u8, n: u32) -> [Wide; 8]
     requires { ⌜ ports ≤ 8 ⌝ }
-    ensures { λ r. ⌜ r ≡ filled ports 8 (asWide (fresh 32 code n)) (record { pointer = 0; rows = replicate 32 0 }) ⌝ }
+    ensures { λ r. ⌜ r ≡ filled ports 8 (asWide (fresh 32 code n)) zeroWide ⌝ }
 {
     let unused = Wide {
         pointer: 0,

@@ -5,6 +5,7 @@
 use arbiter::Narrow;
 use arbiter::Wide;
 use base::Config;
+
 mod building;
 
 pub use building::Built;
