@@ -24,7 +24,7 @@ use Rattle.arbiter.specs.Matrix.{blankFrom}
 use Rattle.arbiter.proofs.ByKind.{Known}
 use Rattle.arbiter.proofs.Soundness.{fresh-sound, sound-holds}
 use Rattle.state.specs.Fresh.{filled, freshInput, freshOutput, zeroNarrow, zeroWide, freshRouter}
-use Rattle.state.specs.Views.{channel, inputAt, outputAt, queueOf, wirePlace, wireOf, homeOf, homePlace, onVc, slotsOf, wireFlit, wireVc, places, flat, total, vcArbiter, inputArbiter, outputArbiter}
+use Rattle.state.specs.Views.{channel, inputAt, outputAt, queueOf, wirePlace, wireOf, homeOf, homePlace, onVc, slotsOf, slotFlit, wireFlit, wireVc, places, flat, total, vcArbiter, inputArbiter, outputArbiter}
 use Rattle.state.specs.Sound
 use Rattle.state.proofs.Made.{channels-fit}
 
@@ -79,87 +79,87 @@ module _ (c : Config) (legal : Legal c) where
   channels = channels-fit (c .ports) (c .vcs) (legal .ports .1) (legal .vcs .1)
 
   -- what stands at a channel that there is
-  input-is : (i v : ℕ) → i < c .ports → v < c .vcs → inputAt (freshRouter c) i v ≡ freshInput (c .depth)
+  input-is : (i v : ℕ) → i < c .ports → v < c .vcs → inputAt c (freshRouter c .inputs) i v ≡ freshInput (c .depth)
   unfolding freshRouter
   input-is i v h g = filled-below (c .ports * c .vcs) 32 (freshInput (c .depth)) (freshInput 0) (freshInput 0) (i * c .vcs + v) (digits-lt h g)
 
-  output-is : (o w : ℕ) → o < c .ports → w < c .vcs → outputAt (freshRouter c) o w ≡ freshOutput (c .downstream)
+  output-is : (o w : ℕ) → o < c .ports → w < c .vcs → outputAt c (freshRouter c .outputs) o w ≡ freshOutput (c .downstream)
   unfolding freshRouter
   output-is o w h g = filled-below (c .ports * c .vcs) 32 (freshOutput (c .downstream)) (freshOutput 0) (freshOutput 0) (o * c .vcs + w) (digits-lt h g)
 
   -- nothing is on the wire or on its way home
-  wire-is : (k i : ℕ) → wirePlace (freshRouter c) k i ≡ 0
+  wire-is : (k i : ℕ) → wirePlace (freshRouter c .wire) k i ≡ 0
   unfolding freshRouter
   wire-is k i = same-at 64 0 (8 * k + i)
 
-  home-is : (k i : ℕ) → homePlace (freshRouter c) k i ≡ 0
+  home-is : (k i : ℕ) → homePlace (freshRouter c .home) k i ≡ 0
   unfolding freshRouter
   home-is k i = same-at 64 0 (8 * k + i)
 
   -- every channel passes a test that its fresh parts pass
-  channels-pass : (test : ℕ → ℕ → Bool) → ((i v : ℕ) → i < c .ports → v < c .vcs → test i v ≡ true) → Sound.everyChannel (freshRouter c) test ≡ true
+  channels-pass : (test : ℕ → ℕ → Bool) → ((i v : ℕ) → i < c .ports → v < c .vcs → test i v ≡ true) → Sound.everyChannel c test ≡ true
   unfolding freshRouter
   channels-pass test all = all-every (c .ports) (λ i. every (c .vcs) (test i)) (λ i h. all-every (c .vcs) (test i) (λ v g. all i v h g))
 
-  configuration : Sound.configurationLegal (freshRouter c) ≡ true
+  configuration : Sound.configurationLegal (freshRouter c .config) ≡ true
   unfolding Sound.configurationLegal Sound.isNone freshRouter
   configuration = ap Sound.isNone (legal-exact c .1 legal)
 
-  cycles : Sound.cyclesFit (freshRouter c) ≡ true
+  cycles : Sound.cyclesFit (freshRouter c .cycle) ≡ true
   unfolding Sound.cyclesFit freshRouter
   cycles = refl
 
   -- "sender credit + wire + queue + credits going home = D": all of it is stored credit
-  no-wire : (i v : ℕ) → flat (wireOf (freshRouter c) i v) ≡ []
+  no-wire : (i v : ℕ) → flat (wireOf c (freshRouter c .wire) i v) ≡ []
   unfolding wireOf
-  no-wire i v = flat-none (freshRouter c .config .forward) (λ k. onVc v (wirePlace (freshRouter c) k i)) (λ k. ap (onVc v) (wire-is k i))
+  no-wire i v = flat-none (c .forward) (λ k. onVc v (wirePlace (freshRouter c .wire) k i)) (λ k. ap (onVc v) (wire-is k i))
 
-  no-home : (i v : ℕ) → total (homeOf (freshRouter c) i v) ≡ 0
+  no-home : (i v : ℕ) → total (homeOf c (freshRouter c .home) i v) ≡ 0
   unfolding homeOf
-  no-home i v = total-none (freshRouter c .config .back) (λ k. cond (eqb (homePlace (freshRouter c) k i) (v + 1)) 1 0)
+  no-home i v = total-none (c .back) (λ k. cond (eqb (homePlace (freshRouter c .home) k i) (v + 1)) 1 0)
       (λ k. ap (λ b. cond b 1 0) (ap (λ x. eqb x (v + 1)) (home-is k i) ∙ ne-eqb 0 (v + 1) (λ e. omega arith)))
 
-  credits : Sound.creditsAddUp (freshRouter c) ≡ true
-  unfolding Sound.creditsAddUp freshRouter
+  credits : Sound.creditsAddUp (freshRouter c .config) (freshRouter c .inputs) (freshRouter c .wire) (freshRouter c .home) ≡ true
+  unfolding Sound.creditsAddUp Sound.creditsWhole freshRouter
   credits =
       channels-pass _ (λ i v h g.
-      sum-is (inputAt (freshRouter c) i v .credit) (length (flat (wireOf (freshRouter c) i v))) (inputAt (freshRouter c) i v .queued)
-      (total (homeOf (freshRouter c) i v)) (c .depth)
+      sum-is (inputAt c (freshRouter c .inputs) i v .credit) (length (flat (wireOf c (freshRouter c .wire) i v))) (inputAt c (freshRouter c .inputs) i v .queued)
+      (total (homeOf c (freshRouter c .home) i v)) (c .depth)
       (ap (λ x. x .credit) (input-is i v h g)) (ap length (no-wire i v)) (ap (λ x. x .queued) (input-is i v h g)) (no-home i v))
     where
       sum-is : (x w q r d : ℕ) → x ≡ d → w ≡ 0 → q ≡ 0 → r ≡ 0 → eqb (x + w + q + r) d ≡ true
       sum-is x w q r d a e f b = eq-eqb (x + w + q + r) d (omega arith)
 
-  wire : Sound.wireLegal (freshRouter c) ≡ true
-  unfolding Sound.wireLegal freshRouter
+  wire : Sound.wireLegal (freshRouter c .config) (freshRouter c .wire) ≡ true
+  unfolding Sound.wireLegal Sound.wirePlaceLegal freshRouter
   wire =
       all-every (c .forward) _ (λ k h.
-      all-every (c .ports) _ (λ i g. ap (λ b. b || (Sound.legalFlit c (wireFlit (wirePlace (freshRouter c) k i)) && ltb (wireVc (wirePlace (freshRouter c) k i)) (c .vcs))) (eq-eqb (wirePlace (freshRouter c) k i) 0 (wire-is k i))))
+      all-every (c .ports) _ (λ i g. ap (λ b. b || (Sound.legalFlit c (wireFlit (wirePlace (freshRouter c .wire) k i)) && ltb (wireVc (wirePlace (freshRouter c .wire) k i)) (c .vcs))) (eq-eqb (wirePlace (freshRouter c .wire) k i) 0 (wire-is k i))))
 
-  home : Sound.homeLegal (freshRouter c) ≡ true
+  home : Sound.homeLegal (freshRouter c .config) (freshRouter c .home) ≡ true
   unfolding Sound.homeLegal freshRouter
-  home = all-every (c .back) _ (λ k h. all-every (c .ports) _ (λ i g. le-leb (homePlace (freshRouter c) k i) (c .vcs) (subst (λ x. x ≤ c .vcs) (sym (home-is k i)) zero-le)))
+  home = all-every (c .back) _ (λ k h. all-every (c .ports) _ (λ i g. le-leb (homePlace (freshRouter c .home) k i) (c .vcs) (subst (λ x. x ≤ c .vcs) (sym (home-is k i)) zero-le)))
 
-  no-queue : (i v : ℕ) → i < c .ports → v < c .vcs → queueOf (freshRouter c) i v ≡ []
+  no-queue : (i v : ℕ) → i < c .ports → v < c .vcs → queueOf c (freshRouter c .store) i v (inputAt c (freshRouter c .inputs) i v .queued) ≡ []
   unfolding queueOf
   no-queue i v h g =
-      ap (λ n. map (λ (w : ℕ). record { word = w }) (take n (slotsOf (freshRouter c) i v))) (ap (λ x. x .queued) (input-is i v h g))
+      ap (λ n. map slotFlit (take n (slotsOf c (freshRouter c .store) i v))) (ap (λ x. x .queued) (input-is i v h g))
 
-  queues : Sound.queuesLegal (freshRouter c) ≡ true
+  queues : Sound.queuesLegal (freshRouter c .config) (freshRouter c .inputs) (freshRouter c .store) ≡ true
   unfolding Sound.queuesLegal Sound.all freshRouter
   queues = channels-pass _ (λ i v h g. ap (Sound.all (Sound.legalFlit c)) (no-queue i v h g))
 
-  output-credits : Sound.outputCreditsFit (freshRouter c) ≡ true
+  output-credits : Sound.outputCreditsFit (freshRouter c .config) (freshRouter c .outputs) ≡ true
   unfolding Sound.outputCreditsFit freshRouter
   output-credits =
       channels-pass _ (λ o w h g.
-      le-leb (outputAt (freshRouter c) o w .credit) (c .downstream) (subst (λ x. x .credit ≤ c .downstream) (sym (output-is o w h g)) (le-refl (c .downstream))))
+      le-leb (outputAt c (freshRouter c .outputs) o w .credit) (c .downstream) (subst (λ x. x .credit ≤ c .downstream) (sym (output-is o w h g)) (le-refl (c .downstream))))
 
-  names : Sound.namesAgree (freshRouter c) ≡ true
+  names : Sound.namesAgree (freshRouter c .config) (freshRouter c .inputs) (freshRouter c .outputs) ≡ true
   unfolding Sound.namesAgree freshRouter
   names =
-      ap₂ _&&_ (channels-pass _ (λ i v h g. ap (λ x. Sound.inputNamed (freshRouter c) i v (x .binding)) (input-is i v h g)))
-      (channels-pass _ (λ o w h g. ap (λ x. Sound.outputNamed (freshRouter c) o w (x .holder)) (output-is o w h g)))
+      ap₂ _&&_ (channels-pass _ (λ i v h g. ap (λ x. Sound.inputNamed c (freshRouter c .outputs) i v (x .binding)) (input-is i v h g)))
+      (channels-pass _ (λ o w h g. ap (λ x. Sound.outputNamed c (freshRouter c .inputs) o w (x .holder)) (output-is o w h g)))
 
   kind : (c .arbiter ≡ 1) ⊎ (c .arbiter ≡ 2)
   kind = go (eqb (c .arbiter) 1) refl
@@ -181,7 +181,7 @@ module _ (c : Config) (legal : Legal c) where
   some-channels : 1 ≤ c .ports * c .vcs
   some-channels = mul-le-mul (legal .ports .0) (legal .vcs .0)
 
-  arbiters : Sound.arbitersSound (freshRouter c) ≡ true
+  arbiters : Sound.arbitersSound (freshRouter c .config) (freshRouter c .arbiters) ≡ true
   unfolding Sound.arbitersSound freshRouter
   arbiters =
       all-every (c .ports) _ (λ i h.
@@ -191,14 +191,14 @@ module _ (c : Config) (legal : Legal c) where
       (ap (λ a. arbiter.sound 8 (c .arbiter) (c .vcs) (ofNarrow a)) (filled-below (c .ports) 8 _ zeroNarrow zeroNarrow i h) ∙ arbiter-sound 8 (c .vcs) (legal .vcs .0) (let l = legal .vcs .1 in omega arith)))
       (ap (λ a. arbiter.sound 8 (c .arbiter) (c .ports) (ofNarrow a)) (filled-below (c .ports) 8 _ zeroNarrow zeroNarrow i h) ∙ arbiter-sound 8 (c .ports) (legal .ports .0) (legal .ports .1)))
 
-  packets : Sound.packetsRead (freshRouter c) ≡ true
-  unfolding Sound.packetsRead Sound.reading freshRouter
+  packets : Sound.packetsRead (freshRouter c .config) (freshRouter c .inputs) (freshRouter c .store) (freshRouter c .wire) ≡ true
+  unfolding Sound.packetsRead Sound.reads Sound.reading freshRouter
   packets =
       channels-pass _ (λ i v h g.
-      ap₂ (λ x q. Sound.endsAs (x .inside) (Sound.reading (Sound.startsInside q (x .binding)) (q ++ flat (wireOf (freshRouter c) i v)))) (input-is i v h g) (no-queue i v h g)
+      ap₂ (λ x q. Sound.endsAs (x .inside) (Sound.reading (Sound.startsInside q (x .binding)) (q ++ flat (wireOf c (freshRouter c .wire) i v)))) (input-is i v h g) (no-queue i v h g)
       ∙ ap (λ w. Sound.endsAs false (Sound.reading false w)) (no-wire i v))
 
-  channels-unused : Sound.channelsUnused (freshRouter c) ≡ true
+  channels-unused : Sound.channelsUnused (freshRouter c .config) (freshRouter c .inputs) (freshRouter c .outputs) ≡ true
   unfolding Sound.channelsUnused freshRouter
   channels-unused = all-every 32 _ (λ x h. go x (ltb x (c .ports * c .vcs)) refl)
     where
@@ -210,7 +210,7 @@ module _ (c : Config) (legal : Legal c) where
           ap₂ (λ a b. Sound.inputUnused a && Sound.outputUnused b) (filled-from (c .ports * c .vcs) 32 (freshInput (c .depth)) (freshInput 0) x l)
           (filled-from (c .ports * c .vcs) 32 (freshOutput (c .downstream)) (freshOutput 0) x l)
 
-  slots : Sound.slotsEmpty (freshRouter c) ≡ true
+  slots : Sound.slotsEmpty (freshRouter c .inputs) (freshRouter c .store) ≡ true
   unfolding Sound.slotsEmpty freshRouter
   slots =
       all-every 32 _ (λ x h.
@@ -218,22 +218,29 @@ module _ (c : Config) (legal : Legal c) where
       ap (λ b. ltb k (getD (freshRouter c .inputs) x (freshInput 0) .queued) || b) (eq-eqb (getD (replicate 512 0) (16 * x + k) 0) 0 (same-at 512 0 (16 * x + k)))
       ∙ or-true (ltb k (getD (freshRouter c .inputs) x (freshInput 0) .queued))))
 
-  lines : Sound.linesUnused (freshRouter c) ≡ true
-  unfolding Sound.linesUnused freshRouter
-  lines =
+  rest : (delay : ℕ) → Sound.lineUnused delay (c .ports) (replicate 64 0) ≡ true
+  unfolding Sound.lineUnused
+  rest delay =
       all-every 8 _ (λ k h.
       all-every 8 _ (λ i g.
-      ap₂ _&&_
-      (ap (λ b. (ltb k (c .forward) && ltb i (c .ports)) || b) (eq-eqb (wirePlace (freshRouter c) k i) 0 (wire-is k i)) ∙ or-true (ltb k (c .forward) && ltb i (c .ports)))
-      (ap (λ b. (ltb k (c .back) && ltb i (c .ports)) || b) (eq-eqb (homePlace (freshRouter c) k i) 0 (home-is k i)) ∙ or-true (ltb k (c .back) && ltb i (c .ports)))))
+      ap (λ b. (ltb k delay && ltb i (c .ports)) || b) (eq-eqb (getD (replicate 64 0) (8 * k + i) 0) 0 (same-at 64 0 (8 * k + i)))
+      ∙ or-true (ltb k delay && ltb i (c .ports))))
 
-  others : Sound.arbitersUnused (freshRouter c) ≡ true
+  wire-rest : Sound.lineUnused (freshRouter c .config .forward) (freshRouter c .config .ports) (freshRouter c .wire) ≡ true
+  unfolding freshRouter
+  wire-rest = rest (c .forward)
+
+  home-rest : Sound.lineUnused (freshRouter c .config .back) (freshRouter c .config .ports) (freshRouter c .home) ≡ true
+  unfolding freshRouter
+  home-rest = rest (c .back)
+
+  others : Sound.arbitersUnused (freshRouter c .config) (freshRouter c .arbiters) ≡ true
   unfolding Sound.arbitersUnused freshRouter blankFrom every
   others = all-every 8 _ (λ i h. go i (ltb i (c .ports)) refl)
     where
       go : (i : ℕ) (b : Bool) → ltb i (c .ports) ≡ b
-          → (b || (Sound.arbiterUnused 32 (ofWide (vcArbiter (freshRouter c) i)) && Sound.arbiterUnused 8 (ofNarrow (inputArbiter (freshRouter c) i))
-          && Sound.arbiterUnused 8 (ofNarrow (outputArbiter (freshRouter c) i)))) ≡ true
+          → (b || (Sound.arbiterUnused 32 (ofWide (vcArbiter (freshRouter c .arbiters) i)) && Sound.arbiterUnused 8 (ofNarrow (inputArbiter (freshRouter c .arbiters) i))
+          && Sound.arbiterUnused 8 (ofNarrow (outputArbiter (freshRouter c .arbiters) i)))) ≡ true
       go i true e = refl
       go i false e =
           let l = ltb-false i (c .ports) e in
@@ -264,7 +271,8 @@ module _ (c : Config) (legal : Legal c) where
         packets = packets;
         channels = channels-unused;
         slots = slots;
-        lines = lines;
+        wireRest = wire-rest;
+        homeRest = home-rest;
         others = others;
         shape = shape;
       }

@@ -1,5 +1,5 @@
 -- "Sound states" (01): "A state handed in is sound when ..", clause by clause, in the document's order. Each clause is a test that
--- computes; `Sound` says that all of them pass.
+-- computes, over the parts of a router that it reads; `Sound` says that all of them pass.
 -- Assumes nothing.
 use mathlib.Core.Path.{_≡_}
 use mathlib.Core.Bool.{Bool, true, false, cond, not, xor, Bool·beq, _&&_, _||_}
@@ -24,6 +24,7 @@ use Rattle.state.specs.declared.Holder.{Holder}
 use Rattle.state.specs.declared.Holder.the-variants.{Nobody, Held}
 use Rattle.state.specs.declared.InputVc.{InputVc}
 use Rattle.state.specs.declared.OutputVc.{OutputVc}
+use Rattle.state.specs.declared.Arbiters.{Arbiters}
 use Rattle.state.specs.declared.Router.{Router}
 use Rattle.state.specs.Fresh.{freshInput, freshOutput, asNarrow, asWide}
 use Rattle.state.specs.Views.{inputAt, outputAt, queueOf, wirePlace, wireFlit, wireVc, wireOf, homeOf, homePlace, flat, total, vcArbiter, inputArbiter, outputArbiter}
@@ -37,21 +38,25 @@ all test [] = true
 all test (x ∷ xs) = test x && all test xs
 
 -- for each VC of each port that there are
-abbrev pub everyChannel : Router → (ℕ → ℕ → Bool) → Bool
-everyChannel s test = every (s .config .ports) (λ (i : ℕ). every (s .config .vcs) (test i))
+abbrev pub everyChannel : Config → (ℕ → ℕ → Bool) → Bool
+everyChannel c test = every (c .ports) (λ (i : ℕ). every (c .vcs) (test i))
 
 -- "the configuration is legal"
-unfoldable pub configurationLegal : Router → Bool
-configurationLegal s = isNone (illegalField (s .config))
+unfoldable pub configurationLegal : Config → Bool
+configurationLegal c = isNone (illegalField c)
 
 -- "the cycle count at most the limit"
-unfoldable pub cyclesFit : Router → Bool
-cyclesFit s = leb (s .cycle) cycleLimit
+unfoldable pub cyclesFit : ℕ → Bool
+cyclesFit cycle = leb cycle cycleLimit
+
+-- "sender credit + wire + queue + credits going home = D", of one input VC
+unfoldable pub creditsWhole : Config → List ℕ → List ℕ → ℕ → ℕ → InputVc → Bool
+creditsWhole c wire home i v input =
+    eqb (input .credit + length (flat (wireOf c wire i v)) + input .queued + total (homeOf c home i v)) (c .depth)
 
 -- "for each input VC, sender credit + wire + queue + credits going home = D"
-unfoldable pub creditsAddUp : Router → Bool
-creditsAddUp s =
-    everyChannel s (λ i v. eqb (inputAt s i v .credit + length (flat (wireOf s i v)) + inputAt s i v .queued + total (homeOf s i v)) (s .config .depth))
+unfoldable pub creditsAddUp : Config → List InputVc → List ℕ → List ℕ → Bool
+creditsAddUp c inputs wire home = everyChannel c (λ i v. creditsWhole c wire home i v (inputAt c inputs i v))
 
 -- a flit that some row can bring: "kind (1 head H, 2 body B, 3 tail T, 4 single S), a destination port", "Destination is 0 on B and T."
 unfoldable pub legalFlit : Config → Flit → Bool
@@ -59,24 +64,25 @@ legalFlit c f =
     leb head (kindOf f) && leb (kindOf f) single
     && cond (startsKind (kindOf f)) (ltb (destinationOf f) (c .ports)) (eqb (destinationOf f) 0) && ltb (f .word) (2 ^ 38)
 
+unfoldable pub wirePlaceLegal : Config → ℕ → Bool
+wirePlaceLegal c place = eqb place 0 || legalFlit c (wireFlit place) && ltb (wireVc place) (c .vcs)
+
 -- "wire .. places are empty or legal"
-unfoldable pub wireLegal : Router → Bool
-wireLegal s =
-    every (s .config .forward) (λ (k : ℕ).
-    every (s .config .ports) (λ (i : ℕ).
-    eqb (wirePlace s k i) 0 || legalFlit (s .config) (wireFlit (wirePlace s k i)) && ltb (wireVc (wirePlace s k i)) (s .config .vcs)))
+unfoldable pub wireLegal : Config → List ℕ → Bool
+wireLegal c wire = every (c .forward) (λ (k : ℕ). every (c .ports) (λ (i : ℕ). wirePlaceLegal c (wirePlace wire k i)))
 
 -- "and home places are empty or legal"
-unfoldable pub homeLegal : Router → Bool
-homeLegal s = every (s .config .back) (λ (k : ℕ). every (s .config .ports) (λ (i : ℕ). leb (homePlace s k i) (s .config .vcs)))
+unfoldable pub homeLegal : Config → List ℕ → Bool
+homeLegal c home = every (c .back) (λ (k : ℕ). every (c .ports) (λ (i : ℕ). leb (homePlace home k i) (c .vcs)))
 
 -- "queued flits are legal (destinations too)". "any queue place kept is below D": none is kept.
-unfoldable pub queuesLegal : Router → Bool
-queuesLegal s = everyChannel s (λ i v. all (legalFlit (s .config)) (queueOf s i v))
+unfoldable pub queuesLegal : Config → List InputVc → List ℕ → Bool
+queuesLegal c inputs store =
+    everyChannel c (λ i v. all (legalFlit c) (queueOf c store i v (inputAt c inputs i v .queued)))
 
 -- "output credits are at most E"
-unfoldable pub outputCreditsFit : Router → Bool
-outputCreditsFit s = everyChannel s (λ o w. leb (outputAt s o w .credit) (s .config .downstream))
+unfoldable pub outputCreditsFit : Config → List OutputVc → Bool
+outputCreditsFit c outputs = everyChannel c (λ o w. leb (outputAt c outputs o w .credit) (c .downstream))
 
 abbrev pub bindingIs : ℕ → ℕ → Binding → Bool
 bindingIs o w Unbound = false
@@ -86,28 +92,29 @@ abbrev pub holderIs : ℕ → ℕ → Holder → Bool
 holderIs i v Nobody = false
 holderIs i v (Held h) = eqb (h .input) i && eqb (h .vc) v
 
-abbrev pub inputNamed : Router → ℕ → ℕ → Binding → Bool
-inputNamed s i v Unbound = true
-inputNamed s i v (Bound b) =
-    ltb (b .output) (s .config .ports) && ltb (b .vc) (s .config .vcs) && holderIs i v (outputAt s (b .output) (b .vc) .holder)
+abbrev pub inputNamed : Config → List OutputVc → ℕ → ℕ → Binding → Bool
+inputNamed c outputs i v Unbound = true
+inputNamed c outputs i v (Bound b) =
+    ltb (b .output) (c .ports) && ltb (b .vc) (c .vcs) && holderIs i v (outputAt c outputs (b .output) (b .vc) .holder)
 
-abbrev pub outputNamed : Router → ℕ → ℕ → Holder → Bool
-outputNamed s o w Nobody = true
-outputNamed s o w (Held h) =
-    ltb (h .input) (s .config .ports) && ltb (h .vc) (s .config .vcs) && bindingIs o w (inputAt s (h .input) (h .vc) .binding)
+abbrev pub outputNamed : Config → List InputVc → ℕ → ℕ → Holder → Bool
+outputNamed c inputs o w Nobody = true
+outputNamed c inputs o w (Held h) =
+    ltb (h .input) (c .ports) && ltb (h .vc) (c .vcs) && bindingIs o w (inputAt c inputs (h .input) (h .vc) .binding)
 
 -- "input VC and output VC name each other or neither does"
-unfoldable pub namesAgree : Router → Bool
-namesAgree s =
-    everyChannel s (λ i v. inputNamed s i v (inputAt s i v .binding)) && everyChannel s (λ o w. outputNamed s o w (outputAt s o w .holder))
+unfoldable pub namesAgree : Config → List InputVc → List OutputVc → Bool
+namesAgree c inputs outputs =
+    everyChannel c (λ i v. inputNamed c outputs i v (inputAt c inputs i v .binding))
+    && everyChannel c (λ o w. outputNamed c inputs o w (outputAt c outputs o w .holder))
 
 -- "round-robin pointers are below their width and matrices are a total order, no requester beating itself"
-unfoldable pub arbitersSound : Router → Bool
-arbitersSound s =
-    every (s .config .ports) (λ (i : ℕ).
-    arbiter.sound 32 (s .config .arbiter) (s .config .ports * s .config .vcs) (ofWide (vcArbiter s i))
-    && arbiter.sound 8 (s .config .arbiter) (s .config .vcs) (ofNarrow (inputArbiter s i))
-    && arbiter.sound 8 (s .config .arbiter) (s .config .ports) (ofNarrow (outputArbiter s i)))
+unfoldable pub arbitersSound : Config → Arbiters → Bool
+arbitersSound c a =
+    every (c .ports) (λ (i : ℕ).
+    arbiter.sound 32 (c .arbiter) (c .ports * c .vcs) (ofWide (vcArbiter a i))
+    && arbiter.sound 8 (c .arbiter) (c .vcs) (ofNarrow (inputArbiter a i))
+    && arbiter.sound 8 (c .arbiter) (c .ports) (ofNarrow (outputArbiter a i)))
 
 -- Flits read as packets, from between packets or from inside one: what follows the last, or none where they do not read.
 -- "A packet is S alone, or H, any number of B, then T."
@@ -130,11 +137,16 @@ abbrev pub startsInside : List Flit → Binding → Bool
 startsInside queue Unbound = false
 startsInside queue (Bound b) = not (frontIsFor (b .output) queue)
 
+-- one input VC's "queue followed by wire"
+unfoldable pub reads : List Flit → List Flit → Binding → Bool → Bool
+reads queue wire binding inside = endsAs inside (reading (startsInside queue binding) (queue ++ wire))
+
 -- "queue followed by wire, oldest first, reads as packets. .. Its end agrees with whether the sender has a packet open."
-unfoldable pub packetsRead : Router → Bool
-packetsRead s =
-    everyChannel s (λ i v.
-    endsAs (inputAt s i v .inside) (reading (startsInside (queueOf s i v) (inputAt s i v .binding)) (queueOf s i v ++ flat (wireOf s i v))))
+unfoldable pub packetsRead : Config → List InputVc → List ℕ → List ℕ → Bool
+packetsRead c inputs store wire =
+    everyChannel c (λ i v.
+    reads (queueOf c store i v (inputAt c inputs i v .queued)) (flat (wireOf c wire i v)) (inputAt c inputs i v .binding)
+    (inputAt c inputs i v .inside))
 
 abbrev pub isUnbound : Binding → Bool
 isUnbound Unbound = true
@@ -150,36 +162,32 @@ inputUnused x = isUnbound (x .binding) && eqb (x .credit) 0 && not (x .inside) &
 abbrev pub outputUnused : OutputVc → Bool
 outputUnused y = isFree (y .holder) && eqb (y .credit) 0
 
+-- pointer and rows are zero
 abbrev pub arbiterUnused : ℕ → arbiter.Arbiter → Bool
-arbiterUnused places a = eqb (a .pointer) 0 && blankFrom 0 places (a .rows)
+arbiterUnused places a = eqb (length (a .rows)) places && (eqb (a .pointer) 0 && blankFrom 0 places (a .rows))
 
 -- channels "beyond P and V .. are as on a fresh router of this configuration"
-unfoldable pub channelsUnused : Router → Bool
-channelsUnused s =
+unfoldable pub channelsUnused : Config → List InputVc → List OutputVc → Bool
+channelsUnused c inputs outputs =
     every 32 (λ (x : ℕ).
-    ltb x (s .config .ports * s .config .vcs)
-    || inputUnused (getD (s .inputs) x (freshInput 0)) && outputUnused (getD (s .outputs) x (freshOutput 0)))
+    ltb x (c .ports * c .vcs) || inputUnused (getD inputs x (freshInput 0)) && outputUnused (getD outputs x (freshOutput 0)))
 
 -- "an empty slot is zero": those behind each queue, and all of a channel that is not in use
-unfoldable pub slotsEmpty : Router → Bool
-slotsEmpty s =
-    every 32 (λ (x : ℕ).
-    every 16 (λ (k : ℕ). ltb k (getD (s .inputs) x (freshInput 0) .queued) || eqb (getD (s .store) (16 * x + k) 0) 0))
+unfoldable pub slotsEmpty : List InputVc → List ℕ → Bool
+slotsEmpty inputs store =
+    every 32 (λ (x : ℕ). every 16 (λ (k : ℕ). ltb k (getD inputs x (freshInput 0) .queued) || eqb (getD store (16 * x + k) 0) 0))
 
 -- "Places not in use" of the lines: those of ports from P on, and those past the delay
-unfoldable pub linesUnused : Router → Bool
-linesUnused s =
-    every 8 (λ (k : ℕ).
-    every 8 (λ (i : ℕ).
-    (ltb k (s .config .forward) && ltb i (s .config .ports) || eqb (wirePlace s k i) 0)
-    && (ltb k (s .config .back) && ltb i (s .config .ports) || eqb (homePlace s k i) 0)))
+unfoldable pub lineUnused : ℕ → ℕ → List ℕ → Bool
+lineUnused delay ports line =
+    every 8 (λ (k : ℕ). every 8 (λ (i : ℕ). ltb k delay && ltb i ports || eqb (getD line (8 * k + i) 0) 0))
 
 -- arbiters of ports from P on
-unfoldable pub arbitersUnused : Router → Bool
-arbitersUnused s =
+unfoldable pub arbitersUnused : Config → Arbiters → Bool
+arbitersUnused c a =
     every 8 (λ (i : ℕ).
-    ltb i (s .config .ports)
-    || arbiterUnused 32 (ofWide (vcArbiter s i)) && arbiterUnused 8 (ofNarrow (inputArbiter s i)) && arbiterUnused 8 (ofNarrow (outputArbiter s i)))
+    ltb i (c .ports)
+    || arbiterUnused 32 (ofWide (vcArbiter a i)) && arbiterUnused 8 (ofNarrow (inputArbiter a i)) && arbiterUnused 8 (ofNarrow (outputArbiter a i)))
 
 -- the arrays are as long as the struct has them; of a struct that is always so
 unfoldable pub shaped : Router → Bool
@@ -189,18 +197,19 @@ shaped s =
 
 -- "A state handed in is sound when": all clauses
 pub record Sound (s : Router) : Type 0 where
-  pub configuration : configurationLegal s ≡ true
-  pub cycles : cyclesFit s ≡ true
-  pub credits : creditsAddUp s ≡ true
-  pub wire : wireLegal s ≡ true
-  pub home : homeLegal s ≡ true
-  pub queues : queuesLegal s ≡ true
-  pub outputCredits : outputCreditsFit s ≡ true
-  pub names : namesAgree s ≡ true
-  pub arbiters : arbitersSound s ≡ true
-  pub packets : packetsRead s ≡ true
-  pub channels : channelsUnused s ≡ true
-  pub slots : slotsEmpty s ≡ true
-  pub lines : linesUnused s ≡ true
-  pub others : arbitersUnused s ≡ true
+  pub configuration : configurationLegal (s .config) ≡ true
+  pub cycles : cyclesFit (s .cycle) ≡ true
+  pub credits : creditsAddUp (s .config) (s .inputs) (s .wire) (s .home) ≡ true
+  pub wire : wireLegal (s .config) (s .wire) ≡ true
+  pub home : homeLegal (s .config) (s .home) ≡ true
+  pub queues : queuesLegal (s .config) (s .inputs) (s .store) ≡ true
+  pub outputCredits : outputCreditsFit (s .config) (s .outputs) ≡ true
+  pub names : namesAgree (s .config) (s .inputs) (s .outputs) ≡ true
+  pub arbiters : arbitersSound (s .config) (s .arbiters) ≡ true
+  pub packets : packetsRead (s .config) (s .inputs) (s .store) (s .wire) ≡ true
+  pub channels : channelsUnused (s .config) (s .inputs) (s .outputs) ≡ true
+  pub slots : slotsEmpty (s .inputs) (s .store) ≡ true
+  pub wireRest : lineUnused (s .config .forward) (s .config .ports) (s .wire) ≡ true
+  pub homeRest : lineUnused (s .config .back) (s .config .ports) (s .home) ≡ true
+  pub others : arbitersUnused (s .config) (s .arbiters) ≡ true
   pub shape : shaped s ≡ true

@@ -1,39 +1,44 @@
--- What a router holds, channel by channel: VC v of port i, where i is below P and v below V.
+-- What a router holds, channel by channel: VC v of port i, where i is below P and v below V. Each view takes the parts that it reads.
 -- Assumes nothing.
 use mathlib.Core.Bool.{Bool, cond, not, _&&_}
 use mathlib.Core.List.{List, [], _∷_, _++_, map}
 use Prim.Native.Nat.{ℕ, zero, suc, _+_, _*_, _/_, _%_, _^_}
 use lib.Dec.{eqb}
 use lib.ListN.{getD, take, drop}
+use Rattle.base.specs.declared.config.Config.{Config}
 use Rattle.base.specs.declared.flit.Flit.{Flit}
 use Rattle.arbiter.specs.declared.Narrow.{Narrow}
 use Rattle.arbiter.specs.declared.Wide.{Wide}
 use Rattle.state.specs.declared.InputVc.{InputVc}
 use Rattle.state.specs.declared.OutputVc.{OutputVc}
-use Rattle.state.specs.declared.Router.{Router}
+use Rattle.state.specs.declared.Arbiters.{Arbiters}
 use Rattle.state.specs.Fresh.{freshInput, freshOutput, zeroNarrow, zeroWide}
 
 -- "requester number i·V+v": the place of a channel in the arrays
-abbrev pub channel : Router → ℕ → ℕ → ℕ
-channel s i v = i * s .config .vcs + v
+abbrev pub channel : Config → ℕ → ℕ → ℕ
+channel c i v = i * c .vcs + v
 
-abbrev pub inputAt : Router → ℕ → ℕ → InputVc
-inputAt s i v = getD (s .inputs) (channel s i v) (freshInput 0)
+abbrev pub inputAt : Config → List InputVc → ℕ → ℕ → InputVc
+inputAt c inputs i v = getD inputs (channel c i v) (freshInput 0)
 
-abbrev pub outputAt : Router → ℕ → ℕ → OutputVc
-outputAt s o w = getD (s .outputs) (channel s o w) (freshOutput 0)
+abbrev pub outputAt : Config → List OutputVc → ℕ → ℕ → OutputVc
+outputAt c outputs o w = getD outputs (channel c o w) (freshOutput 0)
 
 -- "The input store is 512 slots": 16 for each channel
-abbrev pub slotsOf : Router → ℕ → ℕ → List ℕ
-slotsOf s i v = take 16 (drop (16 * channel s i v) (s .store))
+abbrev pub slotsOf : Config → List ℕ → ℕ → ℕ → List ℕ
+slotsOf c store i v = take 16 (drop (16 * channel c i v) store)
 
--- the flits queued on a channel, the front first
-unfoldable pub queueOf : Router → ℕ → ℕ → List Flit
-queueOf s i v = map (λ (w : ℕ). record { word = w }) (take (inputAt s i v .queued) (slotsOf s i v))
+-- the flit in a slot
+abbrev pub slotFlit : ℕ → Flit
+slotFlit slot = record { word = slot }
+
+-- the flits queued on a channel, the front first, where so many are queued
+unfoldable pub queueOf : Config → List ℕ → ℕ → ℕ → ℕ → List Flit
+queueOf c store i v queued = map slotFlit (take queued (slotsOf c store i v))
 
 -- the wire's place k of port i, the oldest being 0: empty, or a flit with its VC above it
-abbrev pub wirePlace : Router → ℕ → ℕ → ℕ
-wirePlace s k i = getD (s .wire) (8 * k + i) 0
+abbrev pub wirePlace : List ℕ → ℕ → ℕ → ℕ
+wirePlace wire k i = getD wire (8 * k + i) 0
 
 abbrev pub wireFlit : ℕ → Flit
 wireFlit place = record { word = place % 2 ^ 38 }
@@ -51,16 +56,20 @@ abbrev pub onVc : ℕ → ℕ → List Flit
 onVc v place = cond (not (eqb place 0) && eqb (wireVc place) v) (wireFlit place ∷ []) []
 
 -- the wire of a channel, a place for each cycle, the oldest first
-unfoldable pub wireOf : Router → ℕ → ℕ → List (List Flit)
-wireOf s i v = places (s .config .forward) (λ (k : ℕ). onVc v (wirePlace s k i))
+unfoldable pub wireOf : Config → List ℕ → ℕ → ℕ → List (List Flit)
+wireOf c wire i v = places (c .forward) (λ (k : ℕ). onVc v (wirePlace wire k i))
 
 -- the home line's place k of port i, the oldest being 0: empty, or 1 + VC
-abbrev pub homePlace : Router → ℕ → ℕ → ℕ
-homePlace s k i = getD (s .home) (8 * k + i) 0
+abbrev pub homePlace : List ℕ → ℕ → ℕ → ℕ
+homePlace home k i = getD home (8 * k + i) 0
+
+-- the credits of a home place that go to VC v
+abbrev pub toVc : ℕ → ℕ → ℕ
+toVc v place = cond (eqb place (v + 1)) 1 0
 
 -- the credits on their way home to VC v of port i, a place for each cycle, the oldest first
-unfoldable pub homeOf : Router → ℕ → ℕ → List ℕ
-homeOf s i v = places (s .config .back) (λ (k : ℕ). cond (eqb (homePlace s k i) (v + 1)) 1 0)
+unfoldable pub homeOf : Config → List ℕ → ℕ → ℕ → List ℕ
+homeOf c home i v = places (c .back) (λ (k : ℕ). toVc v (homePlace home k i))
 
 -- the lists of a list, one after another
 unfoldable pub flat : {A : Type 0} → List (List A) → List A
@@ -73,11 +82,11 @@ total [] = 0
 total (n ∷ ns) = n + total ns
 
 -- the arbiters: an output's over all input VCs, an input's over its VCs, an output's over the inputs
-abbrev pub vcArbiter : Router → ℕ → Wide
-vcArbiter s o = getD (s .arbiters .vcs) o zeroWide
+abbrev pub vcArbiter : Arbiters → ℕ → Wide
+vcArbiter a o = getD (a .vcs) o zeroWide
 
-abbrev pub inputArbiter : Router → ℕ → Narrow
-inputArbiter s i = getD (s .arbiters .inputs) i zeroNarrow
+abbrev pub inputArbiter : Arbiters → ℕ → Narrow
+inputArbiter a i = getD (a .inputs) i zeroNarrow
 
-abbrev pub outputArbiter : Router → ℕ → Narrow
-outputArbiter s o = getD (s .arbiters .outputs) o zeroNarrow
+abbrev pub outputArbiter : Arbiters → ℕ → Narrow
+outputArbiter a o = getD (a .outputs) o zeroNarrow
