@@ -7,6 +7,8 @@ use arbiter::Wide;
 use base::Config;
 
 mod building;
+mod flits;
+mod names;
 
 pub use building::Built;
 pub use building::fresh;
