@@ -8,6 +8,7 @@ use base::Config;
 
 mod building;
 mod flits;
+mod lines;
 mod names;
 
 pub use building::Built;
