@@ -24,7 +24,7 @@ use Rattle.arbiter.specs.Matrix.{blankFrom}
 use Rattle.arbiter.proofs.ByKind.{Known}
 use Rattle.arbiter.proofs.Soundness.{fresh-sound, sound-holds}
 use Rattle.state.specs.Fresh.{filled, freshInput, freshOutput, zeroNarrow, zeroWide, freshRouter}
-use Rattle.state.specs.Views.{channel, inputAt, outputAt, queueOf, wirePlace, wireOf, homeOf, homePlace, onVc, slotsOf, slotFlit, wireFlit, wireVc, places, flat, total, vcArbiter, inputArbiter, outputArbiter}
+use Rattle.state.specs.Views.{channel, inputAt, outputAt, queueOf, wirePlace, wireOf, homeOf, homePlace, onVc, queueAt, slotFlit, wireFlit, wireVc, places, flat, total, vcArbiter, inputArbiter, outputArbiter}
 use Rattle.state.specs.Sound
 use Rattle.state.proofs.Made.{channels-fit}
 
@@ -141,9 +141,9 @@ module _ (c : Config) (legal : Legal c) where
   home = all-every (c .back) _ (λ k h. all-every (c .ports) _ (λ i g. le-leb (homePlace (freshRouter c .home) k i) (c .vcs) (subst (λ x. x ≤ c .vcs) (sym (home-is k i)) zero-le)))
 
   no-queue : (i v : ℕ) → i < c .ports → v < c .vcs → queueOf c (freshRouter c .store) i v (inputAt c (freshRouter c .inputs) i v .queued) ≡ []
-  unfolding queueOf
+  unfolding queueAt
   no-queue i v h g =
-      ap (λ n. map slotFlit (take n (slotsOf c (freshRouter c .store) i v))) (ap (λ x. x .queued) (input-is i v h g))
+      ap (λ n. map slotFlit (take n (take 16 (drop (16 * channel c i v) (freshRouter c .store))))) (ap (λ x. x .queued) (input-is i v h g))
 
   queues : Sound.queuesLegal (freshRouter c .config) (freshRouter c .inputs) (freshRouter c .store) ≡ true
   unfolding Sound.queuesLegal Sound.all freshRouter

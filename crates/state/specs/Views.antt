@@ -24,17 +24,17 @@ inputAt c inputs i v = getD inputs (channel c i v) (freshInput 0)
 abbrev pub outputAt : Config → List OutputVc → ℕ → ℕ → OutputVc
 outputAt c outputs o w = getD outputs (channel c o w) (freshOutput 0)
 
--- "The input store is 512 slots": 16 for each channel
-abbrev pub slotsOf : Config → List ℕ → ℕ → ℕ → List ℕ
-slotsOf c store i v = take 16 (drop (16 * channel c i v) store)
-
 -- the flit in a slot
 abbrev pub slotFlit : ℕ → Flit
 slotFlit slot = record { word = slot }
 
+-- "The input store is 512 slots": 16 for each channel, of which the first so many hold its queue
+unfoldable pub queueAt : List ℕ → ℕ → ℕ → List Flit
+queueAt store base queued = map slotFlit (take queued (take 16 (drop base store)))
+
 -- the flits queued on a channel, the front first, where so many are queued
-unfoldable pub queueOf : Config → List ℕ → ℕ → ℕ → ℕ → List Flit
-queueOf c store i v queued = map slotFlit (take queued (slotsOf c store i v))
+abbrev pub queueOf : Config → List ℕ → ℕ → ℕ → ℕ → List Flit
+queueOf c store i v queued = queueAt store (16 * channel c i v) queued
 
 -- the wire's place k of port i, the oldest being 0: empty, or a flit with its VC above it
 abbrev pub wirePlace : List ℕ → ℕ → ℕ → ℕ

@@ -10,6 +10,7 @@ mod building;
 mod flits;
 mod lines;
 mod names;
+mod packets;
 
 pub use building::Built;
 pub use building::fresh;
