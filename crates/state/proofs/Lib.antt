@@ -1,3 +1,4 @@
+pub mod Clauses
 pub mod Filled
 pub mod FreshIsSound
 pub mod Made

@@ -14,7 +14,7 @@ use Rattle.base.specs.declared.config.Config.{Config}
 use Rattle.base.specs.declared.flit.Flit.{Flit}
 use Rattle.base.specs.Search.{every}
 use Rattle.base.proofs.Search.{both, every-at, all-every}
-use Rattle.state.specs.Views.{places, flat, total, wireFlit, wireVc, onVc, toVc}
+use Rattle.state.specs.Views.{places, flat, total, wirePlace, homePlace, wireOf, homeOf, wireFlit, wireVc, onVc, toVc}
 use Rattle.state.specs.Sound.{wirePlaceLegal, legalFlit, lineUnused}
 use Rattle.state.proofs.Tests.{same-test}
 
@@ -81,6 +81,35 @@ one-credit v place = go (eqb place (v + 1))
     go : (b : Bool) → cond b 1 0 ≤ 1
     go true = omega arith
     go false = omega arith
+
+-- so a line holds at most one for each stage
+pub wire-few : (c : Config) (wire : List ℕ) (i v : ℕ) → length (flat (wireOf c wire i v)) ≤ c .forward
+unfolding wireOf
+wire-few c wire i v = few (c .forward)
+  where
+    few : (n : ℕ) → length (flat (places n (λ (k : ℕ). onVc v (wirePlace wire k i)))) ≤ n
+    few zero = let e = flits-none (λ (k : ℕ). onVc v (wirePlace wire k i)) in omega arith
+    few (suc n) =
+        let r = few n in
+        let o = one-flit v (wirePlace wire n i) in
+        let e : length (flat (places (suc n) (λ (k : ℕ). onVc v (wirePlace wire k i))))
+        ≡ length (flat (places n (λ (k : ℕ). onVc v (wirePlace wire k i)))) + length (onVc v (wirePlace wire n i))
+        = ap (λ m. length (flat (places m (λ (k : ℕ). onVc v (wirePlace wire k i))))) (sym (add-one n)) ∙ flits-more n (λ (k : ℕ). onVc v (wirePlace wire k i)) in
+        omega arith
+
+pub home-few : (c : Config) (home : List ℕ) (i v : ℕ) → total (homeOf c home i v) ≤ c .back
+unfolding homeOf
+home-few c home i v = few (c .back)
+  where
+    few : (n : ℕ) → total (places n (λ (k : ℕ). toVc v (homePlace home k i))) ≤ n
+    few zero = let e = credits-none (λ (k : ℕ). toVc v (homePlace home k i)) in omega arith
+    few (suc n) =
+        let r = few n in
+        let o = one-credit v (homePlace home n i) in
+        let e : total (places (suc n) (λ (k : ℕ). toVc v (homePlace home k i)))
+        ≡ total (places n (λ (k : ℕ). toVc v (homePlace home k i))) + toVc v (homePlace home n i)
+        = ap (λ m. total (places m (λ (k : ℕ). toVc v (homePlace home k i)))) (sym (add-one n)) ∙ credits-more n (λ (k : ℕ). toVc v (homePlace home k i)) in
+        omega arith
 
 -- a place in use passes its test, any other is zero
 abbrev pub placeSound : ℕ → ℕ → (ℕ → Bool) → ℕ → ℕ → ℕ → Bool

@@ -3,10 +3,10 @@
 use mathlib.Core.Path.{_≡_, refl, sym, ap, ap₂, subst, _∙_}
 use mathlib.Core.Bool.{Bool, true, false, _&&_}
 use Prim.Native.Nat.{ℕ, _+_, _≤_, _<_}
-use native.Mathlib.Nat.{le-antisymm}
+use native.Mathlib.Nat.{le-antisymm, lt-of-lt-of-le}
 use native.Mathlib.Numerals.{add-one}
 use Rattle.base.specs.Search.{every}
-use Rattle.base.proofs.Search.{both, not-every}
+use Rattle.base.proofs.Search.{not-every, every-at, all-every}
 
 -- two tests that pass together are the same
 pub same-test : (a b : Bool) → (a ≡ true → b ≡ true) → (b ≡ true → a ≡ true) → a ≡ b
@@ -31,3 +31,14 @@ every-passed n m test h g e = ap (λ k. every k test) (le-antisymm g h) ∙ e
 -- one does not pass
 pub every-fails : (n m : ℕ) (test : ℕ → Bool) → m < n → test m ≡ false → false ≡ every n test
 every-fails n m test h e = sym (not-every n test m h e)
+
+-- some before it all pass
+pub every-below : (n m : ℕ) (test : ℕ → Bool) → n ≤ m → every m test ≡ true → every n test ≡ true
+every-below n m test h e = all-every n test (λ i l. every-at m test e i (lt-of-lt-of-le l h))
+
+-- the first of two tests fails, or it passes and the second is left
+pub and-no : (a b : Bool) → a ≡ false → false ≡ (a && b)
+and-no a b e = sym (ap (λ t. t && b) e)
+
+pub and-yes : (a b : Bool) → a ≡ true → b ≡ (a && b)
+and-yes a b e = sym (ap (λ t. t && b) e)

@@ -1,3 +1,4 @@
 pub mod Fresh
 pub mod Sound
+pub mod Testing
 pub mod Views

@@ -7,6 +7,7 @@ use arbiter::Wide;
 use base::Config;
 
 mod building;
+mod channels;
 mod flits;
 mod lines;
 mod names;
