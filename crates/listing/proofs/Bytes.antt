@@ -1,17 +1,16 @@
 -- The bytes of a line in the parts in which they are stored, and how long a line is at most.
 -- Assumes nothing.
-use mathlib.Core.Path.{_≡_, refl, sym, ap, _∙_}
-use mathlib.Core.Bool.{true}
-use mathlib.Core.List.{List, [], _∷_, _++_, append-assoc}
-use Prim.Native.Nat.{ℕ, suc, _+_, _-_, _≤_, _<_}
+use mathlib.Core.Path.{_≡_, refl, ap}
+use mathlib.Core.List.{List, [], _∷_, _++_}
+use Prim.Native.Nat.{ℕ, _+_, _≤_, _<_}
 use native.Mathlib.Omega.{arith}
-use lib.ListN.{length, drop, length-append, length-drop}
+use lib.ListN.{length, length-drop}
 use Rattle.base.specs.declared.reply.Departure.{Departure}
 use Rattle.base.specs.Flit.{letterOf}
 use Rattle.listing.specs.Digits.{decimal, hex}
-use Rattle.listing.specs.Inside.{Laid, Spelled}
-use Rattle.listing.specs.Lines.{Line, credit, flit, finish, refusal, spaced, print, printable}
-use Rattle.listing.proofs.Decimals.{decimal-digit, decimal-length, last-length}
+use Rattle.listing.specs.Inside.{Spelled}
+use Rattle.listing.specs.Lines.{credit, flit, finish, refusal, spaced, print}
+use Rattle.listing.proofs.Decimals.{decimal-digit, decimal-length}
 use Rattle.listing.proofs.Ranges.{FlitIn}
 
 -- a number of at most nine digits has a zero in front of the ten

@@ -1,7 +1,7 @@
 -- The listing of document 01, line by line, through the definitions that the contracts cite; and the longest cycle.
 -- Assumes nothing.
 use mathlib.Core.Path.{_≡_, refl}
-use mathlib.Core.List.{List, [], _∷_}
+use mathlib.Core.List.{[], _∷_}
 use Prim.Native.Nat.{ℕ}
 use lib.ListN.{length, replicate}
 use Rattle.base.specs.declared.reply.Departure.{Departure}
@@ -12,7 +12,7 @@ use Rattle.base.specs.Flit.{head, tail, single, letterOf}
 use Rattle.base.specs.Numbers.{done, noRoom, room}
 use Rattle.base.specs.Reply.{emptyReply}
 use Rattle.listing.specs.Digits.{glyph, decimalWithin, decimal, lastDigits, hex}
-use Rattle.listing.specs.Lines.{Line, credit, flit, finish, spaced, print, text, printable, byPort, creditLine, flitLine, cycleLines}
+use Rattle.listing.specs.Lines.{credit, flit, finish, spaced, print, text, printable, byPort, creditLine, flitLine, cycleLines}
 use Rattle.listing.specs.Writing.{lacksRoom, written}
 
 -- a flit out on VC 0, from VC 0

@@ -1,13 +1,11 @@
 -- How long the lines are at most: each of them, a cycle's, and what the buffer has room for.
 -- Assumes nothing.
 use mathlib.Core.Path.{_≡_, refl, sym, ap, _∙_}
-use mathlib.Core.Bool.{Bool, true, false, _&&_}
+use mathlib.Core.Bool.{true}
 use mathlib.Core.List.{List, [], _∷_, _++_}
-use mathlib.Core.Option.{Option, some, none}
 use Prim.Native.Nat.{ℕ, zero, suc, _+_, _*_, _≤_, _<_, zero-le}
-use native.Mathlib.Nat.{mul-zero, mul-suc}
+use native.Mathlib.Nat.{mul-suc}
 use native.Mathlib.Omega.{arith}
-use lib.Dec.{lit≤}
 use lib.ListN.{length, getD, length-append}
 use Rattle.base.specs.declared.reply.Departure.{Departure}
 use Rattle.base.specs.declared.reply.Reached.{Reached}

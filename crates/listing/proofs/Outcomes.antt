@@ -1,14 +1,14 @@
 -- The three outcomes of a write, from what it tested and what it laid.
 -- Assumes nothing.
-use mathlib.Core.Path.{_≡_, refl, sym, ap, ap₂, _∙_}
-use mathlib.Core.Bool.{Bool, true, false, not, cond, _||_, true≢false, false≢true}
+use mathlib.Core.Path.{_≡_, refl, ap, ap₂, _∙_}
+use mathlib.Core.Bool.{Bool, true, false, not, _||_, true≢false}
 use mathlib.Core.List.{List, _++_}
-use Prim.Native.Nat.{ℕ, _+_, _-_, _≤_, _<_}
+use Prim.Native.Nat.{ℕ, _+_, _-_, _≤_}
 use native.Mathlib.Omega.{arith}
 use lib.Dec.{ltb}
 use lib.ListN.{length, take, drop, length-drop}
 use lib.Seq.{sets, take-all}
-use borrow.Author.Tests.{ltb-true, ltb-false, not-true, not-false}
+use borrow.Author.Tests.{ltb-false, not-true, not-false}
 use Rattle.base.specs.Numbers.{done, noRoom, outOfRange, room}
 use Rattle.listing.specs.Inside.{Laid}
 use Rattle.listing.specs.Lines.{Line, text, printable}

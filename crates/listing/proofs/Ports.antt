@@ -1,21 +1,20 @@
 -- Lines port by port: what is printable and what the bytes are, for one port more.
 -- Assumes nothing.
 use mathlib.Core.Path.{_≡_, refl, sym, ap, ap₂, _∙_}
-use mathlib.Core.Bool.{Bool, true, false, _&&_, and-true, and-false, true≢false}
+use mathlib.Core.Bool.{Bool, true, false, _&&_, and-false, true≢false}
 use mathlib.Core.List.{List, [], _∷_, _++_, append-assoc, append-nil}
-use Prim.Native.Nat.{ℕ, zero, suc, _+_, _≤_, _<_}
+use Prim.Native.Nat.{ℕ, zero, suc, _+_, _<_}
 use native.Mathlib.Nat.{not-suc-le-zero}
 use native.Mathlib.Numerals.{add-one}
 use native.Mathlib.Omega.{arith}
 use lib.Arith.{lt-of-le-ne}
 use lib.Dec.{eqb}
-use lib.ListN.{length, getD}
+use lib.ListN.{getD}
 use borrow.Author.Tests.{eqb-true, eqb-false}
 use Rattle.base.specs.declared.reply.Reached.the-variants as reached
 use Rattle.base.specs.declared.reply.Departure.{Departure}
 use Rattle.base.specs.declared.reply.Left.the-variants as left
 use Rattle.base.specs.declared.reply.Reply.{Reply}
-use Rattle.base.specs.Reply.{creditOf, departureOf}
 use Rattle.listing.specs.Lines.{Line, credit, flit, valuesOf, allInRange, printable, print, text, byPort, creditLine, flitLine, cycleLines}
 use Rattle.listing.proofs.Ranges.{both}
 

@@ -1,6 +1,6 @@
 -- Values in their ranges: from the test of a line to the bounds of its values.
 -- Assumes nothing.
-use mathlib.Core.Path.{_≡_, refl, sym, ap, _∙_}
+use mathlib.Core.Path.{_≡_, refl, sym, ap}
 use mathlib.Core.Bool.{Bool, true, false, not, _&&_, false≢true}
 use mathlib.Core.List.{List, [], _∷_}
 use Prim.Native.Nat.{ℕ, _≤_, _<_}
@@ -8,7 +8,7 @@ use native.Mathlib.Omega.{arith}
 use lib.Dec.{leb, ltb}
 use borrow.Author.Tests.{leb-true, leb-false, lt-ltb, le-ltb}
 use Rattle.base.specs.declared.reply.Departure.{Departure}
-use Rattle.base.specs.Sizes.{Field, field, inRange}
+use Rattle.base.specs.Sizes.{Field, inRange}
 use Rattle.listing.specs.Lines.{Line, credit, flit, finish, refusal, valuesOf, allInRange, printable}
 
 -- at most is not more than

@@ -1,12 +1,12 @@
 -- A printed line is read back to its fields, whatever follows it.
 -- Assumes nothing.
-use mathlib.Core.Path.{_≡_, refl, sym, ap, ap₂, _∙_}
+use mathlib.Core.Path.{_≡_, refl, sym, ap, _∙_}
 use mathlib.Core.Bool.{Bool, true, false, cond}
 use mathlib.Core.List.{List, [], _∷_, _++_, append-assoc, append-nil}
 use Prim.Native.Nat.{ℕ, zero, suc, _+_, _/_, _%_, _^_, _≤_, _<_}
 use native.Mathlib.Omega.{arith}
-use lib.Dec.{eqb, ltb, lit<}
-use borrow.Author.Tests.{ltb-true, ltb-false, ne-eqb}
+use lib.Dec.{ltb, lit<}
+use borrow.Author.Tests.{ne-eqb}
 use Rattle.base.specs.declared.reply.Departure.{Departure}
 use Rattle.base.specs.Flit.{letterOf}
 use Rattle.listing.specs.Digits.{glyph, decimal, lastDigits, hex}

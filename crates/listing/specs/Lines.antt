@@ -6,10 +6,8 @@ use mathlib.Core.Option.{Option, some, none}
 use Prim.Native.Nat.{ℕ, zero, suc, _-_}
 use lib.ListN.{getD}
 use Rattle.base.specs.declared.reply.Reached.the-variants as reached
-use Rattle.base.specs.declared.reply.Sender.{Sender}
 use Rattle.base.specs.declared.reply.Departure.{Departure}
 use Rattle.base.specs.declared.reply.Left.the-variants as left
-use Rattle.base.specs.declared.reply.Output.{Output}
 use Rattle.base.specs.declared.reply.Reply.{Reply}
 use Rattle.base.specs.Flit.{head, single, letterOf}
 use Rattle.base.specs.Numbers.{largestNumber, largestPlace}

@@ -5,7 +5,6 @@ use mathlib.Core.List.{List, [], _∷_, _++_}
 use Prim.Native.Nat.{ℕ, _+_, _-_, _*_}
 use lib.Dec.{eqb, ltb}
 use lib.ListN.{getD}
-use Rattle.base.specs.declared.reply.Departure.{Departure}
 use Rattle.base.specs.Flit.{head, body, tail, single}
 use Rattle.listing.specs.Lines.{Line, credit, flit, finish, refusal, space, newline}
 

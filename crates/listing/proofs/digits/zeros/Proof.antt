@@ -3,7 +3,6 @@
 use mathlib.Core.Path.{refl}
 use mathlib.Core.Logic.{inl, inr}
 use native.Mathlib.Omega.{arith}
-use borrow.Author.Needs.{needs}
 use Rattle.listing.proofs.Decimals.{spelled-by}
 use Rattle.listing.proofs.digits.zeros.Statement.{statement}
 use Rattle.listing.proofs.digits.zeros.Tie as tie

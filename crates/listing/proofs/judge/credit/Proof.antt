@@ -5,7 +5,6 @@ use native.Mathlib.Omega.{arith}
 use mathlib.Core.Bool.{and-true}
 use borrow.Author.Tests.{lt-leb, le-leb}
 use Rattle.base.specs.Sizes.{inRange}
-use borrow.Author.Needs.{needs}
 use Rattle.listing.specs.Lines.{valuesOf, allInRange, printable}
 use Rattle.listing.proofs.judge.credit.Statement.{statement}
 use Rattle.listing.proofs.judge.credit.Tie as tie

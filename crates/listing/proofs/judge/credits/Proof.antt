@@ -7,7 +7,7 @@ use native.Mathlib.Omega.{arith}
 use borrow.Author.Tests.{not-true, not-false}
 use borrow.Author.Needs.{needs}
 use Rattle.listing.specs.Lines.{printable, byPort, creditLine}
-use Rattle.listing.proofs.Ports.{printable-more, printable-stops, no-credit, one-credit, no-flit, one-flit}
+use Rattle.listing.proofs.Ports.{printable-more, printable-stops, no-credit, one-credit}
 use Rattle.listing.proofs.judge.credits.Statement.{statement}
 use Rattle.listing.proofs.judge.credits.Tie as tie
 

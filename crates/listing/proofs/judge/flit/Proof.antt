@@ -1,11 +1,10 @@
 -- `listing::judge::flit` meets its contract, value by value.
 -- Assumes nothing.
-use lib.Dec.{leb·zero, leb·suc-suc}
+use lib.Dec.{leb·zero}
 use native.Mathlib.Omega.{arith}
 use mathlib.Core.Bool.{and-true}
 use borrow.Author.Tests.{lt-leb, le-leb}
 use Rattle.base.specs.Sizes.{inRange}
-use borrow.Author.Needs.{needs}
 use Rattle.listing.specs.Lines.{valuesOf, allInRange, printable}
 use Rattle.listing.proofs.judge.flit.Statement.{statement}
 use Rattle.listing.proofs.judge.flit.Tie as tie

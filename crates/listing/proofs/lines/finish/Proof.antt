@@ -10,7 +10,7 @@ use Rattle.listing.specs.Inside.{Laid}
 use Rattle.listing.specs.Lines.{finish, print}
 use Rattle.listing.proofs.Bytes.{finish-bytes}
 use Rattle.listing.proofs.Ranges.{finish-in}
-use Rattle.listing.proofs.Stores.{stores, laid-as, laid-more, laid-stores, laid-length}
+use Rattle.listing.proofs.Stores.{laid-as, laid-more, laid-stores, laid-length}
 use Rattle.listing.proofs.lines.finish.Statement.{statement}
 use Rattle.listing.proofs.lines.finish.Tie as tie
 

@@ -1,10 +1,8 @@
 -- `listing::lines::start` meets its contract.
 -- Assumes nothing.
-use mathlib.Core.Path.{_≡_, ap}
 use mathlib.Core.List.{[], _∷_}
-use Prim.Native.Nat.{_≤_}
 use native.Mathlib.Omega.{arith}
-use lib.ListN.{length, length-set}
+use lib.ListN.{length-set}
 use borrow.Author.Needs.{needs}
 use Rattle.listing.specs.Digits.{decimal}
 use Rattle.listing.specs.Inside.{Laid}
