@@ -23,7 +23,7 @@ use Rattle.arbiter.specs.Arbiter.{ofNarrow, ofWide}
 use Rattle.arbiter.specs.Matrix.{blankFrom}
 use Rattle.arbiter.proofs.ByKind.{Known}
 use Rattle.arbiter.proofs.Soundness.{fresh-sound, sound-holds}
-use Rattle.state.specs.Fresh.{filled, freshInput, freshOutput, zeroNarrow, zeroWide, freshRouter}
+use Rattle.state.specs.Fresh.{filled, freshInput, freshOutput, zeroNarrow, zeroWide, pastNarrow, pastWide, freshRouter}
 use Rattle.state.specs.Views.{channel, inputAt, outputAt, queueOf, wirePlace, wireOf, homeOf, homePlace, onVc, queueAt, slotFlit, wireFlit, wireVc, places, flat, total, vcArbiter, inputArbiter, outputArbiter}
 use Rattle.state.specs.Sound
 use Rattle.state.proofs.Made.{channels-fit}
@@ -45,6 +45,12 @@ filled-from : {A : Type 0} (n size : ℕ) (x z : A) (k : ℕ) → n ≤ k → ge
 filled-from n size x z k h =
     let e : k ≡ length (replicate n x) + (k - n) = omega (arith, length-replicate n x) in
     ap (λ m. getD (filled n size x z) m z) e ∙ getD-append-add (replicate n x) (replicate (size - n) z) (k - n) z ∙ same-at (size - n) z (k - n)
+
+filled-at : {A : Type 0} (n size : ℕ) (x z d : A) (k : ℕ) → n ≤ k → k < size → getD (filled n size x z) k d ≡ z
+filled-at n size x z d k h g =
+    let e : k ≡ length (replicate n x) + (k - n) = omega (arith, length-replicate n x) in
+    ap (λ m. getD (filled n size x z) m d) e ∙ getD-append-add (replicate n x) (replicate (size - n) z) (k - n) d
+    ∙ getD-replicate (size - n) (k - n) z d (omega arith)
 
 -- a line of nothing holds nothing
 flat-more : {A : Type 0} (xs : List (List A)) → flat xs ≡ [] → flat (xs ++ ([] ∷ [])) ≡ []
@@ -187,9 +193,9 @@ module _ (c : Config) (legal : Legal c) where
       all-every (c .ports) _ (λ i h.
       ap₂ _&&_
       (ap₂ _&&_
-      (ap (λ a. arbiter.sound 32 (c .arbiter) (c .ports * c .vcs) (ofWide a)) (filled-below (c .ports) 8 _ zeroWide zeroWide i h) ∙ arbiter-sound 32 (c .ports * c .vcs) some-channels channels)
-      (ap (λ a. arbiter.sound 8 (c .arbiter) (c .vcs) (ofNarrow a)) (filled-below (c .ports) 8 _ zeroNarrow zeroNarrow i h) ∙ arbiter-sound 8 (c .vcs) (legal .vcs .0) (let l = legal .vcs .1 in omega arith)))
-      (ap (λ a. arbiter.sound 8 (c .arbiter) (c .ports) (ofNarrow a)) (filled-below (c .ports) 8 _ zeroNarrow zeroNarrow i h) ∙ arbiter-sound 8 (c .ports) (legal .ports .0) (legal .ports .1)))
+      (ap (λ a. arbiter.sound 32 (c .arbiter) (c .ports * c .vcs) (ofWide a)) (filled-below (c .ports) 8 _ zeroWide pastWide i h) ∙ arbiter-sound 32 (c .ports * c .vcs) some-channels channels)
+      (ap (λ a. arbiter.sound 8 (c .arbiter) (c .vcs) (ofNarrow a)) (filled-below (c .ports) 8 _ zeroNarrow pastNarrow i h) ∙ arbiter-sound 8 (c .vcs) (legal .vcs .0) (let l = legal .vcs .1 in omega arith)))
+      (ap (λ a. arbiter.sound 8 (c .arbiter) (c .ports) (ofNarrow a)) (filled-below (c .ports) 8 _ zeroNarrow pastNarrow i h) ∙ arbiter-sound 8 (c .ports) (legal .ports .0) (legal .ports .1)))
 
   packets : Sound.packetsRead (freshRouter c .config) (freshRouter c .inputs) (freshRouter c .store) (freshRouter c .wire) ≡ true
   unfolding Sound.packetsRead Sound.reads Sound.reading freshRouter
@@ -236,18 +242,18 @@ module _ (c : Config) (legal : Legal c) where
 
   others : Sound.arbitersUnused (freshRouter c .config) (freshRouter c .arbiters) ≡ true
   unfolding Sound.arbitersUnused freshRouter blankFrom every
-  others = all-every 8 _ (λ i h. go i (ltb i (c .ports)) refl)
+  others = all-every 8 _ (λ i h. go i h (ltb i (c .ports)) refl)
     where
-      go : (i : ℕ) (b : Bool) → ltb i (c .ports) ≡ b
+      go : (i : ℕ) → i < 8 → (b : Bool) → ltb i (c .ports) ≡ b
           → (b || (Sound.arbiterUnused 32 (ofWide (vcArbiter (freshRouter c .arbiters) i)) && Sound.arbiterUnused 8 (ofNarrow (inputArbiter (freshRouter c .arbiters) i))
           && Sound.arbiterUnused 8 (ofNarrow (outputArbiter (freshRouter c .arbiters) i)))) ≡ true
-      go i true e = refl
-      go i false e =
+      go i h true e = refl
+      go i h false e =
           let l = ltb-false i (c .ports) e in
           ap₂ _&&_
-          (ap₂ _&&_ (ap (λ a. Sound.arbiterUnused 32 (ofWide a)) (filled-from (c .ports) 8 _ zeroWide i l))
-          (ap (λ a. Sound.arbiterUnused 8 (ofNarrow a)) (filled-from (c .ports) 8 _ zeroNarrow i l)))
-          (ap (λ a. Sound.arbiterUnused 8 (ofNarrow a)) (filled-from (c .ports) 8 _ zeroNarrow i l))
+          (ap₂ _&&_ (ap (λ a. Sound.arbiterUnused 32 (ofWide a)) (filled-at (c .ports) 8 _ zeroWide pastWide i l h))
+          (ap (λ a. Sound.arbiterUnused 8 (ofNarrow a)) (filled-at (c .ports) 8 _ zeroNarrow pastNarrow i l h)))
+          (ap (λ a. Sound.arbiterUnused 8 (ofNarrow a)) (filled-at (c .ports) 8 _ zeroNarrow pastNarrow i l h))
 
   shape : Sound.shaped (freshRouter c) ≡ true
   unfolding Sound.shaped freshRouter

@@ -1,4 +1,6 @@
+pub mod PortArbiters
 pub mod Clauses
+pub mod Exact
 pub mod Filled
 pub mod FreshIsSound
 pub mod Made

@@ -1,7 +1,7 @@
 -- A fresh router (01, "Sizes").
 -- Assumes nothing.
 use mathlib.Core.Bool.{false}
-use mathlib.Core.List.{List, _++_}
+use mathlib.Core.List.{List, [], _++_}
 use mathlib.Core.Option.{Option, some, none}
 use Prim.Native.Nat.{ℕ, _-_, _*_}
 use lib.ListN.{replicate}
@@ -46,6 +46,13 @@ zeroNarrow = record { pointer = 0; rows = replicate 8 0 }
 
 abbrev pub zeroWide : Wide
 zeroWide = record { pointer = 0; rows = replicate 32 0 }
+
+-- what is read past the end of an array of arbiters
+abbrev pub pastNarrow : Narrow
+pastNarrow = record { pointer = 0; rows = [] }
+
+abbrev pub pastWide : Wide
+pastWide = record { pointer = 0; rows = [] }
 
 -- arbiters of the ports that there are; all zero beyond
 abbrev pub freshArbiters : Config → Arbiters

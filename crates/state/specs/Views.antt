@@ -12,7 +12,7 @@ use Rattle.arbiter.specs.declared.Wide.{Wide}
 use Rattle.state.specs.declared.InputVc.{InputVc}
 use Rattle.state.specs.declared.OutputVc.{OutputVc}
 use Rattle.state.specs.declared.Arbiters.{Arbiters}
-use Rattle.state.specs.Fresh.{freshInput, freshOutput, zeroNarrow, zeroWide}
+use Rattle.state.specs.Fresh.{freshInput, freshOutput, pastNarrow, pastWide}
 
 -- "requester number i·V+v": the place of a channel in the arrays
 abbrev pub channel : Config → ℕ → ℕ → ℕ
@@ -83,10 +83,10 @@ total (n ∷ ns) = n + total ns
 
 -- the arbiters: an output's over all input VCs, an input's over its VCs, an output's over the inputs
 abbrev pub vcArbiter : Arbiters → ℕ → Wide
-vcArbiter a o = getD (a .vcs) o zeroWide
+vcArbiter a o = getD (a .vcs) o pastWide
 
 abbrev pub inputArbiter : Arbiters → ℕ → Narrow
-inputArbiter a i = getD (a .inputs) i zeroNarrow
+inputArbiter a i = getD (a .inputs) i pastNarrow
 
 abbrev pub outputArbiter : Arbiters → ℕ → Narrow
-outputArbiter a o = getD (a .outputs) o zeroNarrow
+outputArbiter a o = getD (a .outputs) o pastNarrow

@@ -6,15 +6,18 @@ use arbiter::Narrow;
 use arbiter::Wide;
 use base::Config;
 
+mod arbitration;
 mod building;
 mod channels;
 mod flits;
 mod lines;
 mod names;
 mod packets;
+mod soundness;
 
 pub use building::Built;
 pub use building::fresh;
+pub use soundness::is_sound;
 
 // One VC of one output.
 pub struct OutVc {

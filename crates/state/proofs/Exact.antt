@@ -1,0 +1,183 @@
+-- The sound test is exact: a clause that fails refutes soundness, and all clauses together are soundness.
+-- Assumes nothing.
+use mathlib.Core.Path.{_≡_, refl, sym, ap, ap₂, _∙_}
+use mathlib.Core.Bool.{Bool, true, false, _&&_, true≢false, false≢true}
+use mathlib.Core.List.{List, map}
+use mathlib.Core.Option.{Option, some, none}
+use Prim.Native.Nat.{ℕ, _≤_, _<_}
+use lib.Dec.{leb}
+use lib.ListN.{length, length-map}
+use borrow.Author.Tests.{lt-leb, le-leb, eq-eqb}
+use Rattle.base.specs.declared.config.Config.{Config}
+use Rattle.base.specs.Search.{every}
+use Rattle.base.specs.Sizes.{illegalField, cycleLimit}
+use Rattle.base.proofs.Search.{both, every-at, all-every}
+use Rattle.base.proofs.Configurations.{legal-exact}
+use Rattle.state.specs.declared.Router.{Router}
+use Rattle.state.specs.Views.{inputAt, outputAt, queueOf, wireOf, flat}
+use Rattle.state.specs.Sound
+use Rattle.state.specs.Sound.{isNone, everyChannel}
+use Rattle.state.specs.Testing.{Bounded, inputSound, namesSound, channelSound}
+
+-- what the contract says of an answer
+abbrev pub Exact : Router → Bool → Type 0
+Exact s r = (r ≡ true → Sound.Sound s) × (Sound.Sound s → r ≡ true)
+
+-- a test that soundness passes and that fails refuses the state
+pub refused : (s : Router) (test : Bool) → (Sound.Sound s → test ≡ true) → test ≡ false → Exact s false
+refused s test f e = (λ p. absurd (false≢true p), λ sound. sym e ∙ f sound)
+
+pub legal-bounded : (c : Config) → illegalField c ≡ none → Bounded c
+legal-bounded c e =
+    let l = legal-exact c .0 e in
+    record { ports = l .ports .1; vcs = l .vcs .1; depth = l .depth .1; forward = l .forward .1; back = l .back .1 }
+
+module _ (s : Router) where
+  pub illegal-refused : (k : ℕ) → illegalField (s .config) ≡ some k → Exact s false
+  unfolding Sound.configurationLegal isNone
+  illegal-refused k e = refused s (Sound.configurationLegal (s .config)) (λ x. x .configuration) (ap isNone e)
+
+  pub late-refused : cycleLimit < s .cycle → Exact s false
+  unfolding Sound.cyclesFit
+  late-refused h = refused s (Sound.cyclesFit (s .cycle)) (λ x. x .cycles) (lt-leb (s .cycle) cycleLimit h)
+
+  -- the test of all channels, and the clauses that it holds
+  abbrev pub channelTest : ℕ → ℕ → Bool
+  channelTest = channelSound (s .config) (s .inputs) (s .outputs) (s .store) (s .wire) (s .home)
+
+  at : (test : ℕ → ℕ → Bool) → everyChannel (s .config) test ≡ true → (i v : ℕ) → i < s .config .ports → v < s .config .vcs → test i v ≡ true
+  at test e i v h g = every-at (s .config .vcs) (test i) (every-at (s .config .ports) (λ (i : ℕ). every (s .config .vcs) (test i)) e i h) v g
+
+  all-at : (test : ℕ → ℕ → Bool) → ((i v : ℕ) → i < s .config .ports → v < s .config .vcs → test i v ≡ true) → everyChannel (s .config) test ≡ true
+  all-at test f = all-every (s .config .ports) (λ (i : ℕ). every (s .config .vcs) (test i)) (λ i h. all-every (s .config .vcs) (test i) (λ v g. f i v h g))
+
+  pub sound-channels : Sound.Sound s → everyChannel (s .config) channelTest ≡ true
+  unfolding channelSound namesSound inputSound Sound.creditsAddUp Sound.queuesLegal Sound.outputCreditsFit Sound.namesAgree Sound.packetsRead
+  sound-channels x =
+      let n = both (everyChannel (s .config) (λ i v. Sound.inputNamed (s .config) (s .outputs) i v (inputAt (s .config) (s .inputs) i v .binding))) (everyChannel (s .config) (λ o w. Sound.outputNamed (s .config) (s .inputs) o w (outputAt (s .config) (s .outputs) o w .holder))) (x .names) in
+      all-at channelTest (λ i v h g.
+      ap₂ _&&_ (ap₂ _&&_ (at _ (x .outputCredits) i v h g) (ap₂ _&&_ (at _ (n .0) i v h g) (at _ (n .1) i v h g)))
+      (ap₂ _&&_ (at _ (x .credits) i v h g) (ap₂ _&&_ (at _ (x .queues) i v h g) (at _ (x .packets) i v h g))))
+
+  module _ (e : everyChannel (s .config) channelTest ≡ true) where
+    names-at : (i v : ℕ) → i < s .config .ports → v < s .config .vcs → namesSound (s .config) (s .inputs) (s .outputs) i v ≡ true
+    unfolding channelSound
+    names-at i v h g = both (namesSound (s .config) (s .inputs) (s .outputs) i v) (inputSound (s .config) (s .store) (s .wire) (s .home) i v (inputAt (s .config) (s .inputs) i v)) (at channelTest e i v h g) .0
+
+    input-at : (i v : ℕ) → i < s .config .ports → v < s .config .vcs
+        → inputSound (s .config) (s .store) (s .wire) (s .home) i v (inputAt (s .config) (s .inputs) i v) ≡ true
+    unfolding channelSound
+    input-at i v h g = both (namesSound (s .config) (s .inputs) (s .outputs) i v) (inputSound (s .config) (s .store) (s .wire) (s .home) i v (inputAt (s .config) (s .inputs) i v)) (at channelTest e i v h g) .1
+
+    -- the three tests of an input VC
+    abbrev creditsTest : ℕ → ℕ → Bool
+    creditsTest i v = Sound.creditsWhole (s .config) (s .wire) (s .home) i v (inputAt (s .config) (s .inputs) i v)
+
+    abbrev queueTest : ℕ → ℕ → Bool
+    queueTest i v = Sound.all (Sound.legalFlit (s .config)) (queueOf (s .config) (s .store) i v (inputAt (s .config) (s .inputs) i v .queued))
+
+    abbrev packetTest : ℕ → ℕ → Bool
+    packetTest i v =
+        Sound.reads (queueOf (s .config) (s .store) i v (inputAt (s .config) (s .inputs) i v .queued)) (flat (wireOf (s .config) (s .wire) i v))
+        (inputAt (s .config) (s .inputs) i v .binding) (inputAt (s .config) (s .inputs) i v .inside)
+
+    three : (i v : ℕ) → i < s .config .ports → v < s .config .vcs → (creditsTest i v ≡ true) × (queueTest i v ≡ true) × (packetTest i v ≡ true)
+    unfolding inputSound
+    three i v h g =
+        let p = both (creditsTest i v) (queueTest i v && packetTest i v) (input-at i v h g) in
+        let q = both (queueTest i v) (packetTest i v) (p .1) in
+        (p .0, q .0, q .1)
+
+    credits : Sound.creditsAddUp (s .config) (s .inputs) (s .wire) (s .home) ≡ true
+    unfolding Sound.creditsAddUp
+    credits = all-at creditsTest (λ i v h g. three i v h g .0)
+
+    queues : Sound.queuesLegal (s .config) (s .inputs) (s .store) ≡ true
+    unfolding Sound.queuesLegal
+    queues = all-at queueTest (λ i v h g. three i v h g .1)
+
+    packets : Sound.packetsRead (s .config) (s .inputs) (s .store) (s .wire) ≡ true
+    unfolding Sound.packetsRead
+    packets = all-at packetTest (λ i v h g. three i v h g .2)
+
+    -- the three tests of the names
+    abbrev outputTest : ℕ → ℕ → Bool
+    outputTest o w = leb (outputAt (s .config) (s .outputs) o w .credit) (s .config .downstream)
+
+    abbrev inputNameTest : ℕ → ℕ → Bool
+    inputNameTest i v = Sound.inputNamed (s .config) (s .outputs) i v (inputAt (s .config) (s .inputs) i v .binding)
+
+    abbrev outputNameTest : ℕ → ℕ → Bool
+    outputNameTest o w = Sound.outputNamed (s .config) (s .inputs) o w (outputAt (s .config) (s .outputs) o w .holder)
+
+    three-names : (i v : ℕ) → i < s .config .ports → v < s .config .vcs
+        → (outputTest i v ≡ true) × (inputNameTest i v ≡ true) × (outputNameTest i v ≡ true)
+    unfolding namesSound
+    three-names i v h g =
+        let p = both (outputTest i v) (inputNameTest i v && outputNameTest i v) (names-at i v h g) in
+        let q = both (inputNameTest i v) (outputNameTest i v) (p .1) in
+        (p .0, q .0, q .1)
+
+    outputs : Sound.outputCreditsFit (s .config) (s .outputs) ≡ true
+    unfolding Sound.outputCreditsFit
+    outputs = all-at outputTest (λ o w h g. three-names o w h g .0)
+
+    names : Sound.namesAgree (s .config) (s .inputs) (s .outputs) ≡ true
+    unfolding Sound.namesAgree
+    names = ap₂ _&&_ (all-at inputNameTest (λ i v h g. three-names i v h g .1)) (all-at outputNameTest (λ o w h g. three-names o w h g .2))
+
+  -- a line's two clauses
+  pub sound-wire : Sound.Sound s → (Sound.wireLegal (s .config) (s .wire) && Sound.lineUnused (s .config .forward) (s .config .ports) (s .wire)) ≡ true
+  sound-wire x = ap₂ _&&_ (x .wire) (x .wireRest)
+
+  pub sound-home : Sound.Sound s → (Sound.homeLegal (s .config) (s .home) && Sound.lineUnused (s .config .back) (s .config .ports) (s .home)) ≡ true
+  sound-home x = ap₂ _&&_ (x .home) (x .homeRest)
+
+  -- all tests together
+  pub all-sound : illegalField (s .config) ≡ none → s .cycle ≤ cycleLimit
+      → (Sound.wireLegal (s .config) (s .wire) && Sound.lineUnused (s .config .forward) (s .config .ports) (s .wire)) ≡ true
+      → (Sound.homeLegal (s .config) (s .home) && Sound.lineUnused (s .config .back) (s .config .ports) (s .home)) ≡ true
+      → Sound.arbitersSound (s .config) (s .arbiters) ≡ true
+      → Sound.arbitersUnused (s .config) (s .arbiters) ≡ true
+      → Sound.channelsUnused (s .config) (s .inputs) (s .outputs) ≡ true
+      → Sound.slotsEmpty (s .inputs) (s .store) ≡ true
+      → Sound.shaped s ≡ true
+      → everyChannel (s .config) channelTest ≡ true
+      → Sound.Sound s
+  unfolding Sound.configurationLegal isNone Sound.cyclesFit
+  all-sound legal late wire home arbiters others channels slots shape e =
+      let w = both (Sound.wireLegal (s .config) (s .wire)) (Sound.lineUnused (s .config .forward) (s .config .ports) (s .wire)) wire in
+      let h = both (Sound.homeLegal (s .config) (s .home)) (Sound.lineUnused (s .config .back) (s .config .ports) (s .home)) home in
+      record {
+        configuration = ap isNone legal;
+        cycles = le-leb (s .cycle) cycleLimit late;
+        credits = credits e;
+        wire = w .0;
+        home = h .0;
+        queues = queues e;
+        outputCredits = outputs e;
+        names = names e;
+        arbiters = arbiters;
+        packets = packets e;
+        channels = channels;
+        slots = slots;
+        wireRest = w .1;
+        homeRest = h .1;
+        others = others;
+        shape = shape;
+      }
+
+  -- the last test decides
+  pub exact : (last : Bool) → last ≡ everyChannel (s .config) channelTest → (everyChannel (s .config) channelTest ≡ true → Sound.Sound s) → Exact s last
+  exact last e f = (λ p. f (sym e ∙ p), λ x. e ∙ sound-channels x)
+
+-- the arrays of a struct are as long as they are declared
+pub shape-is : (s : Router) → length (s .inputs) ≡ 32 → length (s .outputs) ≡ 32 → length (s .store) ≡ 512 → length (s .wire) ≡ 64
+    → length (s .home) ≡ 64 → Sound.shaped s ≡ true
+unfolding Sound.shaped
+shape-is s a b d e f =
+    ap₂ _&&_ (ap₂ _&&_ (ap₂ _&&_ (ap₂ _&&_ (eq-eqb (length (s .inputs)) 32 a) (eq-eqb (length (s .outputs)) 32 b)) (eq-eqb (length (s .store)) 512 d)) (eq-eqb (length (s .wire)) 64 e)) (eq-eqb (length (s .home)) 64 f)
+
+-- a list is as long as what is made of it
+pub length-any : {A B : Type 0} (f : A → B) (l : List A) {n : ℕ} → length (map f l) ≡ n → length l ≡ n
+length-any f l e = sym (length-map l f) ∙ e
