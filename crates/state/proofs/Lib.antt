@@ -8,4 +8,5 @@ pub mod Naming
 pub mod Pairs
 pub mod Places
 pub mod Reading
+pub mod SoundTable
 pub mod Tests
