@@ -138,5 +138,6 @@ behind-queue base queued store =
 pub behind-zero : (base queued : ℕ) (store : List ℕ) (k : ℕ) → getD store (base + k) 0 ≡ 0 → emptyBehind base queued store k ≡ true
 behind-zero base queued store k e = ap (λ b. ltb k queued || b) (eq-eqb (getD store (base + k) 0) 0 e) ∙ or-true (ltb k queued)
 
-pub behind-some : (base queued : ℕ) (store : List ℕ) (k : ℕ) → queued ≤ k → (getD store (base + k) 0 ≡ 0 → ⊥) → emptyBehind base queued store k ≡ false
+pub behind-some : (base queued : ℕ) (store : List ℕ) (k : ℕ) → queued ≤ k → (getD store
+    (base + k) 0 ≡ 0 → ⊥) → emptyBehind base queued store k ≡ false
 behind-some base queued store k h n = ap₂ _||_ (le-ltb k queued h) (ne-eqb (getD store (base + k) 0) 0 n)

@@ -49,12 +49,15 @@ module _ (s : Router) where
   at test e i v h g = every-at (s .config .vcs) (test i) (every-at (s .config .ports) (λ (i : ℕ). every (s .config .vcs) (test i)) e i h) v g
 
   all-at : (test : ℕ → ℕ → Bool) → ((i v : ℕ) → i < s .config .ports → v < s .config .vcs → test i v ≡ true) → everyChannel (s .config) test ≡ true
-  all-at test f = all-every (s .config .ports) (λ (i : ℕ). every (s .config .vcs) (test i)) (λ i h. all-every (s .config .vcs) (test i) (λ v g. f i v h g))
+  all-at test f = all-every (s .config .ports) (λ (i : ℕ). every (s .config .vcs) (test i)) (λ i h. all-every (s .config .vcs) (test i)
+      (λ v g. f i v h g))
 
   pub sound-channels : Sound.Sound s → everyChannel (s .config) channelTest ≡ true
   unfolding channelSound namesSound inputSound Sound.creditsAddUp Sound.queuesLegal Sound.outputCreditsFit Sound.namesAgree Sound.packetsRead
   sound-channels x =
-      let n = both (everyChannel (s .config) (λ i v. Sound.inputNamed (s .config) (s .outputs) i v (inputAt (s .config) (s .inputs) i v .binding))) (everyChannel (s .config) (λ o w. Sound.outputNamed (s .config) (s .inputs) o w (outputAt (s .config) (s .outputs) o w .holder))) (x .names) in
+      let n = both (everyChannel (s .config) (λ i v. Sound.inputNamed (s .config) (s .outputs) i v (inputAt (s .config) (s .inputs) i v .binding)))
+      (everyChannel (s .config) (λ o w. Sound.outputNamed (s .config) (s .inputs) o w (outputAt (s .config) (s .outputs) o w .holder)))
+      (x .names) in
       all-at channelTest (λ i v h g.
       ap₂ _&&_ (ap₂ _&&_ (at _ (x .outputCredits) i v h g) (ap₂ _&&_ (at _ (n .0) i v h g) (at _ (n .1) i v h g)))
       (ap₂ _&&_ (at _ (x .credits) i v h g) (ap₂ _&&_ (at _ (x .queues) i v h g) (at _ (x .packets) i v h g))))
@@ -62,12 +65,14 @@ module _ (s : Router) where
   module _ (e : everyChannel (s .config) channelTest ≡ true) where
     names-at : (i v : ℕ) → i < s .config .ports → v < s .config .vcs → namesSound (s .config) (s .inputs) (s .outputs) i v ≡ true
     unfolding channelSound
-    names-at i v h g = both (namesSound (s .config) (s .inputs) (s .outputs) i v) (inputSound (s .config) (s .store) (s .wire) (s .home) i v (inputAt (s .config) (s .inputs) i v)) (at channelTest e i v h g) .0
+    names-at i v h g = both (namesSound (s .config) (s .inputs) (s .outputs) i v) (inputSound (s .config) (s .store) (s .wire) (s .home) i v
+        (inputAt (s .config) (s .inputs) i v)) (at channelTest e i v h g) .0
 
     input-at : (i v : ℕ) → i < s .config .ports → v < s .config .vcs
         → inputSound (s .config) (s .store) (s .wire) (s .home) i v (inputAt (s .config) (s .inputs) i v) ≡ true
     unfolding channelSound
-    input-at i v h g = both (namesSound (s .config) (s .inputs) (s .outputs) i v) (inputSound (s .config) (s .store) (s .wire) (s .home) i v (inputAt (s .config) (s .inputs) i v)) (at channelTest e i v h g) .1
+    input-at i v h g = both (namesSound (s .config) (s .inputs) (s .outputs) i v) (inputSound (s .config) (s .store) (s .wire) (s .home) i v
+        (inputAt (s .config) (s .inputs) i v)) (at channelTest e i v h g) .1
 
     -- the three tests of an input VC
     abbrev creditsTest : ℕ → ℕ → Bool
@@ -127,7 +132,8 @@ module _ (s : Router) where
     names = ap₂ _&&_ (all-at inputNameTest (λ i v h g. three-names i v h g .1)) (all-at outputNameTest (λ o w h g. three-names o w h g .2))
 
   -- a line's two clauses
-  pub sound-wire : Sound.Sound s → (Sound.wireLegal (s .config) (s .wire) && Sound.lineUnused (s .config .forward) (s .config .ports) (s .wire)) ≡ true
+  pub sound-wire : Sound.Sound s → (Sound.wireLegal (s .config) (s .wire) && Sound.lineUnused (s .config .forward) (s .config .ports)
+      (s .wire)) ≡ true
   sound-wire x = ap₂ _&&_ (x .wire) (x .wireRest)
 
   pub sound-home : Sound.Sound s → (Sound.homeLegal (s .config) (s .home) && Sound.lineUnused (s .config .back) (s .config .ports) (s .home)) ≡ true
@@ -168,7 +174,8 @@ module _ (s : Router) where
       }
 
   -- the last test decides
-  pub exact : (last : Bool) → last ≡ everyChannel (s .config) channelTest → (everyChannel (s .config) channelTest ≡ true → Sound.Sound s) → Exact s last
+  pub exact : (last : Bool) → last ≡ everyChannel (s .config) channelTest → (everyChannel
+      (s .config) channelTest ≡ true → Sound.Sound s) → Exact s last
   exact last e f = (λ p. f (sym e ∙ p), λ x. e ∙ sound-channels x)
 
 -- the arrays of a struct are as long as they are declared
@@ -176,7 +183,8 @@ pub shape-is : (s : Router) → length (s .inputs) ≡ 32 → length (s .outputs
     → length (s .home) ≡ 64 → Sound.shaped s ≡ true
 unfolding Sound.shaped
 shape-is s a b d e f =
-    ap₂ _&&_ (ap₂ _&&_ (ap₂ _&&_ (ap₂ _&&_ (eq-eqb (length (s .inputs)) 32 a) (eq-eqb (length (s .outputs)) 32 b)) (eq-eqb (length (s .store)) 512 d)) (eq-eqb (length (s .wire)) 64 e)) (eq-eqb (length (s .home)) 64 f)
+    ap₂ _&&_ (ap₂ _&&_ (ap₂ _&&_ (ap₂ _&&_ (eq-eqb (length (s .inputs)) 32 a) (eq-eqb (length (s .outputs)) 32 b)) (eq-eqb (length
+    (s .store)) 512 d)) (eq-eqb (length (s .wire)) 64 e)) (eq-eqb (length (s .home)) 64 f)
 
 -- a list is as long as what is made of it
 pub length-any : {A B : Type 0} (f : A → B) (l : List A) {n : ℕ} → length (map f l) ≡ n → length l ≡ n

@@ -91,7 +91,8 @@ module _ (c : Config) (legal : Legal c) where
 
   output-is : (o w : ℕ) → o < c .ports → w < c .vcs → outputAt c (freshRouter c .outputs) o w ≡ freshOutput (c .downstream)
   unfolding freshRouter
-  output-is o w h g = filled-below (c .ports * c .vcs) 32 (freshOutput (c .downstream)) (freshOutput 0) (freshOutput 0) (o * c .vcs + w) (digits-lt h g)
+  output-is o w h g = filled-below (c .ports * c .vcs) 32 (freshOutput (c .downstream)) (freshOutput 0) (freshOutput 0) (o * c .vcs + w)
+      (digits-lt h g)
 
   -- nothing is on the wire or on its way home
   wire-is : (k i : ℕ) → wirePlace (freshRouter c .wire) k i ≡ 0
@@ -129,7 +130,8 @@ module _ (c : Config) (legal : Legal c) where
   unfolding Sound.creditsAddUp Sound.creditsWhole freshRouter
   credits =
       channels-pass _ (λ i v h g.
-      sum-is (inputAt c (freshRouter c .inputs) i v .credit) (length (flat (wireOf c (freshRouter c .wire) i v))) (inputAt c (freshRouter c .inputs) i v .queued)
+      sum-is (inputAt c (freshRouter c .inputs) i v .credit) (length (flat (wireOf c (freshRouter c .wire) i v))) (inputAt c
+      (freshRouter c .inputs) i v .queued)
       (total (homeOf c (freshRouter c .home) i v)) (c .depth)
       (ap (λ x. x .credit) (input-is i v h g)) (ap length (no-wire i v)) (ap (λ x. x .queued) (input-is i v h g)) (no-home i v))
     where
@@ -140,11 +142,13 @@ module _ (c : Config) (legal : Legal c) where
   unfolding Sound.wireLegal Sound.wirePlaceLegal freshRouter
   wire =
       all-every (c .forward) _ (λ k h.
-      all-every (c .ports) _ (λ i g. ap (λ b. b || (Sound.legalFlit c (wireFlit (wirePlace (freshRouter c .wire) k i)) && ltb (wireVc (wirePlace (freshRouter c .wire) k i)) (c .vcs))) (eq-eqb (wirePlace (freshRouter c .wire) k i) 0 (wire-is k i))))
+      all-every (c .ports) _ (λ i g. ap (λ b. b || (Sound.legalFlit c (wireFlit (wirePlace (freshRouter c .wire) k i)) && ltb (wireVc (wirePlace
+      (freshRouter c .wire) k i)) (c .vcs))) (eq-eqb (wirePlace (freshRouter c .wire) k i) 0 (wire-is k i))))
 
   home : Sound.homeLegal (freshRouter c .config) (freshRouter c .home) ≡ true
   unfolding Sound.homeLegal freshRouter
-  home = all-every (c .back) _ (λ k h. all-every (c .ports) _ (λ i g. le-leb (homePlace (freshRouter c .home) k i) (c .vcs) (subst (λ x. x ≤ c .vcs) (sym (home-is k i)) zero-le)))
+  home = all-every (c .back) _ (λ k h. all-every (c .ports) _ (λ i g. le-leb (homePlace (freshRouter c .home) k i) (c .vcs) (subst (λ x. x ≤ c .vcs)
+      (sym (home-is k i)) zero-le)))
 
   no-queue : (i v : ℕ) → i < c .ports → v < c .vcs → queueOf c (freshRouter c .store) i v (inputAt c (freshRouter c .inputs) i v .queued) ≡ []
   unfolding queueAt
@@ -159,7 +163,8 @@ module _ (c : Config) (legal : Legal c) where
   unfolding Sound.outputCreditsFit freshRouter
   output-credits =
       channels-pass _ (λ o w h g.
-      le-leb (outputAt c (freshRouter c .outputs) o w .credit) (c .downstream) (subst (λ x. x .credit ≤ c .downstream) (sym (output-is o w h g)) (le-refl (c .downstream))))
+      le-leb (outputAt c (freshRouter c .outputs) o w .credit) (c .downstream) (subst (λ x. x .credit ≤ c .downstream) (sym (output-is o w h g))
+      (le-refl (c .downstream))))
 
   names : Sound.namesAgree (freshRouter c .config) (freshRouter c .inputs) (freshRouter c .outputs) ≡ true
   unfolding Sound.namesAgree freshRouter
@@ -193,15 +198,19 @@ module _ (c : Config) (legal : Legal c) where
       all-every (c .ports) _ (λ i h.
       ap₂ _&&_
       (ap₂ _&&_
-      (ap (λ a. arbiter.sound 32 (c .arbiter) (c .ports * c .vcs) (ofWide a)) (filled-below (c .ports) 8 _ zeroWide pastWide i h) ∙ arbiter-sound 32 (c .ports * c .vcs) some-channels channels)
-      (ap (λ a. arbiter.sound 8 (c .arbiter) (c .vcs) (ofNarrow a)) (filled-below (c .ports) 8 _ zeroNarrow pastNarrow i h) ∙ arbiter-sound 8 (c .vcs) (legal .vcs .0) (let l = legal .vcs .1 in omega arith)))
-      (ap (λ a. arbiter.sound 8 (c .arbiter) (c .ports) (ofNarrow a)) (filled-below (c .ports) 8 _ zeroNarrow pastNarrow i h) ∙ arbiter-sound 8 (c .ports) (legal .ports .0) (legal .ports .1)))
+      (ap (λ a. arbiter.sound 32 (c .arbiter) (c .ports * c .vcs) (ofWide a)) (filled-below (c .ports) 8 _ zeroWide pastWide i h) ∙ arbiter-sound 32
+      (c .ports * c .vcs) some-channels channels)
+      (ap (λ a. arbiter.sound 8 (c .arbiter) (c .vcs) (ofNarrow a)) (filled-below (c .ports) 8 _ zeroNarrow pastNarrow i h) ∙ arbiter-sound 8
+      (c .vcs) (legal .vcs .0) (let l = legal .vcs .1 in omega arith)))
+      (ap (λ a. arbiter.sound 8 (c .arbiter) (c .ports) (ofNarrow a)) (filled-below (c .ports) 8 _ zeroNarrow pastNarrow i h) ∙ arbiter-sound 8
+      (c .ports) (legal .ports .0) (legal .ports .1)))
 
   packets : Sound.packetsRead (freshRouter c .config) (freshRouter c .inputs) (freshRouter c .store) (freshRouter c .wire) ≡ true
   unfolding Sound.packetsRead Sound.reads Sound.reading freshRouter
   packets =
       channels-pass _ (λ i v h g.
-      ap₂ (λ x q. Sound.endsAs (x .inside) (Sound.reading (Sound.startsInside q (x .binding)) (q ++ flat (wireOf c (freshRouter c .wire) i v)))) (input-is i v h g) (no-queue i v h g)
+      ap₂ (λ x q. Sound.endsAs (x .inside) (Sound.reading (Sound.startsInside q (x .binding)) (q ++ flat (wireOf c (freshRouter c .wire) i v))))
+      (input-is i v h g) (no-queue i v h g)
       ∙ ap (λ w. Sound.endsAs false (Sound.reading false w)) (no-wire i v))
 
   channels-unused : Sound.channelsUnused (freshRouter c .config) (freshRouter c .inputs) (freshRouter c .outputs) ≡ true
@@ -209,7 +218,8 @@ module _ (c : Config) (legal : Legal c) where
   channels-unused = all-every 32 _ (λ x h. go x (ltb x (c .ports * c .vcs)) refl)
     where
       go : (x : ℕ) (b : Bool) → ltb x (c .ports * c .vcs) ≡ b
-          → (b || (Sound.inputUnused (getD (freshRouter c .inputs) x (freshInput 0)) && Sound.outputUnused (getD (freshRouter c .outputs) x (freshOutput 0)))) ≡ true
+          → (b || (Sound.inputUnused (getD (freshRouter c .inputs) x (freshInput 0)) && Sound.outputUnused (getD (freshRouter c .outputs) x
+          (freshOutput 0)))) ≡ true
       go x true e = refl
       go x false e =
           let l = ltb-false x (c .ports * c .vcs) e in
@@ -221,7 +231,8 @@ module _ (c : Config) (legal : Legal c) where
   slots =
       all-every 32 _ (λ x h.
       all-every 16 _ (λ k g.
-      ap (λ b. ltb k (getD (freshRouter c .inputs) x (freshInput 0) .queued) || b) (eq-eqb (getD (replicate 512 0) (16 * x + k) 0) 0 (same-at 512 0 (16 * x + k)))
+      ap (λ b. ltb k (getD (freshRouter c .inputs) x (freshInput 0) .queued) || b) (eq-eqb (getD (replicate 512 0) (16 * x + k) 0) 0 (same-at 512 0
+      (16 * x + k)))
       ∙ or-true (ltb k (getD (freshRouter c .inputs) x (freshInput 0) .queued))))
 
   rest : (delay : ℕ) → Sound.lineUnused delay (c .ports) (replicate 64 0) ≡ true
@@ -245,7 +256,8 @@ module _ (c : Config) (legal : Legal c) where
   others = all-every 8 _ (λ i h. go i h (ltb i (c .ports)) refl)
     where
       go : (i : ℕ) → i < 8 → (b : Bool) → ltb i (c .ports) ≡ b
-          → (b || (Sound.arbiterUnused 32 (ofWide (vcArbiter (freshRouter c .arbiters) i)) && Sound.arbiterUnused 8 (ofNarrow (inputArbiter (freshRouter c .arbiters) i))
+          → (b || (Sound.arbiterUnused 32 (ofWide (vcArbiter (freshRouter c .arbiters) i)) && Sound.arbiterUnused 8 (ofNarrow (inputArbiter
+          (freshRouter c .arbiters) i))
           && Sound.arbiterUnused 8 (ofNarrow (outputArbiter (freshRouter c .arbiters) i)))) ≡ true
       go i h true e = refl
       go i h false e =

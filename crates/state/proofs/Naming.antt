@@ -56,24 +56,36 @@ named-there o p w v t g h = sym (ap₂ (λ a b. a && b && t) (lt-ltb o p g) (lt-
 
 pub input-beyond-port : (c : Config) (outputs : List OutputVc) (i v : ℕ) (b : Binding) (to : OutVc) → b ≡ Bound to → c .ports ≤ to .output
     → false ≡ inputNamed c outputs i v b
-input-beyond-port c outputs i v b to e h = beyond-port (to .output) (c .ports) (to .vc) (c .vcs) (holderIs i v (outputAt c outputs (to .output) (to .vc) .holder)) h ∙ sym (ap (inputNamed c outputs i v) e)
+input-beyond-port c outputs i v b to e h =
+    beyond-port (to .output) (c .ports) (to .vc) (c .vcs) (holderIs i v (outputAt c outputs (to .output) (to .vc) .holder)) h ∙ sym (ap
+    (inputNamed c outputs i v) e)
 
 pub input-beyond-vc : (c : Config) (outputs : List OutputVc) (i v : ℕ) (b : Binding) (to : OutVc) → b ≡ Bound to → to .output < c .ports
     → c .vcs ≤ to .vc → false ≡ inputNamed c outputs i v b
-input-beyond-vc c outputs i v b to e g h = beyond-vc (to .output) (c .ports) (to .vc) (c .vcs) (holderIs i v (outputAt c outputs (to .output) (to .vc) .holder)) g h ∙ sym (ap (inputNamed c outputs i v) e)
+input-beyond-vc c outputs i v b to e g h =
+    beyond-vc (to .output) (c .ports) (to .vc) (c .vcs) (holderIs i v (outputAt c outputs (to .output) (to .vc) .holder)) g h ∙ sym (ap
+    (inputNamed c outputs i v) e)
 
 pub input-there : (c : Config) (outputs : List OutputVc) (i v : ℕ) (b : Binding) (to : OutVc) → b ≡ Bound to → to .output < c .ports
     → to .vc < c .vcs → holderIs i v (outputAt c outputs (to .output) (to .vc) .holder) ≡ inputNamed c outputs i v b
-input-there c outputs i v b to e g h = named-there (to .output) (c .ports) (to .vc) (c .vcs) (holderIs i v (outputAt c outputs (to .output) (to .vc) .holder)) g h ∙ sym (ap (inputNamed c outputs i v) e)
+input-there c outputs i v b to e g h =
+    named-there (to .output) (c .ports) (to .vc) (c .vcs) (holderIs i v (outputAt c outputs (to .output) (to .vc) .holder)) g h ∙ sym (ap
+    (inputNamed c outputs i v) e)
 
 pub output-beyond-port : (c : Config) (inputs : List InputVc) (o w : ℕ) (h : Holder) (by : InVc) → h ≡ Held by → c .ports ≤ by .input
     → false ≡ outputNamed c inputs o w h
-output-beyond-port c inputs o w h by e l = beyond-port (by .input) (c .ports) (by .vc) (c .vcs) (bindingIs o w (inputAt c inputs (by .input) (by .vc) .binding)) l ∙ sym (ap (outputNamed c inputs o w) e)
+output-beyond-port c inputs o w h by e l =
+    beyond-port (by .input) (c .ports) (by .vc) (c .vcs) (bindingIs o w (inputAt c inputs (by .input) (by .vc) .binding)) l ∙ sym (ap
+    (outputNamed c inputs o w) e)
 
 pub output-beyond-vc : (c : Config) (inputs : List InputVc) (o w : ℕ) (h : Holder) (by : InVc) → h ≡ Held by → by .input < c .ports
     → c .vcs ≤ by .vc → false ≡ outputNamed c inputs o w h
-output-beyond-vc c inputs o w h by e g l = beyond-vc (by .input) (c .ports) (by .vc) (c .vcs) (bindingIs o w (inputAt c inputs (by .input) (by .vc) .binding)) g l ∙ sym (ap (outputNamed c inputs o w) e)
+output-beyond-vc c inputs o w h by e g l =
+    beyond-vc (by .input) (c .ports) (by .vc) (c .vcs) (bindingIs o w (inputAt c inputs (by .input) (by .vc) .binding)) g l ∙ sym (ap
+    (outputNamed c inputs o w) e)
 
 pub output-there : (c : Config) (inputs : List InputVc) (o w : ℕ) (h : Holder) (by : InVc) → h ≡ Held by → by .input < c .ports
     → by .vc < c .vcs → bindingIs o w (inputAt c inputs (by .input) (by .vc) .binding) ≡ outputNamed c inputs o w h
-output-there c inputs o w h by e g l = named-there (by .input) (c .ports) (by .vc) (c .vcs) (bindingIs o w (inputAt c inputs (by .input) (by .vc) .binding)) g l ∙ sym (ap (outputNamed c inputs o w) e)
+output-there c inputs o w h by e g l =
+    named-there (by .input) (c .ports) (by .vc) (c .vcs) (bindingIs o w (inputAt c inputs (by .input) (by .vc) .binding)) g l ∙ sym (ap
+    (outputNamed c inputs o w) e)

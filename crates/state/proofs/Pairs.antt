@@ -59,11 +59,13 @@ legal-pair c f h g =
     let pair = f .word / 4294967296 in
     let low : pair < 64 = omega arith in
     let kind : pair / 8 ≡ f .word / 34359738368 % 8 = omega arith in
-    let right : eqb (pairs (2 ^ c .ports) / 2 ^ pair % 2) 1 ≡ parts c (pair / 8) (pair % 8) = same _ _ (every-at 64 _ (every-at 9 _ pairs-right (c .ports) (omega arith)) pair low) in
+    let right : eqb (pairs (2 ^ c .ports) / 2 ^ pair % 2) 1 ≡ parts c (pair / 8) (pair % 8) = same _ _ (every-at 64 _ (every-at 9 _ pairs-right
+    (c .ports) (omega arith)) pair low) in
     ap (λ u. eqb (pairs u / 2 ^ pair % 2) 1) (shifted-is (c .ports) h) ∙ right ∙ ap (λ k. parts c k (pair % 8)) kind
     ∙ short (parts c (f .word / 34359738368 % 8) (pair % 8)) (f .word) g
 
 pub legal-long : (c : Config) (f : Flit) → 274877906944 ≤ f .word → false ≡ legalFlit c f
 unfolding legalFlit
 legal-long c f h =
-    sym (and-false (parts c (kindOf f) (destinationOf f))) ∙ ap (λ b. parts c (kindOf f) (destinationOf f) && b) (sym (le-ltb (f .word) 274877906944 h))
+    sym (and-false (parts c (kindOf f) (destinationOf f))) ∙ ap (λ b. parts c (kindOf f) (destinationOf f) && b) (sym (le-ltb
+    (f .word) 274877906944 h))

@@ -94,7 +94,8 @@ wire-few c wire i v = few (c .forward)
         let o = one-flit v (wirePlace wire n i) in
         let e : length (flat (places (suc n) (λ (k : ℕ). onVc v (wirePlace wire k i))))
         ≡ length (flat (places n (λ (k : ℕ). onVc v (wirePlace wire k i)))) + length (onVc v (wirePlace wire n i))
-        = ap (λ m. length (flat (places m (λ (k : ℕ). onVc v (wirePlace wire k i))))) (sym (add-one n)) ∙ flits-more n (λ (k : ℕ). onVc v (wirePlace wire k i)) in
+        = ap (λ m. length (flat (places m (λ (k : ℕ). onVc v (wirePlace wire k i))))) (sym (add-one n)) ∙ flits-more n (λ (k : ℕ). onVc v
+        (wirePlace wire k i)) in
         omega arith
 
 pub home-few : (c : Config) (home : List ℕ) (i v : ℕ) → total (homeOf c home i v) ≤ c .back
@@ -108,7 +109,8 @@ home-few c home i v = few (c .back)
         let o = one-credit v (homePlace home n i) in
         let e : total (places (suc n) (λ (k : ℕ). toVc v (homePlace home k i)))
         ≡ total (places n (λ (k : ℕ). toVc v (homePlace home k i))) + toVc v (homePlace home n i)
-        = ap (λ m. total (places m (λ (k : ℕ). toVc v (homePlace home k i)))) (sym (add-one n)) ∙ credits-more n (λ (k : ℕ). toVc v (homePlace home k i)) in
+        = ap (λ m. total (places m (λ (k : ℕ). toVc v (homePlace home k i)))) (sym (add-one n)) ∙ credits-more n (λ (k : ℕ). toVc v
+        (homePlace home k i)) in
         omega arith
 
 -- a place in use passes its test, any other is zero
@@ -142,7 +144,8 @@ line-is delay ports legal line hd hp = same-test _ _ there back
     at e k i h g =
         let q : (8 * k + i) / 8 ≡ k = omega arith in
         let r : (8 * k + i) % 8 ≡ i = omega arith in
-        sym (ap₂ (λ a b. placeSound delay ports legal a b (getD line (8 * k + i) 0)) q r) ∙ every-at 64 (lineSound delay ports legal line) e (8 * k + i) (omega arith)
+        sym (ap₂ (λ a b. placeSound delay ports legal a b (getD line (8 * k + i) 0)) q r) ∙ every-at 64 (lineSound delay ports legal line) e
+        (8 * k + i) (omega arith)
 
     rest : (b : Bool) (x : ℕ) → cond b (legal x) (eqb x 0) ≡ true → (b || eqb x 0) ≡ true
     rest true x e = refl
@@ -153,14 +156,16 @@ line-is delay ports legal line hd hp = same-test _ _ there back
         && every 8 (λ (k : ℕ). every 8 (λ (i : ℕ). ltb k delay && ltb i ports || eqb (getD line (8 * k + i) 0) 0))) ≡ true
     there e =
         ap₂ _&&_
-        (all-every delay _ (λ k h. all-every ports _ (λ i g. place-used delay ports legal k i (getD line (8 * k + i) 0) h g ∙ at e k i (omega arith) (omega arith))))
+        (all-every delay _ (λ k h. all-every ports _ (λ i g. place-used delay ports legal k i (getD line (8 * k + i) 0) h g ∙ at e k i (omega arith)
+        (omega arith))))
         (all-every 8 _ (λ k h. all-every 8 _ (λ i g. rest (ltb k delay && ltb i ports) (getD line (8 * k + i) 0) (at e k i h g))))
 
     back : (every delay (λ (k : ℕ). every ports (λ (i : ℕ). legal (getD line (8 * k + i) 0)))
         && every 8 (λ (k : ℕ). every 8 (λ (i : ℕ). ltb k delay && ltb i ports || eqb (getD line (8 * k + i) 0) 0))) ≡ true
         → every 64 (lineSound delay ports legal line) ≡ true
     back e =
-        let p = both (every delay (λ (k : ℕ). every ports (λ (i : ℕ). legal (getD line (8 * k + i) 0)))) (every 8 (λ (k : ℕ). every 8 (λ (i : ℕ). ltb k delay && ltb i ports || eqb (getD line (8 * k + i) 0) 0))) e in
+        let p = both (every delay (λ (k : ℕ). every ports (λ (i : ℕ). legal (getD line (8 * k + i) 0)))) (every 8 (λ (k : ℕ). every 8 (λ
+        (i : ℕ). ltb k delay && ltb i ports || eqb (getD line (8 * k + i) 0) 0))) e in
         all-every 64 (lineSound delay ports legal line) (λ m h.
         let whole : 8 * (m / 8) + m % 8 ≡ m = omega arith in
         ap (λ n. placeSound delay ports legal (m / 8) (m % 8) (getD line n 0)) (sym whole)
@@ -173,7 +178,8 @@ line-is delay ports legal line hd hp = same-test _ _ there back
             → (ltb k delay && ltb i ports || eqb (getD line (8 * k + i) 0) 0) ≡ true
             → placeSound delay ports legal k i (getD line (8 * k + i) 0) ≡ true
         joined k i true ea true eb used free =
-            ap₂ (λ a b. cond (a && b) (legal (getD line (8 * k + i) 0)) (eqb (getD line (8 * k + i) 0) 0)) ea eb ∙ used (ltb-true k delay ea) (ltb-true i ports eb)
+            ap₂ (λ a b. cond (a && b) (legal (getD line (8 * k + i) 0)) (eqb (getD line (8 * k + i) 0) 0)) ea eb ∙ used (ltb-true k delay ea)
+            (ltb-true i ports eb)
         joined k i true ea false eb used free =
             ap₂ (λ a b. cond (a && b) (legal (getD line (8 * k + i) 0)) (eqb (getD line (8 * k + i) 0) 0)) ea eb
             ∙ sym (ap₂ (λ a b. a && b || eqb (getD line (8 * k + i) 0) 0) ea eb) ∙ free
@@ -189,9 +195,11 @@ wire-empty c place e = sym (ap (λ b. b || (legalFlit c (wireFlit place) && ltb 
 pub wire-beyond : (c : Config) (place : ℕ) → (place ≡ 0 → ⊥) → c .vcs ≤ wireVc place → false ≡ wirePlaceLegal c place
 unfolding wirePlaceLegal
 wire-beyond c place n h =
-    sym (ap₂ (λ a b. a || (legalFlit c (wireFlit place) && b)) (ne-eqb place 0 n) (le-ltb (wireVc place) (c .vcs) h) ∙ and-false (legalFlit c (wireFlit place)))
+    sym (ap₂ (λ a b. a || (legalFlit c (wireFlit place) && b)) (ne-eqb place 0 n) (le-ltb (wireVc place) (c .vcs) h) ∙ and-false (legalFlit c
+    (wireFlit place)))
 
 pub wire-flit : (c : Config) (place : ℕ) → (place ≡ 0 → ⊥) → wireVc place < c .vcs → legalFlit c (wireFlit place) ≡ wirePlaceLegal c place
 unfolding wirePlaceLegal
 wire-flit c place n h =
-    sym (ap₂ (λ a b. a || (legalFlit c (wireFlit place) && b)) (ne-eqb place 0 n) (lt-ltb (wireVc place) (c .vcs) h) ∙ and-true (legalFlit c (wireFlit place)))
+    sym (ap₂ (λ a b. a || (legalFlit c (wireFlit place) && b)) (ne-eqb place 0 n) (lt-ltb (wireVc place) (c .vcs) h) ∙ and-true (legalFlit c
+    (wireFlit place)))

@@ -62,7 +62,8 @@ pub judging-all : (c : Config) (base queued : ℕ) (store : List ℕ) → queued
 judging-all c base queued store h = ap (all (legalFlit c)) (sym (left-all store base queued h))
 
 judged-next : (c : Config) (base queued : ℕ) (store : List ℕ) (k : ℕ) → k < queued → base + k < length store
-    → all (legalFlit c) (left store base queued k) ≡ (legalFlit c (slotFlit (getD store (base + k) 0)) && all (legalFlit c) (left store base queued (k + 1)))
+    → all (legalFlit c) (left store base queued k) ≡ (legalFlit c (slotFlit (getD store (base + k) 0)) && all (legalFlit c) (left store base queued
+    (k + 1)))
 unfolding all
 judged-next c base queued store k h g = ap (all (legalFlit c)) (left-next store base queued k h g)
 

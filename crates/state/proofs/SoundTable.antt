@@ -51,38 +51,128 @@ broken s = brokenFrom 0 (clauses s)
 
 -- setters, one part each
 withCycle : ℕ → Router → Router
-withCycle n s = record { config = s .config; cycle = n; inputs = s .inputs; outputs = s .outputs; store = s .store; wire = s .wire; home = s .home; arbiters = s .arbiters }
+withCycle n s =
+    record {
+      config = s .config;
+      cycle = n;
+      inputs = s .inputs;
+      outputs = s .outputs;
+      store = s .store;
+      wire = s .wire;
+      home = s .home;
+      arbiters = s
+          .arbiters;
+    }
 
 withInput : ℕ → InputVc → Router → Router
 withInput x input s =
-    record { config = s .config; cycle = s .cycle; inputs = set (s .inputs) x input; outputs = s .outputs; store = s .store; wire = s .wire; home = s .home; arbiters = s .arbiters }
+    record {
+      config = s .config;
+      cycle = s .cycle;
+      inputs = set (s .inputs) x input;
+      outputs = s .outputs;
+      store = s .store;
+      wire = s .wire;
+      home = s
+          .home;
+      arbiters = s .arbiters;
+    }
 
 withOutput : ℕ → OutputVc → Router → Router
 withOutput y output s =
-    record { config = s .config; cycle = s .cycle; inputs = s .inputs; outputs = set (s .outputs) y output; store = s .store; wire = s .wire; home = s .home; arbiters = s .arbiters }
+    record {
+      config = s .config;
+      cycle = s .cycle;
+      inputs = s .inputs;
+      outputs = set
+          (s .outputs) y output;
+      store = s .store;
+      wire = s .wire;
+      home = s .home;
+      arbiters = s .arbiters;
+    }
 
 withSlot : ℕ → ℕ → Router → Router
 withSlot k word s =
-    record { config = s .config; cycle = s .cycle; inputs = s .inputs; outputs = s .outputs; store = set (s .store) k word; wire = s .wire; home = s .home; arbiters = s .arbiters }
+    record {
+      config = s .config;
+      cycle = s .cycle;
+      inputs = s .inputs;
+      outputs = s .outputs;
+      store = set
+          (s .store) k word;
+      wire = s .wire;
+      home = s .home;
+      arbiters = s .arbiters;
+    }
 
 withWire : ℕ → ℕ → ℕ → Router → Router
 withWire k i place s =
-    record { config = s .config; cycle = s .cycle; inputs = s .inputs; outputs = s .outputs; store = s .store; wire = set (s .wire) (8 * k + i) place; home = s .home; arbiters = s .arbiters }
+    record {
+      config = s .config;
+      cycle = s .cycle;
+      inputs = s .inputs;
+      outputs = s .outputs;
+      store = s .store;
+      wire = set (s .wire)
+          (8 * k + i) place;
+      home = s .home;
+      arbiters = s .arbiters;
+    }
 
 withHome : ℕ → ℕ → ℕ → Router → Router
 withHome k i place s =
-    record { config = s .config; cycle = s .cycle; inputs = s .inputs; outputs = s .outputs; store = s .store; wire = s .wire; home = set (s .home) (8 * k + i) place; arbiters = s .arbiters }
+    record {
+      config = s .config;
+      cycle = s .cycle;
+      inputs = s .inputs;
+      outputs = s .outputs;
+      store = s .store;
+      wire = s .wire;
+      home = set (s .home)
+          (8 * k + i) place;
+      arbiters = s .arbiters;
+    }
 
 withVcArbiter : ℕ → Wide → Router → Router
 withVcArbiter o a s =
-    record { config = s .config; cycle = s .cycle; inputs = s .inputs; outputs = s .outputs; store = s .store; wire = s .wire; home = s .home; arbiters = record { vcs = set (s .arbiters .vcs) o a; inputs = s .arbiters .inputs; outputs = s .arbiters .outputs } }
+    record {
+      config = s .config;
+      cycle = s .cycle;
+      inputs = s .inputs;
+      outputs = s .outputs;
+      store = s .store;
+      wire = s .wire;
+      home = s .home;
+      arbiters = record { vcs = set (s .arbiters .vcs) o a; inputs = s .arbiters .inputs; outputs = s .arbiters .outputs };
+    }
 
 withOutputArbiter : ℕ → Narrow → Router → Router
 withOutputArbiter o a s =
-    record { config = s .config; cycle = s .cycle; inputs = s .inputs; outputs = s .outputs; store = s .store; wire = s .wire; home = s .home; arbiters = record { vcs = s .arbiters .vcs; inputs = s .arbiters .inputs; outputs = set (s .arbiters .outputs) o a } }
+    record {
+      config = s .config;
+      cycle = s .cycle;
+      inputs = s .inputs;
+      outputs = s .outputs;
+      store = s .store;
+      wire = s .wire;
+      home = s .home;
+      arbiters = record { vcs = s .arbiters .vcs; inputs = s .arbiters .inputs; outputs = set (s .arbiters .outputs) o a };
+    }
 
 withConfig : Config → Router → Router
-withConfig c s = record { config = c; cycle = s .cycle; inputs = s .inputs; outputs = s .outputs; store = s .store; wire = s .wire; home = s .home; arbiters = s .arbiters }
+withConfig c s =
+    record {
+      config = c;
+      cycle = s .cycle;
+      inputs = s .inputs;
+      outputs = s .outputs;
+      store = s .store;
+      wire = s .wire;
+      home = s .home;
+      arbiters = s
+          .arbiters;
+    }
 
 -- P = 2, V = 2, D = 3, E = 2, F = 2, B = 2, round robin and matrix
 config : ℕ → Config

@@ -16,21 +16,37 @@ is-sound-requires c κs = search needs
 
 returns : tie.Need-returns
 unfolding noArbiters
-returns c = three-first (arbiterUnused 32 (ofWide (c .before .before .args .vcs))) (arbiterUnused 8 (ofNarrow (c .before .before .args .input))) (arbiterUnused 8 (ofNarrow (c .before .before .args .output))) (sym (one-unused-wide (c .before .before .args .vcs)) ∙ (sym (c .before .is-sound .ensures) ∙ not-true (c .before .is-sound .result) (c .if1 .taken)))
+returns c =
+    three-first (arbiterUnused 32 (ofWide (c .before .before .args .vcs))) (arbiterUnused 8 (ofNarrow (c .before .before .args .input)))
+    (arbiterUnused 8 (ofNarrow (c .before .before .args .output))) (sym (one-unused-wide (c .before .before .args .vcs)) ∙ (sym
+    (c .before .is-sound .ensures) ∙ not-true (c .before .is-sound .result) (c .if1 .taken)))
 
 is-sound-requires-2 : tie.Need-is-sound-requires-2
 is-sound-requires-2 c κs = search needs
 
 returns-2 : tie.Need-returns-2
 unfolding noArbiters
-returns-2 c = three-second (arbiterUnused 32 (ofWide (c .before .before .before .before .args .vcs))) (arbiterUnused 8 (ofNarrow (c .before .before .before .before .args .input))) (arbiterUnused 8 (ofNarrow (c .before .before .before .before .args .output))) (sym (one-unused-wide (c .before .before .before .before .args .vcs)) ∙ (sym (c .before .before .before .is-sound .ensures) ∙ not-false (c .before .before .before .is-sound .result) (c .before .before .if1 .left))) (sym (one-unused-narrow (c .before .before .before .before .args .input)) ∙ (sym (c .before .is-sound2 .ensures) ∙ not-true (c .before .is-sound2 .result) (c .if2 .taken)))
+returns-2 c =
+    three-second (arbiterUnused 32 (ofWide (c .before .before .before .before .args .vcs))) (arbiterUnused 8 (ofNarrow
+    (c .before .before .before .before .args .input))) (arbiterUnused 8 (ofNarrow (c .before .before .before .before .args .output))) (sym
+    (one-unused-wide (c .before .before .before .before .args .vcs)) ∙ (sym (c .before .before .before .is-sound .ensures) ∙ not-false
+    (c .before .before .before .is-sound .result) (c .before .before .if1 .left))) (sym (one-unused-narrow
+    (c .before .before .before .before .args .input)) ∙ (sym (c .before .is-sound2 .ensures) ∙ not-true (c .before .is-sound2 .result)
+    (c .if2 .taken)))
 
 is-sound-requires-3 : tie.Need-is-sound-requires-3
 is-sound-requires-3 c κs = search needs
 
 returns-3 : tie.Need-returns-3
 unfolding noArbiters
-returns-3 c = c .is-sound3 .ensures ∙ one-unused-narrow (c .before .before .before .before .before .args .output) ∙ three-third (arbiterUnused 32 (ofWide (c .before .before .before .before .before .args .vcs))) (arbiterUnused 8 (ofNarrow (c .before .before .before .before .before .args .input))) (arbiterUnused 8 (ofNarrow (c .before .before .before .before .before .args .output))) (sym (one-unused-wide (c .before .before .before .before .before .args .vcs)) ∙ (sym (c .before .before .before .before .is-sound .ensures) ∙ not-false (c .before .before .before .before .is-sound .result) (c .before .before .before .if1 .left))) (sym (one-unused-narrow (c .before .before .before .before .before .args .input)) ∙ (sym (c .before .before .is-sound2 .ensures) ∙ not-false (c .before .before .is-sound2 .result) (c .before .if2 .left)))
+returns-3 c =
+    c .is-sound3 .ensures ∙ one-unused-narrow (c .before .before .before .before .before .args .output) ∙ three-third (arbiterUnused 32 (ofWide
+    (c .before .before .before .before .before .args .vcs))) (arbiterUnused 8 (ofNarrow (c .before .before .before .before .before .args .input)))
+    (arbiterUnused 8 (ofNarrow (c .before .before .before .before .before .args .output))) (sym (one-unused-wide
+    (c .before .before .before .before .before .args .vcs)) ∙ (sym (c .before .before .before .before .is-sound .ensures) ∙ not-false
+    (c .before .before .before .before .is-sound .result) (c .before .before .before .if1 .left))) (sym (one-unused-narrow
+    (c .before .before .before .before .before .args .input)) ∙ (sym (c .before .before .is-sound2 .ensures) ∙ not-false
+    (c .before .before .is-sound2 .result) (c .before .if2 .left)))
 
 pub are-none-spec : {M : Type 1} → statement M
 are-none-spec =

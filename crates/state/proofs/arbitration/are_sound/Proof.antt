@@ -16,7 +16,9 @@ use Rattle.state.proofs.arbitration.are_sound.Statement.{statement}
 use Rattle.state.proofs.arbitration.are_sound.Tie as tie
 
 abbrev Inv-loop : tie.InvT-loop
-Inv-loop config vcs inputs outputs end i₀ i = (i ≤ end) × (end ≤ 8) × (every i (λ (j : ℕ). portArbiters config (getD vcs j pastWide) (getD inputs j pastNarrow) (getD outputs j pastNarrow)) ≡ true)
+Inv-loop config vcs inputs outputs end i₀ i =
+    (i ≤ end) × (end ≤ 8) × (every i (λ (j : ℕ). portArbiters config (getD vcs j pastWide) (getD inputs j pastNarrow)
+    (getD outputs j pastNarrow)) ≡ true)
 
 abbrev μ-loop : tie.MeasureT-loop
 μ-loop config vcs inputs outputs end i₀ i = end - i
@@ -25,7 +27,12 @@ cast-end : tie.Need-cast-end Inv-loop μ-loop
 cast-end c = search needs
 
 loop-holds : tie.Need-loop-holds Inv-loop μ-loop
-loop-holds c = (search needs, c .before .pre .ports, every-none (λ (j : ℕ). portArbiters (c .before .args .config) (getD (c .before .args .t2) j pastWide) (getD (c .before .args .t3) j pastNarrow) (getD (c .before .args .t4) j pastNarrow)))
+loop-holds c = (
+  search needs,
+  c .before .pre .ports,
+  every-none (λ (j : ℕ). portArbiters (c .before .args .config) (getD (c .before .args .t2) j pastWide)
+      (getD (c .before .args .t3) j pastNarrow) (getD (c .before .args .t4) j pastNarrow)),
+)
 
 mul-wide : tie.Need-mul-wide Inv-loop μ-loop
 mul-wide c = search needs
@@ -50,7 +57,14 @@ are-sound-of-requires c κs = c .before .before .before .before .before .before 
 
 returns : tie.Need-returns Inv-loop μ-loop
 unfolding arbitersSound portArbiters
-returns c = every-fails (c .before .before .before .before .before .before .before .before .args .config .ports) (c .before .before .before .before .before .before .loop .i) (λ (j : ℕ). portArbiters (c .before .before .before .before .before .before .before .before .args .config) (getD (c .before .before .before .before .before .before .before .before .args .t2) j pastWide) (getD (c .before .before .before .before .before .before .before .before .args .t3) j pastNarrow) (getD (c .before .before .before .before .before .before .before .before .args .t4) j pastNarrow)) (search needs) (sym (c .before .are-sound-of .ensures) ∙ not-true (c .before .are-sound-of .result) (c .if1 .taken))
+returns c =
+    every-fails (c .before .before .before .before .before .before .before .before .args .config .ports)
+    (c .before .before .before .before .before .before .loop .i) (λ (j : ℕ). portArbiters
+    (c .before .before .before .before .before .before .before .before .args .config) (getD
+    (c .before .before .before .before .before .before .before .before .args .t2) j pastWide) (getD
+    (c .before .before .before .before .before .before .before .before .args .t3) j pastNarrow) (getD
+    (c .before .before .before .before .before .before .before .before .args .t4) j pastNarrow)) (search needs) (sym
+    (c .before .are-sound-of .ensures) ∙ not-true (c .before .are-sound-of .result) (c .if1 .taken))
 
 add-i : tie.Need-add-i Inv-loop μ-loop
 add-i c = search needs
@@ -59,11 +73,26 @@ loop-less : tie.Need-loop-less Inv-loop μ-loop
 loop-less c = search needs
 
 loop-again : tie.Need-loop-again Inv-loop μ-loop
-loop-again c = (search needs, c .before .before .before .before .before .before .loop .inv .1, every-more (c .before .before .before .before .before .before .loop .i) (λ (j : ℕ). portArbiters (c .before .before .before .before .before .before .before .before .args .config) (getD (c .before .before .before .before .before .before .before .before .args .t2) j pastWide) (getD (c .before .before .before .before .before .before .before .before .args .t3) j pastNarrow) (getD (c .before .before .before .before .before .before .before .before .args .t4) j pastNarrow)) (c .before .before .before .before .before .before .loop .inv .2) (sym (c .before .are-sound-of .ensures) ∙ not-false (c .before .are-sound-of .result) (c .if1 .left)))
+loop-again c = (
+  search needs,
+  c .before .before .before .before .before .before .loop .inv .1,
+  every-more
+      (c .before .before .before .before .before .before .loop .i) (λ (j : ℕ). portArbiters
+      (c .before .before .before .before .before .before .before .before .args .config) (getD
+      (c .before .before .before .before .before .before .before .before .args .t2) j pastWide) (getD
+      (c .before .before .before .before .before .before .before .before .args .t3) j pastNarrow) (getD
+      (c .before .before .before .before .before .before .before .before .args .t4) j pastNarrow))
+      (c .before .before .before .before .before .before .loop .inv .2) (sym (c .before .are-sound-of .ensures) ∙ not-false
+      (c .before .are-sound-of .result) (c .if1 .left)),
+)
 
 returns-2 : tie.Need-returns-2 Inv-loop μ-loop
 unfolding arbitersSound portArbiters
-returns-2 c = sym (every-passed (c .before .before .before .args .config .ports) (c .before .loop .i) (λ (j : ℕ). portArbiters (c .before .before .before .args .config) (getD (c .before .before .before .args .t2) j pastWide) (getD (c .before .before .before .args .t3) j pastNarrow) (getD (c .before .before .before .args .t4) j pastNarrow)) (c .before .loop .inv .0) (search needs) (c .before .loop .inv .2))
+returns-2 c =
+    sym (every-passed (c .before .before .before .args .config .ports) (c .before .loop .i) (λ (j : ℕ). portArbiters
+    (c .before .before .before .args .config) (getD (c .before .before .before .args .t2) j pastWide) (getD
+    (c .before .before .before .args .t3) j pastNarrow) (getD (c .before .before .before .args .t4) j pastNarrow)) (c .before .loop .inv .0)
+    (search needs) (c .before .loop .inv .2))
 
 pub are-sound-spec : {M : Type 1} → statement M
 are-sound-spec =

@@ -20,28 +20,59 @@ cast-lanes : tie.Need-cast-lanes
 cast-lanes c = search needs
 
 mul-is-sound : tie.Need-mul-is-sound
-mul-is-sound c = let b = c .before .before .pre in let l = channels-fit (c .before .before .args .config .ports) (c .before .before .args .config .vcs) (b .ports) (b .vcs) in record { fits = omega arith }
+mul-is-sound c =
+    let b = c .before .before .pre in let l = channels-fit (c .before .before .args .config .ports) (c .before .before .args .config .vcs)
+    (b .ports) (b .vcs) in record { fits = omega arith }
 
 is-sound-requires : tie.Need-is-sound-requires
 is-sound-requires c κs = search needs
 
 returns : tie.Need-returns
 unfolding portArbiters
-returns c = three-first (arbiter.sound 32 (c .before .before .before .before .args .config .arbiter) (c .before .before .before .before .args .config .ports * c .before .before .before .before .args .config .vcs) (ofWide (c .before .before .before .before .args .vcs))) (arbiter.sound 8 (c .before .before .before .before .args .config .arbiter) (c .before .before .before .before .args .config .vcs) (ofNarrow (c .before .before .before .before .args .input))) (arbiter.sound 8 (c .before .before .before .before .args .config .arbiter) (c .before .before .before .before .args .config .ports) (ofNarrow (c .before .before .before .before .args .output))) (sym (c .before .is-sound .ensures) ∙ not-true (c .before .is-sound .result) (c .if1 .taken))
+returns c =
+    three-first (arbiter.sound 32 (c .before .before .before .before .args .config .arbiter)
+    (c .before .before .before .before .args .config .ports * c .before .before .before .before .args .config .vcs) (ofWide
+    (c .before .before .before .before .args .vcs))) (arbiter.sound 8 (c .before .before .before .before .args .config .arbiter)
+    (c .before .before .before .before .args .config .vcs) (ofNarrow (c .before .before .before .before .args .input))) (arbiter.sound 8
+    (c .before .before .before .before .args .config .arbiter) (c .before .before .before .before .args .config .ports) (ofNarrow
+    (c .before .before .before .before .args .output))) (sym (c .before .is-sound .ensures) ∙ not-true (c .before .is-sound .result) (c .if1 .taken))
 
 is-sound-requires-2 : tie.Need-is-sound-requires-2
 is-sound-requires-2 c κs = search needs
 
 returns-2 : tie.Need-returns-2
 unfolding portArbiters
-returns-2 c = three-second (arbiter.sound 32 (c .before .before .before .before .before .before .args .config .arbiter) (c .before .before .before .before .before .before .args .config .ports * c .before .before .before .before .before .before .args .config .vcs) (ofWide (c .before .before .before .before .before .before .args .vcs))) (arbiter.sound 8 (c .before .before .before .before .before .before .args .config .arbiter) (c .before .before .before .before .before .before .args .config .vcs) (ofNarrow (c .before .before .before .before .before .before .args .input))) (arbiter.sound 8 (c .before .before .before .before .before .before .args .config .arbiter) (c .before .before .before .before .before .before .args .config .ports) (ofNarrow (c .before .before .before .before .before .before .args .output))) (sym (c .before .before .before .is-sound .ensures) ∙ not-false (c .before .before .before .is-sound .result) (c .before .before .if1 .left)) (sym (c .before .is-sound2 .ensures) ∙ not-true (c .before .is-sound2 .result) (c .if2 .taken))
+returns-2 c =
+    three-second (arbiter.sound 32 (c .before .before .before .before .before .before .args .config .arbiter)
+    (c .before .before .before .before .before .before .args .config .ports * c .before .before .before .before .before .before .args .config .vcs)
+    (ofWide (c .before .before .before .before .before .before .args .vcs))) (arbiter.sound 8
+    (c .before .before .before .before .before .before .args .config .arbiter)
+    (c .before .before .before .before .before .before .args .config .vcs) (ofNarrow
+    (c .before .before .before .before .before .before .args .input))) (arbiter.sound 8
+    (c .before .before .before .before .before .before .args .config .arbiter)
+    (c .before .before .before .before .before .before .args .config .ports) (ofNarrow
+    (c .before .before .before .before .before .before .args .output))) (sym (c .before .before .before .is-sound .ensures) ∙ not-false
+    (c .before .before .before .is-sound .result) (c .before .before .if1 .left)) (sym (c .before .is-sound2 .ensures) ∙ not-true
+    (c .before .is-sound2 .result) (c .if2 .taken))
 
 is-sound-requires-3 : tie.Need-is-sound-requires-3
 is-sound-requires-3 c κs = search needs
 
 returns-3 : tie.Need-returns-3
 unfolding portArbiters
-returns-3 c = c .is-sound3 .ensures ∙ three-third (arbiter.sound 32 (c .before .before .before .before .before .before .before .args .config .arbiter) (c .before .before .before .before .before .before .before .args .config .ports * c .before .before .before .before .before .before .before .args .config .vcs) (ofWide (c .before .before .before .before .before .before .before .args .vcs))) (arbiter.sound 8 (c .before .before .before .before .before .before .before .args .config .arbiter) (c .before .before .before .before .before .before .before .args .config .vcs) (ofNarrow (c .before .before .before .before .before .before .before .args .input))) (arbiter.sound 8 (c .before .before .before .before .before .before .before .args .config .arbiter) (c .before .before .before .before .before .before .before .args .config .ports) (ofNarrow (c .before .before .before .before .before .before .before .args .output))) (sym (c .before .before .before .before .is-sound .ensures) ∙ not-false (c .before .before .before .before .is-sound .result) (c .before .before .before .if1 .left)) (sym (c .before .before .is-sound2 .ensures) ∙ not-false (c .before .before .is-sound2 .result) (c .before .if2 .left))
+returns-3 c =
+    c .is-sound3 .ensures ∙ three-third (arbiter.sound 32 (c .before .before .before .before .before .before .before .args .config .arbiter)
+    (c .before .before .before .before .before .before .before .args .config .ports * c .before .before .before .before .before .before .before .args
+    .config .vcs) (ofWide (c .before .before .before .before .before .before .before .args .vcs))) (arbiter.sound 8
+    (c .before .before .before .before .before .before .before .args .config .arbiter)
+    (c .before .before .before .before .before .before .before .args .config .vcs) (ofNarrow
+    (c .before .before .before .before .before .before .before .args .input))) (arbiter.sound 8
+    (c .before .before .before .before .before .before .before .args .config .arbiter)
+    (c .before .before .before .before .before .before .before .args .config .ports) (ofNarrow
+    (c .before .before .before .before .before .before .before .args .output))) (sym
+    (c .before .before .before .before .is-sound .ensures) ∙ not-false (c .before .before .before .before .is-sound .result)
+    (c .before .before .before .if1 .left)) (sym (c .before .before .is-sound2 .ensures) ∙ not-false (c .before .before .is-sound2 .result)
+    (c .before .if2 .left))
 
 pub are-sound-of-spec : {M : Type 1} → statement M
 are-sound-of-spec =

@@ -24,7 +24,12 @@ cast-i : tie.Need-cast-i Inv-loop μ-loop
 cast-i c = search needs
 
 loop-holds : tie.Need-loop-holds Inv-loop μ-loop
-loop-holds c = (search needs, c .before .pre .ports, none-below (c .before .args .config .ports) (c .before .args .t2) (c .before .args .t3) (c .before .args .t4))
+loop-holds c = (
+  search needs,
+  c .before .pre .ports,
+  none-below (c .before .args .config .ports) (c .before .args .t2) (c .before .args .t3)
+      (c .before .args .t4),
+)
 
 mul-wide : tie.Need-mul-wide Inv-loop μ-loop
 mul-wide c = search needs
@@ -49,7 +54,18 @@ are-none-requires c κs = search needs
 
 returns : tie.Need-returns Inv-loop μ-loop
 unfolding arbitersUnused noArbiters
-returns c = every-fails 8 (c .before .before .before .before .before .before .loop .i) (noneFrom (c .before .before .before .before .before .before .before .before .args .config .ports) (c .before .before .before .before .before .before .before .before .args .t2) (c .before .before .before .before .before .before .before .before .args .t3) (c .before .before .before .before .before .before .before .before .args .t4)) (search needs) (none-is (c .before .before .before .before .before .before .before .before .args .config .ports) (c .before .before .before .before .before .before .before .before .args .t2) (c .before .before .before .before .before .before .before .before .args .t3) (c .before .before .before .before .before .before .before .before .args .t4) (c .before .before .before .before .before .before .loop .i) (c .before .before .before .before .before .before .loop .inv .0) ∙ (sym (c .before .are-none .ensures) ∙ not-true (c .before .are-none .result) (c .if1 .taken)))
+returns c =
+    every-fails 8 (c .before .before .before .before .before .before .loop .i) (noneFrom
+    (c .before .before .before .before .before .before .before .before .args .config .ports)
+    (c .before .before .before .before .before .before .before .before .args .t2)
+    (c .before .before .before .before .before .before .before .before .args .t3)
+    (c .before .before .before .before .before .before .before .before .args .t4)) (search needs) (none-is
+    (c .before .before .before .before .before .before .before .before .args .config .ports)
+    (c .before .before .before .before .before .before .before .before .args .t2)
+    (c .before .before .before .before .before .before .before .before .args .t3)
+    (c .before .before .before .before .before .before .before .before .args .t4) (c .before .before .before .before .before .before .loop .i)
+    (c .before .before .before .before .before .before .loop .inv .0) ∙ (sym (c .before .are-none .ensures) ∙ not-true (c .before .are-none .result)
+    (c .if1 .taken)))
 
 add-i : tie.Need-add-i Inv-loop μ-loop
 add-i c = search needs
@@ -58,11 +74,27 @@ loop-less : tie.Need-loop-less Inv-loop μ-loop
 loop-less c = search needs
 
 loop-again : tie.Need-loop-again Inv-loop μ-loop
-loop-again c = (search needs, search needs, every-more (c .before .before .before .before .before .before .loop .i) (noneFrom (c .before .before .before .before .before .before .before .before .args .config .ports) (c .before .before .before .before .before .before .before .before .args .t2) (c .before .before .before .before .before .before .before .before .args .t3) (c .before .before .before .before .before .before .before .before .args .t4)) (c .before .before .before .before .before .before .loop .inv .2) (none-is (c .before .before .before .before .before .before .before .before .args .config .ports) (c .before .before .before .before .before .before .before .before .args .t2) (c .before .before .before .before .before .before .before .before .args .t3) (c .before .before .before .before .before .before .before .before .args .t4) (c .before .before .before .before .before .before .loop .i) (c .before .before .before .before .before .before .loop .inv .0) ∙ (sym (c .before .are-none .ensures) ∙ not-false (c .before .are-none .result) (c .if1 .left))))
+loop-again c = (
+  search needs,
+  search needs,
+  every-more (c .before .before .before .before .before .before .loop .i) (noneFrom
+      (c .before .before .before .before .before .before .before .before .args .config .ports)
+      (c .before .before .before .before .before .before .before .before .args .t2)
+      (c .before .before .before .before .before .before .before .before .args .t3)
+      (c .before .before .before .before .before .before .before .before .args .t4)) (c .before .before .before .before .before .before .loop .inv .2)
+      (none-is (c .before .before .before .before .before .before .before .before .args .config .ports)
+      (c .before .before .before .before .before .before .before .before .args .t2)
+      (c .before .before .before .before .before .before .before .before .args .t3)
+      (c .before .before .before .before .before .before .before .before .args .t4) (c .before .before .before .before .before .before .loop .i)
+      (c .before .before .before .before .before .before .loop .inv .0) ∙ (sym (c .before .are-none .ensures) ∙ not-false
+      (c .before .are-none .result) (c .if1 .left))),
+)
 
 returns-2 : tie.Need-returns-2 Inv-loop μ-loop
 unfolding arbitersUnused noArbiters
-returns-2 c = sym (every-passed 8 (c .before .loop .i) (noneFrom (c .before .before .before .args .config .ports) (c .before .before .before .args .t2) (c .before .before .before .args .t3) (c .before .before .before .args .t4)) (c .before .loop .inv .1) (search needs) (c .before .loop .inv .2))
+returns-2 c =
+    sym (every-passed 8 (c .before .loop .i) (noneFrom (c .before .before .before .args .config .ports) (c .before .before .before .args .t2)
+    (c .before .before .before .args .t3) (c .before .before .before .args .t4)) (c .before .loop .inv .1) (search needs) (c .before .loop .inv .2))
 
 pub are-unused-spec : {M : Type 1} → statement M
 are-unused-spec =

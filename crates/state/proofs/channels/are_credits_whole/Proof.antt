@@ -26,8 +26,10 @@ going-home-requires c κs = search needs
 
 add-result : tie.Need-add-result
 add-result c =
-    let w = wire-few (c .before .before .before .before .args .config) (c .before .before .before .before .args .wire .now) (c .before .before .before .before .args .i) (c .before .before .before .before .args .v) in
-    let h = home-few (c .before .before .before .before .args .config) (c .before .before .before .before .args .home .now) (c .before .before .before .before .args .i) (c .before .before .before .before .args .v) in
+    let w = wire-few (c .before .before .before .before .args .config) (c .before .before .before .before .args .wire .now)
+    (c .before .before .before .before .args .i) (c .before .before .before .before .args .v) in
+    let h = home-few (c .before .before .before .before .args .config) (c .before .before .before .before .args .home .now)
+    (c .before .before .before .before .args .i) (c .before .before .before .before .args .v) in
     let e = c .before .on-wire .ensures in
     let f = c .going-home .ensures in
     let p = c .before .before .before .before .pre in
@@ -39,8 +41,10 @@ add-result c =
 
 add-result-2 : tie.Need-add-result-2
 add-result-2 c =
-    let w = wire-few (c .before .before .before .before .args .config) (c .before .before .before .before .args .wire .now) (c .before .before .before .before .args .i) (c .before .before .before .before .args .v) in
-    let h = home-few (c .before .before .before .before .args .config) (c .before .before .before .before .args .home .now) (c .before .before .before .before .args .i) (c .before .before .before .before .args .v) in
+    let w = wire-few (c .before .before .before .before .args .config) (c .before .before .before .before .args .wire .now)
+    (c .before .before .before .before .args .i) (c .before .before .before .before .args .v) in
+    let h = home-few (c .before .before .before .before .args .config) (c .before .before .before .before .args .home .now)
+    (c .before .before .before .before .args .i) (c .before .before .before .before .args .v) in
     let e = c .before .on-wire .ensures in
     let f = c .going-home .ensures in
     let p = c .before .before .before .before .pre in
@@ -52,8 +56,10 @@ add-result-2 c =
 
 add-result-3 : tie.Need-add-result-3
 add-result-3 c =
-    let w = wire-few (c .before .before .before .before .args .config) (c .before .before .before .before .args .wire .now) (c .before .before .before .before .args .i) (c .before .before .before .before .args .v) in
-    let h = home-few (c .before .before .before .before .args .config) (c .before .before .before .before .args .home .now) (c .before .before .before .before .args .i) (c .before .before .before .before .args .v) in
+    let w = wire-few (c .before .before .before .before .args .config) (c .before .before .before .before .args .wire .now)
+    (c .before .before .before .before .args .i) (c .before .before .before .before .args .v) in
+    let h = home-few (c .before .before .before .before .args .config) (c .before .before .before .before .args .home .now)
+    (c .before .before .before .before .args .i) (c .before .before .before .before .args .v) in
     let e = c .before .on-wire .ensures in
     let f = c .going-home .ensures in
     let p = c .before .before .before .before .pre in
@@ -67,7 +73,11 @@ cast-result : tie.Need-cast-result
 cast-result c = search needs
 
 returns : tie.Need-returns
-returns c = credits-are (c .before .before .before .before .before .args .config) (c .before .before .before .before .before .args .wire .now) (c .before .before .before .before .before .args .home .now) (c .before .before .before .before .before .args .i) (c .before .before .before .before .before .args .v) (c .before .before .before .before .before .args .input) (c .before .before .on-wire .result) (c .before .going-home .result) (c .before .before .on-wire .ensures) (c .before .going-home .ensures)
+returns c =
+    credits-are (c .before .before .before .before .before .args .config) (c .before .before .before .before .before .args .wire .now)
+    (c .before .before .before .before .before .args .home .now) (c .before .before .before .before .before .args .i)
+    (c .before .before .before .before .before .args .v) (c .before .before .before .before .before .args .input)
+    (c .before .before .on-wire .result) (c .before .going-home .result) (c .before .before .on-wire .ensures) (c .before .going-home .ensures)
 
 pub are-credits-whole-spec : {M : Type 1} → statement M
 are-credits-whole-spec =

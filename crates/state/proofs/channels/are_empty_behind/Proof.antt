@@ -30,7 +30,12 @@ element-copy-out-if1 : tie.Need-element-copy-out-if1 Inv-loop μ-loop
 element-copy-out-if1 c = search needs
 
 returns : tie.Need-returns Inv-loop μ-loop
-returns c = every-fails 16 (c .before .before .before .loop .k) (emptyBehind (c .before .before .before .before .args .base) (c .before .before .before .before .args .queued) (c .before .before .before .before .args .store .now)) (search needs) (behind-some (c .before .before .before .before .args .base) (c .before .before .before .before .args .queued) (c .before .before .before .before .args .store .now) (c .before .before .before .loop .k) (c .before .before .before .loop .inv .0) (c .if1 .taken))
+returns c =
+    every-fails 16 (c .before .before .before .loop .k) (emptyBehind (c .before .before .before .before .args .base)
+    (c .before .before .before .before .args .queued) (c .before .before .before .before .args .store .now)) (search needs) (behind-some
+    (c .before .before .before .before .args .base) (c .before .before .before .before .args .queued)
+    (c .before .before .before .before .args .store .now) (c .before .before .before .loop .k) (c .before .before .before .loop .inv .0)
+    (c .if1 .taken))
 
 add-k : tie.Need-add-k Inv-loop μ-loop
 add-k c = search needs
@@ -39,10 +44,19 @@ loop-less : tie.Need-loop-less Inv-loop μ-loop
 loop-less c = search needs
 
 loop-again : tie.Need-loop-again Inv-loop μ-loop
-loop-again c = (search needs, every-more (c .before .before .before .loop .k) (emptyBehind (c .before .before .before .before .args .base) (c .before .before .before .before .args .queued) (c .before .before .before .before .args .store .now)) (c .before .before .before .loop .inv .1) (behind-zero (c .before .before .before .before .args .base) (c .before .before .before .before .args .queued) (c .before .before .before .before .args .store .now) (c .before .before .before .loop .k) (c .if1 .left)))
+loop-again c = (
+  search needs,
+  every-more (c .before .before .before .loop .k) (emptyBehind (c .before .before .before .before .args .base)
+      (c .before .before .before .before .args .queued) (c .before .before .before .before .args .store .now))
+      (c .before .before .before .loop .inv .1) (behind-zero (c .before .before .before .before .args .base)
+      (c .before .before .before .before .args .queued) (c .before .before .before .before .args .store .now) (c .before .before .before .loop .k)
+      (c .if1 .left)),
+)
 
 returns-2 : tie.Need-returns-2 Inv-loop μ-loop
-returns-2 c = sym (every-below 16 (c .before .loop .k) (emptyBehind (c .before .before .args .base) (c .before .before .args .queued) (c .before .before .args .store .now)) (search needs) (c .before .loop .inv .1))
+returns-2 c =
+    sym (every-below 16 (c .before .loop .k) (emptyBehind (c .before .before .args .base) (c .before .before .args .queued)
+    (c .before .before .args .store .now)) (search needs) (c .before .loop .inv .1))
 
 pub are-empty-behind-spec : {M : Type 1} → statement M
 are-empty-behind-spec =

@@ -22,7 +22,8 @@ abbrev μ-loop : tie.MeasureT-loop
 μ-loop store inputs x₀ x = 32 - x
 
 loop-holds : tie.Need-loop-holds Inv-loop μ-loop
-loop-holds c = (search needs, every-none (λ (y : ℕ). every 16 (emptyBehind (16 * y) (getD (c .args .t1) y (freshInput 0) .queued) (c .args .store .now))))
+loop-holds c =
+    (search needs, every-none (λ (y : ℕ). every 16 (emptyBehind (16 * y) (getD (c .args .t1) y (freshInput 0) .queued) (c .args .store .now))))
 
 mul-input : tie.Need-mul-input Inv-loop μ-loop
 mul-input c = search needs
@@ -38,7 +39,10 @@ are-empty-behind-requires c κs = search needs
 
 returns : tie.Need-returns Inv-loop μ-loop
 unfolding slotsEmpty
-returns c = every-fails 32 (c .before .before .before .before .loop .x) (λ (y : ℕ). every 16 (emptyBehind (16 * y) (getD (c .before .before .before .before .before .args .t1) y (freshInput 0) .queued) (c .before .before .before .before .before .args .store .now))) (search needs) (sym (c .before .are-empty-behind .ensures) ∙ not-true (c .before .are-empty-behind .result) (c .if1 .taken))
+returns c =
+    every-fails 32 (c .before .before .before .before .loop .x) (λ (y : ℕ). every 16 (emptyBehind (16 * y) (getD
+    (c .before .before .before .before .before .args .t1) y (freshInput 0) .queued) (c .before .before .before .before .before .args .store .now)))
+    (search needs) (sym (c .before .are-empty-behind .ensures) ∙ not-true (c .before .are-empty-behind .result) (c .if1 .taken))
 
 add-x : tie.Need-add-x Inv-loop μ-loop
 add-x c = search needs
@@ -47,11 +51,19 @@ loop-less : tie.Need-loop-less Inv-loop μ-loop
 loop-less c = search needs
 
 loop-again : tie.Need-loop-again Inv-loop μ-loop
-loop-again c = (search needs, every-more (c .before .before .before .before .loop .x) (λ (y : ℕ). every 16 (emptyBehind (16 * y) (getD (c .before .before .before .before .before .args .t1) y (freshInput 0) .queued) (c .before .before .before .before .before .args .store .now))) (c .before .before .before .before .loop .inv .1) (sym (c .before .are-empty-behind .ensures) ∙ not-false (c .before .are-empty-behind .result) (c .if1 .left)))
+loop-again c = (
+  search needs,
+  every-more (c .before .before .before .before .loop .x) (λ (y : ℕ). every 16 (emptyBehind (16 * y) (getD
+      (c .before .before .before .before .before .args .t1) y (freshInput 0) .queued) (c .before .before .before .before .before .args .store .now)))
+      (c .before .before .before .before .loop .inv .1) (sym (c .before .are-empty-behind .ensures) ∙ not-false (c .before .are-empty-behind .result)
+      (c .if1 .left)),
+)
 
 returns-2 : tie.Need-returns-2 Inv-loop μ-loop
 unfolding slotsEmpty
-returns-2 c = sym (every-passed 32 (c .before .loop .x) (λ (y : ℕ). every 16 (emptyBehind (16 * y) (getD (c .before .before .args .t1) y (freshInput 0) .queued) (c .before .before .args .store .now))) (c .before .loop .inv .0) (search needs) (c .before .loop .inv .1))
+returns-2 c =
+    sym (every-passed 32 (c .before .loop .x) (λ (y : ℕ). every 16 (emptyBehind (16 * y) (getD (c .before .before .args .t1) y
+    (freshInput 0) .queued) (c .before .before .args .store .now))) (c .before .loop .inv .0) (search needs) (c .before .loop .inv .1))
 
 pub are-slots-empty-spec : {M : Type 1} → statement M
 are-slots-empty-spec =

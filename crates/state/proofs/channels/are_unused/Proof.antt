@@ -27,10 +27,19 @@ cast-x-2 : tie.Need-cast-x-2 Inv-loop μ-loop
 cast-x-2 c = search needs
 
 mul-x : tie.Need-mul-x Inv-loop μ-loop
-mul-x c = let b = c .before .before .pre in let l = channels-fit (c .before .before .args .config .ports) (c .before .before .args .config .vcs) (b .ports) (b .vcs) in record { fits = omega arith }
+mul-x c =
+    let b = c .before .before .pre in let l = channels-fit (c .before .before .args .config .ports) (c .before .before .args .config .vcs)
+    (b .ports) (b .vcs) in record { fits = omega arith }
 
 loop-holds : tie.Need-loop-holds Inv-loop μ-loop
-loop-holds c = let b = c .before .before .pre in let l = channels-fit (c .before .before .args .config .ports) (c .before .before .args .config .vcs) (b .ports) (b .vcs) in (search needs, l, unused-below (c .before .before .args .config .ports * c .before .before .args .config .vcs) (c .before .before .args .t2) (c .before .before .args .t3))
+loop-holds c =
+    let b = c .before .before .pre in let l = channels-fit (c .before .before .args .config .ports) (c .before .before .args .config .vcs)
+    (b .ports) (b .vcs) in (
+      search needs,
+      l,
+      unused-below (c .before .before .args .config .ports * c .before .before .args .config .vcs)
+          (c .before .before .args .t2) (c .before .before .args .t3),
+    )
 
 mul-input : tie.Need-mul-input Inv-loop μ-loop
 mul-input c = search needs
@@ -43,7 +52,16 @@ is-input-unused-requires c κs = search needs
 
 returns : tie.Need-returns Inv-loop μ-loop
 unfolding channelsUnused
-returns c = every-fails 32 (c .before .before .before .before .loop .x) (unusedFrom (c .before .before .before .before .before .before .before .args .config .ports * c .before .before .before .before .before .before .before .args .config .vcs) (c .before .before .before .before .before .before .before .args .t2) (c .before .before .before .before .before .before .before .args .t3)) (search needs) (unused-input (c .before .before .before .before .before .before .before .args .config .ports * c .before .before .before .before .before .before .before .args .config .vcs) (c .before .before .before .before .before .before .before .args .t2) (c .before .before .before .before .before .before .before .args .t3) (c .before .before .before .before .loop .x) (c .before .before .before .before .loop .inv .0) (sym (c .before .is-input-unused .ensures) ∙ not-true (c .before .is-input-unused .result) (c .if1 .taken)))
+returns c =
+    every-fails 32 (c .before .before .before .before .loop .x) (unusedFrom
+    (c .before .before .before .before .before .before .before .args .config .ports * c .before .before .before .before .before .before .before .args
+    .config .vcs) (c .before .before .before .before .before .before .before .args .t2)
+    (c .before .before .before .before .before .before .before .args .t3)) (search needs) (unused-input
+    (c .before .before .before .before .before .before .before .args .config .ports * c .before .before .before .before .before .before .before .args
+    .config .vcs) (c .before .before .before .before .before .before .before .args .t2)
+    (c .before .before .before .before .before .before .before .args .t3) (c .before .before .before .before .loop .x)
+    (c .before .before .before .before .loop .inv .0) (sym (c .before .is-input-unused .ensures) ∙ not-true (c .before .is-input-unused .result)
+    (c .if1 .taken)))
 
 mul-output : tie.Need-mul-output Inv-loop μ-loop
 mul-output c = search needs
@@ -56,7 +74,21 @@ is-output-unused-requires c κs = search needs
 
 returns-2 : tie.Need-returns-2 Inv-loop μ-loop
 unfolding channelsUnused
-returns-2 c = every-fails 32 (c .before .before .before .before .before .before .before .loop .x) (unusedFrom (c .before .before .before .before .before .before .before .before .before .before .args .config .ports * c .before .before .before .before .before .before .before .before .before .before .args .config .vcs) (c .before .before .before .before .before .before .before .before .before .before .args .t2) (c .before .before .before .before .before .before .before .before .before .before .args .t3)) (search needs) (unused-is (c .before .before .before .before .before .before .before .before .before .before .args .config .ports * c .before .before .before .before .before .before .before .before .before .before .args .config .vcs) (c .before .before .before .before .before .before .before .before .before .before .args .t2) (c .before .before .before .before .before .before .before .before .before .before .args .t3) (c .before .before .before .before .before .before .before .loop .x) true false (c .before .before .before .before .before .before .before .loop .inv .0) (sym (c .before .before .before .before .is-input-unused .ensures) ∙ not-false (c .before .before .before .before .is-input-unused .result) (c .before .before .before .if1 .left)) (sym (c .before .is-output-unused .ensures) ∙ not-true (c .before .is-output-unused .result) (c .if2 .taken)))
+returns-2 c =
+    every-fails 32 (c .before .before .before .before .before .before .before .loop .x) (unusedFrom
+    (c .before .before .before .before .before .before .before .before .before .before .args .config .ports * c .before .before .before .before
+    .before .before .before .before .before .before .args .config .vcs)
+    (c .before .before .before .before .before .before .before .before .before .before .args .t2)
+    (c .before .before .before .before .before .before .before .before .before .before .args .t3)) (search needs) (unused-is
+    (c .before .before .before .before .before .before .before .before .before .before .args .config .ports * c .before .before .before .before
+    .before .before .before .before .before .before .args .config .vcs)
+    (c .before .before .before .before .before .before .before .before .before .before .args .t2)
+    (c .before .before .before .before .before .before .before .before .before .before .args .t3)
+    (c .before .before .before .before .before .before .before .loop .x) true false
+    (c .before .before .before .before .before .before .before .loop .inv .0) (sym
+    (c .before .before .before .before .is-input-unused .ensures) ∙ not-false (c .before .before .before .before .is-input-unused .result)
+    (c .before .before .before .if1 .left)) (sym (c .before .is-output-unused .ensures) ∙ not-true (c .before .is-output-unused .result)
+    (c .if2 .taken)))
 
 add-x : tie.Need-add-x Inv-loop μ-loop
 add-x c = search needs
@@ -65,11 +97,32 @@ loop-less : tie.Need-loop-less Inv-loop μ-loop
 loop-less c = search needs
 
 loop-again : tie.Need-loop-again Inv-loop μ-loop
-loop-again c = (search needs, search needs, every-more (c .before .before .before .before .before .before .before .loop .x) (unusedFrom (c .before .before .before .before .before .before .before .before .before .before .args .config .ports * c .before .before .before .before .before .before .before .before .before .before .args .config .vcs) (c .before .before .before .before .before .before .before .before .before .before .args .t2) (c .before .before .before .before .before .before .before .before .before .before .args .t3)) (c .before .before .before .before .before .before .before .loop .inv .2) (unused-is (c .before .before .before .before .before .before .before .before .before .before .args .config .ports * c .before .before .before .before .before .before .before .before .before .before .args .config .vcs) (c .before .before .before .before .before .before .before .before .before .before .args .t2) (c .before .before .before .before .before .before .before .before .before .before .args .t3) (c .before .before .before .before .before .before .before .loop .x) true true (c .before .before .before .before .before .before .before .loop .inv .0) (sym (c .before .before .before .before .is-input-unused .ensures) ∙ not-false (c .before .before .before .before .is-input-unused .result) (c .before .before .before .if1 .left)) (sym (c .before .is-output-unused .ensures) ∙ not-false (c .before .is-output-unused .result) (c .if2 .left))))
+loop-again c = (
+  search needs,
+  search needs,
+  every-more (c .before .before .before .before .before .before .before .loop .x) (unusedFrom
+      (c .before .before .before .before .before .before .before .before .before .before .args .config .ports * c .before .before .before .before
+      .before .before .before .before .before .before .args .config .vcs)
+      (c .before .before .before .before .before .before .before .before .before .before .args .t2)
+      (c .before .before .before .before .before .before .before .before .before .before .args .t3))
+      (c .before .before .before .before .before .before .before .loop .inv .2) (unused-is
+      (c .before .before .before .before .before .before .before .before .before .before .args .config .ports * c .before .before .before .before
+      .before .before .before .before .before .before .args .config .vcs)
+      (c .before .before .before .before .before .before .before .before .before .before .args .t2)
+      (c .before .before .before .before .before .before .before .before .before .before .args .t3)
+      (c .before .before .before .before .before .before .before .loop .x) true true
+      (c .before .before .before .before .before .before .before .loop .inv .0) (sym
+      (c .before .before .before .before .is-input-unused .ensures) ∙ not-false (c .before .before .before .before .is-input-unused .result)
+      (c .before .before .before .if1 .left)) (sym (c .before .is-output-unused .ensures) ∙ not-false (c .before .is-output-unused .result)
+      (c .if2 .left))),
+)
 
 returns-3 : tie.Need-returns-3 Inv-loop μ-loop
 unfolding channelsUnused
-returns-3 c = sym (every-passed 32 (c .before .loop .x) (unusedFrom (c .before .before .before .before .args .config .ports * c .before .before .before .before .args .config .vcs) (c .before .before .before .before .args .t2) (c .before .before .before .before .args .t3)) (c .before .loop .inv .1) (search needs) (c .before .loop .inv .2))
+returns-3 c =
+    sym (every-passed 32 (c .before .loop .x) (unusedFrom (c .before .before .before .before .args .config .ports * c .before .before .before .before
+    .args .config .vcs) (c .before .before .before .before .args .t2) (c .before .before .before .before .args .t3)) (c .before .loop .inv .1)
+    (search needs) (c .before .loop .inv .2))
 
 pub are-unused-spec : {M : Type 1} → statement M
 are-unused-spec =

@@ -17,13 +17,19 @@ returns : tie.Need-returns
 returns c = search needs
 
 returns-2 : tie.Need-returns-2
-returns-2 c = let e : c .before .before .before .before .args .input .binding ≡ Unbound = search needs in input-credit-left (c .before .before .before .before .args .input) e (c .if1 .taken)
+returns-2 c =
+    let e : c .before .before .before .before .args .input .binding ≡ Unbound = search needs in input-credit-left
+    (c .before .before .before .before .args .input) e (c .if1 .taken)
 
 returns-3 : tie.Need-returns-3
-returns-3 c = let e : c .before .before .before .before .before .args .input .binding ≡ Unbound = search needs in input-open (c .before .before .before .before .before .args .input) e (c .before .if1 .left) (c .if2 .taken)
+returns-3 c =
+    let e : c .before .before .before .before .before .args .input .binding ≡ Unbound = search needs in input-open
+    (c .before .before .before .before .before .args .input) e (c .before .if1 .left) (c .if2 .taken)
 
 returns-4 : tie.Need-returns-4
-returns-4 c = let e : c .before .before .before .before .before .before .args .input .binding ≡ Unbound = search needs in input-unused (c .before .before .before .before .before .before .args .input) e (c .before .before .if1 .left) (c .before .if2 .left)
+returns-4 c =
+    let e : c .before .before .before .before .before .before .args .input .binding ≡ Unbound = search needs in input-unused
+    (c .before .before .before .before .before .before .args .input) e (c .before .before .if1 .left) (c .before .if2 .left)
 
 pub is-input-unused-spec : {M : Type 1} → statement M
 is-input-unused-spec =

@@ -17,7 +17,8 @@ returns : tie.Need-returns
 returns c = search needs
 
 returns-2 : tie.Need-returns-2
-returns-2 c = let e : c .before .before .before .args .output .holder ≡ Nobody = search needs in output-unused (c .before .before .before .args .output) e
+returns-2 c =
+    let e : c .before .before .before .args .output .holder ≡ Nobody = search needs in output-unused (c .before .before .before .args .output) e
 
 pub is-output-unused-spec : {M : Type 1} → statement M
 is-output-unused-spec = tie.close (tie.spec enum-told enum-told-2 returns returns-2)

@@ -14,7 +14,8 @@ returns : tie.Need-returns
 returns c = sym (ap length (flit-on (c .before .before .args .v) (c .before .before .args .place) (sym (c .before .is-on .ensures) ∙ c .if1 .taken)))
 
 returns-2 : tie.Need-returns-2
-returns-2 c = sym (ap length (flit-off (c .before .before .args .v) (c .before .before .args .place) (sym (c .before .is-on .ensures) ∙ c .if1 .left)))
+returns-2 c =
+    sym (ap length (flit-off (c .before .before .args .v) (c .before .before .args .place) (sym (c .before .is-on .ensures) ∙ c .if1 .left)))
 
 pub flits-on-spec : {M : Type 1} → statement M
 flits-on-spec = tie.close (tie.spec is-on-requires returns returns-2)

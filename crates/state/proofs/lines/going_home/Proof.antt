@@ -20,7 +20,8 @@ cast-end : tie.Need-cast-end Inv-loop μ-loop
 cast-end c = search needs
 
 loop-holds : tie.Need-loop-holds Inv-loop μ-loop
-loop-holds c = (search needs, search needs, credits-none (λ k. toVc (c .before .args .v) (homePlace (c .before .args .home .now) k (c .before .args .i))))
+loop-holds c =
+    (search needs, search needs, credits-none (λ k. toVc (c .before .args .v) (homePlace (c .before .args .home .now) k (c .before .args .i))))
 
 mul-credits-for : tie.Need-mul-credits-for Inv-loop μ-loop
 mul-credits-for c = search needs
@@ -35,7 +36,10 @@ credits-for-requires : tie.Need-credits-for-requires Inv-loop μ-loop
 credits-for-requires c κs = search needs
 
 add-count : tie.Need-add-count Inv-loop μ-loop
-add-count c = let o = one-credit (c .before .before .before .before .before .args .v) (homePlace (c .before .before .before .before .before .args .home .now) (c .before .before .before .loop .k) (c .before .before .before .before .before .args .i)) in let e = c .credits-for .ensures in record { fits = omega arith }
+add-count c =
+    let o = one-credit (c .before .before .before .before .before .args .v) (homePlace (c .before .before .before .before .before .args .home .now)
+    (c .before .before .before .loop .k) (c .before .before .before .before .before .args .i)) in let e = c .credits-for .ensures in
+    record { fits = omega arith }
 
 add-k : tie.Need-add-k Inv-loop μ-loop
 add-k c = search needs
@@ -44,13 +48,22 @@ loop-less : tie.Need-loop-less Inv-loop μ-loop
 loop-less c = search needs
 
 loop-again : tie.Need-loop-again Inv-loop μ-loop
-loop-again c = let o = one-credit (c .before .before .before .before .before .args .v) (homePlace (c .before .before .before .before .before .args .home .now) (c .before .before .before .loop .k) (c .before .before .before .before .before .args .i)) in let e = c .credits-for .ensures in (search needs, omega arith, ap₂ (λ a b. a + b) (c .before .before .before .loop .inv .2) e ∙ sym (credits-more (c .before .before .before .loop .k) (λ k. toVc (c .before .before .before .before .before .args .v) (homePlace (c .before .before .before .before .before .args .home .now) k (c .before .before .before .before .before .args .i)))))
+loop-again c =
+    let o = one-credit (c .before .before .before .before .before .args .v) (homePlace (c .before .before .before .before .before .args .home .now)
+    (c .before .before .before .loop .k) (c .before .before .before .before .before .args .i)) in let e = c .credits-for .ensures in (
+      search needs,
+      omega arith,
+      ap₂ (λ a b. a + b) (c .before .before .before .loop .inv .2) e ∙ sym (credits-more
+          (c .before .before .before .loop .k) (λ k. toVc (c .before .before .before .before .before .args .v) (homePlace
+          (c .before .before .before .before .before .args .home .now) k (c .before .before .before .before .before .args .i)))),
+    )
 
 returns : tie.Need-returns Inv-loop μ-loop
 unfolding homeOf
 returns c =
     let end : c .before .loop .k ≡ c .before .before .before .args .config .back = omega arith in
-    c .before .loop .inv .2 ∙ ap (λ (n : ℕ). total (places n (λ k. toVc (c .before .before .before .args .v) (homePlace (c .before .before .before .args .home .now) k (c .before .before .before .args .i))))) end
+    c .before .loop .inv .2 ∙ ap (λ (n : ℕ). total (places n (λ k. toVc (c .before .before .before .args .v) (homePlace
+    (c .before .before .before .args .home .now) k (c .before .before .before .args .i))))) end
 
 pub going-home-spec : {M : Type 1} → statement M
 going-home-spec =

@@ -21,7 +21,8 @@ abbrev μ-loop : tie.MeasureT-loop
 μ-loop config wire m₀ m = 64 - m
 
 loop-holds : tie.Need-loop-holds Inv-loop μ-loop
-loop-holds c = (search needs, every-none (lineSound (c .args .config .forward) (c .args .config .ports) (wirePlaceLegal (c .args .config)) (c .args .wire .now)))
+loop-holds c =
+    (search needs, every-none (lineSound (c .args .config .forward) (c .args .config .ports) (wirePlaceLegal (c .args .config)) (c .args .wire .now)))
 
 mul-is-wire-place : tie.Need-mul-is-wire-place Inv-loop μ-loop
 mul-is-wire-place c = search needs
@@ -35,8 +36,13 @@ is-wire-place-requires c κs = search needs
 returns : tie.Need-returns Inv-loop μ-loop
 unfolding wireLegal
 returns c =
-    every-fails 64 (c .before .before .before .before .loop .m) (lineSound (c .before .before .before .before .before .args .config .forward) (c .before .before .before .before .before .args .config .ports) (wirePlaceLegal (c .before .before .before .before .before .args .config)) (c .before .before .before .before .before .args .wire .now)) (search needs) (sym (c .before .is-wire-place .ensures) ∙ not-true (c .before .is-wire-place .result) (c .if1 .taken))
-    ∙ line-is (c .before .before .before .before .before .args .config .forward) (c .before .before .before .before .before .args .config .ports) (wirePlaceLegal (c .before .before .before .before .before .args .config)) (c .before .before .before .before .before .args .wire .now) (c .before .before .before .before .before .pre .1) (c .before .before .before .before .before .pre .0)
+    every-fails 64 (c .before .before .before .before .loop .m) (lineSound (c .before .before .before .before .before .args .config .forward)
+    (c .before .before .before .before .before .args .config .ports) (wirePlaceLegal (c .before .before .before .before .before .args .config))
+    (c .before .before .before .before .before .args .wire .now)) (search needs) (sym (c .before .is-wire-place .ensures) ∙ not-true
+    (c .before .is-wire-place .result) (c .if1 .taken))
+    ∙ line-is (c .before .before .before .before .before .args .config .forward) (c .before .before .before .before .before .args .config .ports)
+    (wirePlaceLegal (c .before .before .before .before .before .args .config)) (c .before .before .before .before .before .args .wire .now)
+    (c .before .before .before .before .before .pre .1) (c .before .before .before .before .before .pre .0)
 
 add-m : tie.Need-add-m Inv-loop μ-loop
 add-m c = search needs
@@ -45,12 +51,22 @@ loop-less : tie.Need-loop-less Inv-loop μ-loop
 loop-less c = search needs
 
 loop-again : tie.Need-loop-again Inv-loop μ-loop
-loop-again c = (search needs, every-more (c .before .before .before .before .loop .m) (lineSound (c .before .before .before .before .before .args .config .forward) (c .before .before .before .before .before .args .config .ports) (wirePlaceLegal (c .before .before .before .before .before .args .config)) (c .before .before .before .before .before .args .wire .now)) (c .before .before .before .before .loop .inv .1) (sym (c .before .is-wire-place .ensures) ∙ not-false (c .before .is-wire-place .result) (c .if1 .left)))
+loop-again c = (
+  search needs,
+  every-more (c .before .before .before .before .loop .m) (lineSound
+      (c .before .before .before .before .before .args .config .forward) (c .before .before .before .before .before .args .config .ports)
+      (wirePlaceLegal (c .before .before .before .before .before .args .config)) (c .before .before .before .before .before .args .wire .now))
+      (c .before .before .before .before .loop .inv .1) (sym (c .before .is-wire-place .ensures) ∙ not-false (c .before .is-wire-place .result)
+      (c .if1 .left)),
+)
 
 returns-2 : tie.Need-returns-2 Inv-loop μ-loop
 unfolding wireLegal
 returns-2 c =
-    sym (every-passed 64 (c .before .loop .m) (lineSound (c .before .before .args .config .forward) (c .before .before .args .config .ports) (wirePlaceLegal (c .before .before .args .config)) (c .before .before .args .wire .now)) (c .before .loop .inv .0) (search needs) (c .before .loop .inv .1)) ∙ line-is (c .before .before .args .config .forward) (c .before .before .args .config .ports) (wirePlaceLegal (c .before .before .args .config)) (c .before .before .args .wire .now) (c .before .before .pre .1) (c .before .before .pre .0)
+    sym (every-passed 64 (c .before .loop .m) (lineSound (c .before .before .args .config .forward) (c .before .before .args .config .ports)
+    (wirePlaceLegal (c .before .before .args .config)) (c .before .before .args .wire .now)) (c .before .loop .inv .0) (search needs)
+    (c .before .loop .inv .1)) ∙ line-is (c .before .before .args .config .forward) (c .before .before .args .config .ports) (wirePlaceLegal
+    (c .before .before .args .config)) (c .before .before .args .wire .now) (c .before .before .pre .1) (c .before .before .pre .0)
 
 pub is-wire-sound-spec : {M : Type 1} → statement M
 is-wire-sound-spec =

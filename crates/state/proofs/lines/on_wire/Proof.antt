@@ -20,7 +20,8 @@ cast-end : tie.Need-cast-end Inv-loop μ-loop
 cast-end c = search needs
 
 loop-holds : tie.Need-loop-holds Inv-loop μ-loop
-loop-holds c = (search needs, search needs, flits-none (λ k. onVc (c .before .args .v) (wirePlace (c .before .args .wire .now) k (c .before .args .i))))
+loop-holds c =
+    (search needs, search needs, flits-none (λ k. onVc (c .before .args .v) (wirePlace (c .before .args .wire .now) k (c .before .args .i))))
 
 mul-flits-on : tie.Need-mul-flits-on Inv-loop μ-loop
 mul-flits-on c = search needs
@@ -38,7 +39,10 @@ flits-on-requires : tie.Need-flits-on-requires Inv-loop μ-loop
 flits-on-requires c κs = search needs
 
 add-count : tie.Need-add-count Inv-loop μ-loop
-add-count c = let o = one-flit (c .before .before .before .before .before .args .v) (wirePlace (c .before .before .before .before .before .args .wire .now) (c .before .before .before .loop .k) (c .before .before .before .before .before .args .i)) in let e = c .flits-on .ensures in record { fits = omega arith }
+add-count c =
+    let o = one-flit (c .before .before .before .before .before .args .v) (wirePlace (c .before .before .before .before .before .args .wire .now)
+    (c .before .before .before .loop .k) (c .before .before .before .before .before .args .i)) in let e = c .flits-on .ensures in
+    record { fits = omega arith }
 
 add-k : tie.Need-add-k Inv-loop μ-loop
 add-k c = search needs
@@ -47,13 +51,22 @@ loop-less : tie.Need-loop-less Inv-loop μ-loop
 loop-less c = search needs
 
 loop-again : tie.Need-loop-again Inv-loop μ-loop
-loop-again c = let o = one-flit (c .before .before .before .before .before .args .v) (wirePlace (c .before .before .before .before .before .args .wire .now) (c .before .before .before .loop .k) (c .before .before .before .before .before .args .i)) in let e = c .flits-on .ensures in (search needs, omega arith, ap₂ (λ a b. a + b) (c .before .before .before .loop .inv .2) e ∙ sym (flits-more (c .before .before .before .loop .k) (λ k. onVc (c .before .before .before .before .before .args .v) (wirePlace (c .before .before .before .before .before .args .wire .now) k (c .before .before .before .before .before .args .i)))))
+loop-again c =
+    let o = one-flit (c .before .before .before .before .before .args .v) (wirePlace (c .before .before .before .before .before .args .wire .now)
+    (c .before .before .before .loop .k) (c .before .before .before .before .before .args .i)) in let e = c .flits-on .ensures in (
+      search needs,
+      omega arith,
+      ap₂ (λ a b. a + b) (c .before .before .before .loop .inv .2) e ∙ sym (flits-more
+          (c .before .before .before .loop .k) (λ k. onVc (c .before .before .before .before .before .args .v) (wirePlace
+          (c .before .before .before .before .before .args .wire .now) k (c .before .before .before .before .before .args .i)))),
+    )
 
 returns : tie.Need-returns Inv-loop μ-loop
 unfolding wireOf
 returns c =
     let end : c .before .loop .k ≡ c .before .before .before .args .config .forward = omega arith in
-    c .before .loop .inv .2 ∙ ap (λ (n : ℕ). length (flat (places n (λ k. onVc (c .before .before .before .args .v) (wirePlace (c .before .before .before .args .wire .now) k (c .before .before .before .args .i)))))) end
+    c .before .loop .inv .2 ∙ ap (λ (n : ℕ). length (flat (places n (λ k. onVc (c .before .before .before .args .v) (wirePlace
+    (c .before .before .before .args .wire .now) k (c .before .before .before .args .i)))))) end
 
 pub on-wire-spec : {M : Type 1} → statement M
 on-wire-spec =

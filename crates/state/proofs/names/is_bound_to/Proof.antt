@@ -15,10 +15,16 @@ returns : tie.Need-returns
 returns c = search needs
 
 returns-2 : tie.Need-returns-2
-returns-2 c = bound-elsewhere (c .before .before .before .before .before .args .o) (c .before .before .before .before .before .args .w) (c .before .before .before .before .before .args .binding) (c .before .before .before .binding .given .0 .0) (c .before .before .before .binding .given .1) (c .if1 .taken)
+returns-2 c =
+    bound-elsewhere (c .before .before .before .before .before .args .o) (c .before .before .before .before .before .args .w)
+    (c .before .before .before .before .before .args .binding) (c .before .before .before .binding .given .0 .0)
+    (c .before .before .before .binding .given .1) (c .if1 .taken)
 
 returns-3 : tie.Need-returns-3
-returns-3 c = bound-here (c .before .before .before .before .before .before .args .o) (c .before .before .before .before .before .before .args .w) (c .before .before .before .before .before .before .args .binding) (c .before .before .before .before .binding .given .0 .0) (c .before .before .before .before .binding .given .1) (c .before .if1 .left)
+returns-3 c =
+    bound-here (c .before .before .before .before .before .before .args .o) (c .before .before .before .before .before .before .args .w)
+    (c .before .before .before .before .before .before .args .binding) (c .before .before .before .before .binding .given .0 .0)
+    (c .before .before .before .before .binding .given .1) (c .before .if1 .left)
 
 pub is-bound-to-spec : {M : Type 1} → statement M
 is-bound-to-spec = tie.close (tie.spec enum-known-binding enum-told returns returns-2 returns-3)

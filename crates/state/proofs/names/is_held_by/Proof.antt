@@ -15,10 +15,16 @@ returns : tie.Need-returns
 returns c = search needs
 
 returns-2 : tie.Need-returns-2
-returns-2 c = held-elsewhere (c .before .before .before .before .before .args .i) (c .before .before .before .before .before .args .v) (c .before .before .before .before .before .args .holder) (c .before .before .before .holder .given .0 .0) (c .before .before .before .holder .given .1) (c .if1 .taken)
+returns-2 c =
+    held-elsewhere (c .before .before .before .before .before .args .i) (c .before .before .before .before .before .args .v)
+    (c .before .before .before .before .before .args .holder) (c .before .before .before .holder .given .0 .0)
+    (c .before .before .before .holder .given .1) (c .if1 .taken)
 
 returns-3 : tie.Need-returns-3
-returns-3 c = held-here (c .before .before .before .before .before .before .args .i) (c .before .before .before .before .before .before .args .v) (c .before .before .before .before .before .before .args .holder) (c .before .before .before .before .holder .given .0 .0) (c .before .before .before .before .holder .given .1) (c .before .if1 .left)
+returns-3 c =
+    held-here (c .before .before .before .before .before .before .args .i) (c .before .before .before .before .before .before .args .v)
+    (c .before .before .before .before .before .before .args .holder) (c .before .before .before .before .holder .given .0 .0)
+    (c .before .before .before .before .holder .given .1) (c .before .if1 .left)
 
 pub is-held-by-spec : {M : Type 1} → statement M
 is-held-by-spec = tie.close (tie.spec enum-known-holder enum-told returns returns-2 returns-3)

@@ -31,7 +31,13 @@ is-legal-requires : tie.Need-is-legal-requires Inv-loop μ-loop
 is-legal-requires c κs = search needs
 
 returns : tie.Need-returns Inv-loop μ-loop
-returns c = judging-fails (c .before .before .before .before .before .args .config) (c .before .before .before .before .before .args .base) (c .before .before .before .before .before .args .queued) (c .before .before .before .before .before .args .store .now) (c .before .before .before .before .loop .k) (search needs) (let l = c .before .before .before .before .before .pre .3 in let q = c .before .before .before .before .before .pre .1 in let r = c .before .before .before .before .before .pre .2 in let i = c .before .before .before .before .loop .inv .0 in let t = c .before .before .before .loop-test .taken in omega arith) (sym (c .before .is-legal .ensures) ∙ not-true (c .before .is-legal .result) (c .if1 .taken)) (c .before .before .before .before .loop .inv .1)
+returns c =
+    judging-fails (c .before .before .before .before .before .args .config) (c .before .before .before .before .before .args .base)
+    (c .before .before .before .before .before .args .queued) (c .before .before .before .before .before .args .store .now)
+    (c .before .before .before .before .loop .k) (search needs) (let l = c .before .before .before .before .before .pre .3 in
+    let q = c .before .before .before .before .before .pre .1 in let r = c .before .before .before .before .before .pre .2 in
+    let i = c .before .before .before .before .loop .inv .0 in let t = c .before .before .before .loop-test .taken in omega arith) (sym
+    (c .before .is-legal .ensures) ∙ not-true (c .before .is-legal .result) (c .if1 .taken)) (c .before .before .before .before .loop .inv .1)
 
 add-k : tie.Need-add-k Inv-loop μ-loop
 add-k c = search needs
@@ -40,10 +46,20 @@ loop-less : tie.Need-loop-less Inv-loop μ-loop
 loop-less c = search needs
 
 loop-again : tie.Need-loop-again Inv-loop μ-loop
-loop-again c = (search needs, judging-next (c .before .before .before .before .before .args .config) (c .before .before .before .before .before .args .base) (c .before .before .before .before .before .args .queued) (c .before .before .before .before .before .args .store .now) (c .before .before .before .before .loop .k) (search needs) (let l = c .before .before .before .before .before .pre .3 in let q = c .before .before .before .before .before .pre .1 in let r = c .before .before .before .before .before .pre .2 in let i = c .before .before .before .before .loop .inv .0 in let t = c .before .before .before .loop-test .taken in omega arith) (sym (c .before .is-legal .ensures) ∙ not-false (c .before .is-legal .result) (c .if1 .left)) (c .before .before .before .before .loop .inv .1))
+loop-again c = (
+  search needs,
+  judging-next (c .before .before .before .before .before .args .config) (c .before .before .before .before .before .args .base)
+      (c .before .before .before .before .before .args .queued) (c .before .before .before .before .before .args .store .now)
+      (c .before .before .before .before .loop .k) (search needs) (let l = c .before .before .before .before .before .pre .3 in
+      let q = c .before .before .before .before .before .pre .1 in let r = c .before .before .before .before .before .pre .2 in
+      let i = c .before .before .before .before .loop .inv .0 in let t = c .before .before .before .loop-test .taken in omega arith) (sym
+      (c .before .is-legal .ensures) ∙ not-false (c .before .is-legal .result) (c .if1 .left)) (c .before .before .before .before .loop .inv .1),
+)
 
 returns-2 : tie.Need-returns-2 Inv-loop μ-loop
-returns-2 c = judging-done (c .before .before .args .config) (c .before .before .args .base) (c .before .before .args .queued) (c .before .before .args .store .now) (c .before .loop .k) (search needs) (c .before .loop .inv .1)
+returns-2 c =
+    judging-done (c .before .before .args .config) (c .before .before .args .base) (c .before .before .args .queued)
+    (c .before .before .args .store .now) (c .before .loop .k) (search needs) (c .before .loop .inv .1)
 
 pub is-queue-legal-spec : {M : Type 1} → statement M
 is-queue-legal-spec =

@@ -15,13 +15,16 @@ use Rattle.state.proofs.packets.reads.Statement.{statement}
 use Rattle.state.proofs.packets.reads.Tie as tie
 
 abbrev Inv-loop : tie.InvT-loop
-Inv-loop i v base queued start end store wire forward inside₀ k₀ inside k = (k ≤ queued) × ReadingQueue base queued store (wireFlits forward wire i v) (reading start (queueAt store base queued ++ wireFlits forward wire i v)) inside k
+Inv-loop i v base queued start end store wire forward inside₀ k₀ inside k =
+    (k ≤ queued) × ReadingQueue base queued store (wireFlits forward wire i v) (reading start
+    (queueAt store base queued ++ wireFlits forward wire i v)) inside k
 
 abbrev μ-loop : tie.MeasureT-loop
 μ-loop i v base queued start end store wire forward inside₀ k₀ inside k = queued - k
 
 abbrev Inv-loop2 : tie.InvT-loop2
-Inv-loop2 i v base queued start end store wire forward inside₀ k j₀ inside j = (j ≤ forward) × ReadingWire forward wire i v (reading start (queueAt store base queued ++ wireFlits forward wire i v)) inside j
+Inv-loop2 i v base queued start end store wire forward inside₀ k j₀ inside j =
+    (j ≤ forward) × ReadingWire forward wire i v (reading start (queueAt store base queued ++ wireFlits forward wire i v)) inside j
 
 abbrev μ-loop2 : tie.MeasureT-loop2
 μ-loop2 i v base queued start end store wire forward inside₀ k j₀ inside j = forward - j
@@ -30,7 +33,12 @@ cast-forward : tie.Need-cast-forward Inv-loop μ-loop Inv-loop2 μ-loop2
 cast-forward c = search needs
 
 loop-holds : tie.Need-loop-holds Inv-loop μ-loop Inv-loop2 μ-loop2
-loop-holds c = (search needs, queue-starts (c .before .args .base) (c .before .args .queued) (c .before .args .store .now) (wireFlits (c .before .args .config .forward) (c .before .args .wire .now) (c .before .args .i) (c .before .args .v)) (c .before .args .start) (c .before .pre .3))
+loop-holds c = (
+  search needs,
+  queue-starts (c .before .args .base) (c .before .args .queued) (c .before .args .store .now) (wireFlits
+      (c .before .args .config .forward) (c .before .args .wire .now) (c .before .args .i) (c .before .args .v)) (c .before .args .start)
+      (c .before .pre .3),
+)
 
 add-t20 : tie.Need-add-t20 Inv-loop μ-loop Inv-loop2 μ-loop2
 add-t20 c = search needs
@@ -49,7 +57,29 @@ may-come-requires c κs = search needs
 
 returns : tie.Need-returns Inv-loop μ-loop Inv-loop2 μ-loop2
 unfolding wireOf
-returns c = ap (endsAs (c .before .before .before .before .before .before .before .args .end)) (queue-fails (c .before .before .before .before .before .before .before .args .base) (c .before .before .before .before .before .before .before .args .queued) (c .before .before .before .before .before .before .before .args .store .now) (wireFlits (c .before .before .before .before .before .before .before .args .config .forward) (c .before .before .before .before .before .before .before .args .wire .now) (c .before .before .before .before .before .before .before .args .i) (c .before .before .before .before .before .before .before .args .v)) (reading (c .before .before .before .before .before .before .before .args .start) (queueAt (c .before .before .before .before .before .before .before .args .store .now) (c .before .before .before .before .before .before .before .args .base) (c .before .before .before .before .before .before .before .args .queued) ++ wireFlits (c .before .before .before .before .before .before .before .args .config .forward) (c .before .before .before .before .before .before .before .args .wire .now) (c .before .before .before .before .before .before .before .args .i) (c .before .before .before .before .before .before .before .args .v))) (c .before .before .before .before .before .loop .inside) (c .before .before .before .before .before .loop .k) (search needs) (let l = c .before .before .before .before .before .before .before .pre .4 in let q = c .before .before .before .before .before .before .before .pre .2 in let r = c .before .before .before .before .before .before .before .pre .3 in let i = c .before .before .before .before .before .loop .inv .0 in let t = c .before .before .before .before .loop-test .taken in omega arith) (ap (λ k. xor (c .before .before .before .before .before .loop .inside) (startsKind k)) (sym (c .before .before .kind .ensures)) ∙ sym (c .before .may-come .ensures) ∙ not-true (c .before .may-come .result) (c .if1 .taken)) (c .before .before .before .before .before .loop .inv .1))
+returns c =
+    ap (endsAs (c .before .before .before .before .before .before .before .args .end)) (queue-fails
+    (c .before .before .before .before .before .before .before .args .base)
+    (c .before .before .before .before .before .before .before .args .queued)
+    (c .before .before .before .before .before .before .before .args .store .now) (wireFlits
+    (c .before .before .before .before .before .before .before .args .config .forward)
+    (c .before .before .before .before .before .before .before .args .wire .now)
+    (c .before .before .before .before .before .before .before .args .i) (c .before .before .before .before .before .before .before .args .v))
+    (reading (c .before .before .before .before .before .before .before .args .start) (queueAt
+    (c .before .before .before .before .before .before .before .args .store .now)
+    (c .before .before .before .before .before .before .before .args .base)
+    (c .before .before .before .before .before .before .before .args .queued) ++ wireFlits
+    (c .before .before .before .before .before .before .before .args .config .forward)
+    (c .before .before .before .before .before .before .before .args .wire .now)
+    (c .before .before .before .before .before .before .before .args .i) (c .before .before .before .before .before .before .before .args .v)))
+    (c .before .before .before .before .before .loop .inside) (c .before .before .before .before .before .loop .k) (search needs)
+    (let l = c .before .before .before .before .before .before .before .pre .4 in
+    let q = c .before .before .before .before .before .before .before .pre .2 in
+    let r = c .before .before .before .before .before .before .before .pre .3 in let i = c .before .before .before .before .before .loop .inv .0 in
+    let t = c .before .before .before .before .loop-test .taken in omega arith) (ap (λ k. xor
+    (c .before .before .before .before .before .loop .inside) (startsKind k)) (sym (c .before .before .kind .ensures)) ∙ sym
+    (c .before .may-come .ensures) ∙ not-true (c .before .may-come .result) (c .if1 .taken))
+    (c .before .before .before .before .before .loop .inv .1))
 
 stays-open-requires : tie.Need-stays-open-requires Inv-loop μ-loop Inv-loop2 μ-loop2
 stays-open-requires c κs = search needs
@@ -62,11 +92,53 @@ loop-less c = search needs
 
 loop-again : tie.Need-loop-again Inv-loop μ-loop Inv-loop2 μ-loop2
 loop-again c =
-    let e = c .stays-open .ensures ∙ ap (λ k. not (endsKind k)) (c .before .before .before .kind .ensures) in
-    (search needs, ap (λ (b : Bool). reading b (left (c .before .before .before .before .before .before .before .before .args .store .now) (c .before .before .before .before .before .before .before .before .args .base) (c .before .before .before .before .before .before .before .before .args .queued) (c .before .before .before .before .before .before .loop .k + 1) ++ (wireFlits (c .before .before .before .before .before .before .before .before .args .config .forward) (c .before .before .before .before .before .before .before .before .args .wire .now) (c .before .before .before .before .before .before .before .before .args .i) (c .before .before .before .before .before .before .before .before .args .v)))) e ∙ queue-next (c .before .before .before .before .before .before .before .before .args .base) (c .before .before .before .before .before .before .before .before .args .queued) (c .before .before .before .before .before .before .before .before .args .store .now) (wireFlits (c .before .before .before .before .before .before .before .before .args .config .forward) (c .before .before .before .before .before .before .before .before .args .wire .now) (c .before .before .before .before .before .before .before .before .args .i) (c .before .before .before .before .before .before .before .before .args .v)) (reading (c .before .before .before .before .before .before .before .before .args .start) (queueAt (c .before .before .before .before .before .before .before .before .args .store .now) (c .before .before .before .before .before .before .before .before .args .base) (c .before .before .before .before .before .before .before .before .args .queued) ++ wireFlits (c .before .before .before .before .before .before .before .before .args .config .forward) (c .before .before .before .before .before .before .before .before .args .wire .now) (c .before .before .before .before .before .before .before .before .args .i) (c .before .before .before .before .before .before .before .before .args .v))) (c .before .before .before .before .before .before .loop .inside) (c .before .before .before .before .before .before .loop .k) (search needs) (let l = c .before .before .before .before .before .before .before .before .pre .4 in let q = c .before .before .before .before .before .before .before .before .pre .2 in let r = c .before .before .before .before .before .before .before .before .pre .3 in let i = c .before .before .before .before .before .before .loop .inv .0 in let t = c .before .before .before .before .before .loop-test .taken in omega arith) (ap (λ k. xor (c .before .before .before .before .before .before .loop .inside) (startsKind k)) (sym (c .before .before .before .kind .ensures)) ∙ sym (c .before .before .may-come .ensures) ∙ not-false (c .before .before .may-come .result) (c .before .if1 .left)) (c .before .before .before .before .before .before .loop .inv .1))
+    let e = c .stays-open .ensures ∙ ap (λ k. not (endsKind k)) (c .before .before .before .kind .ensures) in (
+      search needs,
+      ap (λ (b : Bool). reading b (left (c .before .before .before .before .before .before .before .before .args .store .now)
+          (c .before .before .before .before .before .before .before .before .args .base)
+          (c .before .before .before .before .before .before .before .before .args .queued)
+          (c .before .before .before .before .before .before .loop .k + 1) ++ (wireFlits
+          (c .before .before .before .before .before .before .before .before .args .config .forward)
+          (c .before .before .before .before .before .before .before .before .args .wire .now)
+          (c .before .before .before .before .before .before .before .before .args .i)
+          (c .before .before .before .before .before .before .before .before .args .v)))) e ∙ queue-next
+          (c .before .before .before .before .before .before .before .before .args .base)
+          (c .before .before .before .before .before .before .before .before .args .queued)
+          (c .before .before .before .before .before .before .before .before .args .store .now) (wireFlits
+          (c .before .before .before .before .before .before .before .before .args .config .forward)
+          (c .before .before .before .before .before .before .before .before .args .wire .now)
+          (c .before .before .before .before .before .before .before .before .args .i)
+          (c .before .before .before .before .before .before .before .before .args .v)) (reading
+          (c .before .before .before .before .before .before .before .before .args .start) (queueAt
+          (c .before .before .before .before .before .before .before .before .args .store .now)
+          (c .before .before .before .before .before .before .before .before .args .base)
+          (c .before .before .before .before .before .before .before .before .args .queued) ++ wireFlits
+          (c .before .before .before .before .before .before .before .before .args .config .forward)
+          (c .before .before .before .before .before .before .before .before .args .wire .now)
+          (c .before .before .before .before .before .before .before .before .args .i)
+          (c .before .before .before .before .before .before .before .before .args .v)))
+          (c .before .before .before .before .before .before .loop .inside) (c .before .before .before .before .before .before .loop .k)
+          (search needs) (let l = c .before .before .before .before .before .before .before .before .pre .4 in
+          let q = c .before .before .before .before .before .before .before .before .pre .2 in
+          let r = c .before .before .before .before .before .before .before .before .pre .3 in
+          let i = c .before .before .before .before .before .before .loop .inv .0 in
+          let t = c .before .before .before .before .before .loop-test .taken in omega arith) (ap (λ k. xor
+          (c .before .before .before .before .before .before .loop .inside) (startsKind k)) (sym (c .before .before .before .kind .ensures)) ∙ sym
+          (c .before .before .may-come .ensures) ∙ not-false (c .before .before .may-come .result) (c .before .if1 .left))
+          (c .before .before .before .before .before .before .loop .inv .1),
+    )
 
 loop2-holds : tie.Need-loop2-holds Inv-loop μ-loop Inv-loop2 μ-loop2
-loop2-holds c = (search needs, wire-starts (c .before .before .before .args .config .forward) (c .before .before .before .args .wire .now) (c .before .before .before .args .i) (c .before .before .before .args .v) (c .before .before .before .args .base) (c .before .before .before .args .queued) (c .before .before .before .args .store .now) (reading (c .before .before .before .args .start) (queueAt (c .before .before .before .args .store .now) (c .before .before .before .args .base) (c .before .before .before .args .queued) ++ wireFlits (c .before .before .before .args .config .forward) (c .before .before .before .args .wire .now) (c .before .before .before .args .i) (c .before .before .before .args .v))) (c .before .loop .inside) (c .before .loop .k) (search needs) (c .before .loop .inv .1))
+loop2-holds c = (
+  search needs,
+  wire-starts (c .before .before .before .args .config .forward) (c .before .before .before .args .wire .now)
+      (c .before .before .before .args .i) (c .before .before .before .args .v) (c .before .before .before .args .base)
+      (c .before .before .before .args .queued) (c .before .before .before .args .store .now) (reading (c .before .before .before .args .start)
+      (queueAt (c .before .before .before .args .store .now) (c .before .before .before .args .base)
+      (c .before .before .before .args .queued) ++ wireFlits (c .before .before .before .args .config .forward)
+      (c .before .before .before .args .wire .now) (c .before .before .before .args .i) (c .before .before .before .args .v)))
+      (c .before .loop .inside) (c .before .loop .k) (search needs) (c .before .loop .inv .1),
+)
 
 mul-place : tie.Need-mul-place Inv-loop μ-loop Inv-loop2 μ-loop2
 mul-place c = search needs
@@ -90,7 +162,23 @@ loop2-less : tie.Need-loop2-less Inv-loop μ-loop Inv-loop2 μ-loop2
 loop2-less c = search needs
 
 loop2-again : tie.Need-loop2-again Inv-loop μ-loop Inv-loop2 μ-loop2
-loop2-again c = (search needs, wire-passes (c .before .before .before .before .before .before .before .before .args .config .forward) (c .before .before .before .before .before .before .before .before .args .wire .now) (c .before .before .before .before .before .before .before .before .args .i) (c .before .before .before .before .before .before .before .before .args .v) (reading (c .before .before .before .before .before .before .before .before .args .start) (queueAt (c .before .before .before .before .before .before .before .before .args .store .now) (c .before .before .before .before .before .before .before .before .args .base) (c .before .before .before .before .before .before .before .before .args .queued) ++ wireFlits (c .before .before .before .before .before .before .before .before .args .config .forward) (c .before .before .before .before .before .before .before .before .args .wire .now) (c .before .before .before .before .before .before .before .before .args .i) (c .before .before .before .before .before .before .before .before .args .v))) (c .before .before .before .before .loop2 .inside) (c .before .before .before .before .loop2 .j) (search needs) (sym (c .before .is-on .ensures) ∙ not-true (c .before .is-on .result) (c .if2 .taken)) (c .before .before .before .before .loop2 .inv .1))
+loop2-again c = (
+  search needs,
+  wire-passes (c .before .before .before .before .before .before .before .before .args .config .forward)
+      (c .before .before .before .before .before .before .before .before .args .wire .now)
+      (c .before .before .before .before .before .before .before .before .args .i)
+      (c .before .before .before .before .before .before .before .before .args .v) (reading
+      (c .before .before .before .before .before .before .before .before .args .start) (queueAt
+      (c .before .before .before .before .before .before .before .before .args .store .now)
+      (c .before .before .before .before .before .before .before .before .args .base)
+      (c .before .before .before .before .before .before .before .before .args .queued) ++ wireFlits
+      (c .before .before .before .before .before .before .before .before .args .config .forward)
+      (c .before .before .before .before .before .before .before .before .args .wire .now)
+      (c .before .before .before .before .before .before .before .before .args .i)
+      (c .before .before .before .before .before .before .before .before .args .v))) (c .before .before .before .before .loop2 .inside)
+      (c .before .before .before .before .loop2 .j) (search needs) (sym (c .before .is-on .ensures) ∙ not-true (c .before .is-on .result)
+      (c .if2 .taken)) (c .before .before .before .before .loop2 .inv .1),
+)
 
 kind-requires-2 : tie.Need-kind-requires-2 Inv-loop μ-loop Inv-loop2 μ-loop2
 kind-requires-2 c κs = search needs
@@ -100,7 +188,25 @@ may-come-requires-2 c κs = search needs
 
 returns-2 : tie.Need-returns-2 Inv-loop μ-loop Inv-loop2 μ-loop2
 unfolding wireOf
-returns-2 c = ap (endsAs (c .before .before .before .before .before .before .before .before .before .before .before .args .end)) (wire-fails (c .before .before .before .before .before .before .before .before .before .before .before .args .config .forward) (c .before .before .before .before .before .before .before .before .before .before .before .args .wire .now) (c .before .before .before .before .before .before .before .before .before .before .before .args .i) (c .before .before .before .before .before .before .before .before .before .before .before .args .v) (reading (c .before .before .before .before .before .before .before .before .before .before .before .args .start) (queueAt (c .before .before .before .before .before .before .before .before .before .before .before .args .store .now) (c .before .before .before .before .before .before .before .before .before .before .before .args .base) (c .before .before .before .before .before .before .before .before .before .before .before .args .queued) ++ wireFlits (c .before .before .before .before .before .before .before .before .before .before .before .args .config .forward) (c .before .before .before .before .before .before .before .before .before .before .before .args .wire .now) (c .before .before .before .before .before .before .before .before .before .before .before .args .i) (c .before .before .before .before .before .before .before .before .before .before .before .args .v))) (c .before .before .before .before .before .before .before .loop2 .inside) (c .before .before .before .before .before .before .before .loop2 .j) (search needs) (sym (c .before .before .before .before .is-on .ensures) ∙ not-false (c .before .before .before .before .is-on .result) (c .before .before .before .if2 .left)) (ap (λ k. xor (c .before .before .before .before .before .before .before .loop2 .inside) (startsKind k)) (sym (c .before .before .kind2 .ensures)) ∙ sym (c .before .may-come2 .ensures) ∙ not-true (c .before .may-come2 .result) (c .if3 .taken)) (c .before .before .before .before .before .before .before .loop2 .inv .1))
+returns-2 c =
+    ap (endsAs (c .before .before .before .before .before .before .before .before .before .before .before .args .end)) (wire-fails
+    (c .before .before .before .before .before .before .before .before .before .before .before .args .config .forward)
+    (c .before .before .before .before .before .before .before .before .before .before .before .args .wire .now)
+    (c .before .before .before .before .before .before .before .before .before .before .before .args .i)
+    (c .before .before .before .before .before .before .before .before .before .before .before .args .v) (reading
+    (c .before .before .before .before .before .before .before .before .before .before .before .args .start) (queueAt
+    (c .before .before .before .before .before .before .before .before .before .before .before .args .store .now)
+    (c .before .before .before .before .before .before .before .before .before .before .before .args .base)
+    (c .before .before .before .before .before .before .before .before .before .before .before .args .queued) ++ wireFlits
+    (c .before .before .before .before .before .before .before .before .before .before .before .args .config .forward)
+    (c .before .before .before .before .before .before .before .before .before .before .before .args .wire .now)
+    (c .before .before .before .before .before .before .before .before .before .before .before .args .i)
+    (c .before .before .before .before .before .before .before .before .before .before .before .args .v)))
+    (c .before .before .before .before .before .before .before .loop2 .inside) (c .before .before .before .before .before .before .before .loop2 .j)
+    (search needs) (sym (c .before .before .before .before .is-on .ensures) ∙ not-false (c .before .before .before .before .is-on .result)
+    (c .before .before .before .if2 .left)) (ap (λ k. xor (c .before .before .before .before .before .before .before .loop2 .inside) (startsKind k))
+    (sym (c .before .before .kind2 .ensures)) ∙ sym (c .before .may-come2 .ensures) ∙ not-true (c .before .may-come2 .result) (c .if3 .taken))
+    (c .before .before .before .before .before .before .before .loop2 .inv .1))
 
 stays-open-requires-2 : tie.Need-stays-open-requires-2 Inv-loop μ-loop Inv-loop2 μ-loop2
 stays-open-requires-2 c κs = search needs
@@ -110,12 +216,43 @@ loop2-less-2 c = search needs
 
 loop2-again-2 : tie.Need-loop2-again-2 Inv-loop μ-loop Inv-loop2 μ-loop2
 loop2-again-2 c =
-    let e = c .stays-open2 .ensures ∙ ap (λ k. not (endsKind k)) (c .before .before .before .kind2 .ensures) in
-    (search needs, ap (λ (b : Bool). readingAt (c .before .before .before .before .before .before .before .before .before .before .before .before .args .config .forward) (c .before .before .before .before .before .before .before .before .before .before .before .before .args .wire .now) (c .before .before .before .before .before .before .before .before .before .before .before .before .args .i) (c .before .before .before .before .before .before .before .before .before .before .before .before .args .v) b (c .before .before .before .before .before .before .before .before .loop2 .j + 1)) e ∙ wire-next (c .before .before .before .before .before .before .before .before .before .before .before .before .args .config .forward) (c .before .before .before .before .before .before .before .before .before .before .before .before .args .wire .now) (c .before .before .before .before .before .before .before .before .before .before .before .before .args .i) (c .before .before .before .before .before .before .before .before .before .before .before .before .args .v) (reading (c .before .before .before .before .before .before .before .before .before .before .before .before .args .start) (queueAt (c .before .before .before .before .before .before .before .before .before .before .before .before .args .store .now) (c .before .before .before .before .before .before .before .before .before .before .before .before .args .base) (c .before .before .before .before .before .before .before .before .before .before .before .before .args .queued) ++ wireFlits (c .before .before .before .before .before .before .before .before .before .before .before .before .args .config .forward) (c .before .before .before .before .before .before .before .before .before .before .before .before .args .wire .now) (c .before .before .before .before .before .before .before .before .before .before .before .before .args .i) (c .before .before .before .before .before .before .before .before .before .before .before .before .args .v))) (c .before .before .before .before .before .before .before .before .loop2 .inside) (c .before .before .before .before .before .before .before .before .loop2 .j) (search needs) (sym (c .before .before .before .before .before .is-on .ensures) ∙ not-false (c .before .before .before .before .before .is-on .result) (c .before .before .before .before .if2 .left)) (ap (λ k. xor (c .before .before .before .before .before .before .before .before .loop2 .inside) (startsKind k)) (sym (c .before .before .before .kind2 .ensures)) ∙ sym (c .before .before .may-come2 .ensures) ∙ not-false (c .before .before .may-come2 .result) (c .before .if3 .left)) (c .before .before .before .before .before .before .before .before .loop2 .inv .1))
+    let e = c .stays-open2 .ensures ∙ ap (λ k. not (endsKind k)) (c .before .before .before .kind2 .ensures) in (
+      search needs,
+      ap (λ (b : Bool). readingAt (c .before .before .before .before .before .before .before .before .before .before .before .before
+          .args .config .forward) (c .before .before .before .before .before .before .before .before .before .before .before .before .args .wire .now)
+          (c .before .before .before .before .before .before .before .before .before .before .before .before .args .i)
+          (c .before .before .before .before .before .before .before .before .before .before .before .before .args .v) b
+          (c .before .before .before .before .before .before .before .before .loop2 .j + 1)) e ∙ wire-next
+          (c .before .before .before .before .before .before .before .before .before .before .before .before .args .config .forward)
+          (c .before .before .before .before .before .before .before .before .before .before .before .before .args .wire .now)
+          (c .before .before .before .before .before .before .before .before .before .before .before .before .args .i)
+          (c .before .before .before .before .before .before .before .before .before .before .before .before .args .v) (reading
+          (c .before .before .before .before .before .before .before .before .before .before .before .before .args .start) (queueAt
+          (c .before .before .before .before .before .before .before .before .before .before .before .before .args .store .now)
+          (c .before .before .before .before .before .before .before .before .before .before .before .before .args .base)
+          (c .before .before .before .before .before .before .before .before .before .before .before .before .args .queued) ++ wireFlits
+          (c .before .before .before .before .before .before .before .before .before .before .before .before .args .config .forward)
+          (c .before .before .before .before .before .before .before .before .before .before .before .before .args .wire .now)
+          (c .before .before .before .before .before .before .before .before .before .before .before .before .args .i)
+          (c .before .before .before .before .before .before .before .before .before .before .before .before .args .v)))
+          (c .before .before .before .before .before .before .before .before .loop2 .inside)
+          (c .before .before .before .before .before .before .before .before .loop2 .j) (search needs) (sym
+          (c .before .before .before .before .before .is-on .ensures) ∙ not-false (c .before .before .before .before .before .is-on .result)
+          (c .before .before .before .before .if2 .left)) (ap (λ k. xor (c .before .before .before .before .before .before .before .before .loop2 .inside)
+          (startsKind k)) (sym (c .before .before .before .kind2 .ensures)) ∙ sym (c .before .before .may-come2 .ensures) ∙ not-false
+          (c .before .before .may-come2 .result) (c .before .if3 .left)) (c .before .before .before .before .before .before .before .before .loop2 .inv .1),
+    )
 
 returns-3 : tie.Need-returns-3 Inv-loop μ-loop Inv-loop2 μ-loop2
 unfolding wireOf
-returns-3 c = ap (endsAs (c .before .before .before .before .before .args .end)) (wire-ends (c .before .before .before .before .before .args .config .forward) (c .before .before .before .before .before .args .wire .now) (c .before .before .before .before .before .args .i) (c .before .before .before .before .before .args .v) (reading (c .before .before .before .before .before .args .start) (queueAt (c .before .before .before .before .before .args .store .now) (c .before .before .before .before .before .args .base) (c .before .before .before .before .before .args .queued) ++ wireFlits (c .before .before .before .before .before .args .config .forward) (c .before .before .before .before .before .args .wire .now) (c .before .before .before .before .before .args .i) (c .before .before .before .before .before .args .v))) (c .before .loop2 .inside) (c .before .loop2 .j) (search needs) (c .before .loop2 .inv .1))
+returns-3 c =
+    ap (endsAs (c .before .before .before .before .before .args .end)) (wire-ends (c .before .before .before .before .before .args .config .forward)
+    (c .before .before .before .before .before .args .wire .now) (c .before .before .before .before .before .args .i)
+    (c .before .before .before .before .before .args .v) (reading (c .before .before .before .before .before .args .start) (queueAt
+    (c .before .before .before .before .before .args .store .now) (c .before .before .before .before .before .args .base)
+    (c .before .before .before .before .before .args .queued) ++ wireFlits (c .before .before .before .before .before .args .config .forward)
+    (c .before .before .before .before .before .args .wire .now) (c .before .before .before .before .before .args .i)
+    (c .before .before .before .before .before .args .v))) (c .before .loop2 .inside) (c .before .loop2 .j) (search needs) (c .before .loop2 .inv .1))
 
 pub reads-spec : {M : Type 1} → statement M
 reads-spec =

@@ -35,7 +35,9 @@ enum-told : tie.Need-enum-told
 enum-told c = search needs
 
 returns : tie.Need-returns
-returns c = illegal-refused (c .before .before .before .before .args .router) _ (sym (c .before .before .judged .ensures) ∙ ap fieldOf (c .enum-told .given .1))
+returns c =
+    illegal-refused (c .before .before .before .before .args .router) _ (sym (c .before .before .judged .ensures) ∙ ap fieldOf
+    (c .enum-told .given .1))
 
 enum-told-2 : tie.Need-enum-told-2
 enum-told-2 c = search needs
@@ -44,52 +46,155 @@ returns-2 : tie.Need-returns-2
 returns-2 c = late-refused (c .before .before .before .before .before .before .args .router) (c .if1 .taken)
 
 is-wire-sound-requires : tie.Need-is-wire-sound-requires
-is-wire-sound-requires c κs = let b = (legal-bounded (c .before .before .before .before .before .before .before .before .args .router .config) (sym (c .before .before .before .before .before .before .judged .ensures) ∙ ap fieldOf (c .before .before .before .before .enum-told2 .given .1))) in (b .ports, b .forward)
+is-wire-sound-requires c κs =
+    let b = (legal-bounded (c .before .before .before .before .before .before .before .before .args .router .config) (sym
+    (c .before .before .before .before .before .before .judged .ensures) ∙ ap fieldOf (c .before .before .before .before .enum-told2 .given .1))) in
+    (b .ports, b .forward)
 
 returns-3 : tie.Need-returns-3
-returns-3 c = refused (c .before .before .before .before .before .before .before .before .before .before .args .router) (wireLegal (c .before .before .before .before .before .before .before .before .before .before .args .router .config) (c .before .before .before .before .before .before .before .before .before .before .args .router .wire) && lineUnused (c .before .before .before .before .before .before .before .before .before .before .args .router .config .forward) (c .before .before .before .before .before .before .before .before .before .before .args .router .config .ports) (c .before .before .before .before .before .before .before .before .before .before .args .router .wire)) (sound-wire (c .before .before .before .before .before .before .before .before .before .before .args .router)) (sym (c .before .is-wire-sound .ensures) ∙ not-true (c .before .is-wire-sound .result) (c .if2 .taken))
+returns-3 c =
+    refused (c .before .before .before .before .before .before .before .before .before .before .args .router) (wireLegal
+    (c .before .before .before .before .before .before .before .before .before .before .args .router .config)
+    (c .before .before .before .before .before .before .before .before .before .before .args .router .wire) && lineUnused
+    (c .before .before .before .before .before .before .before .before .before .before .args .router .config .forward)
+    (c .before .before .before .before .before .before .before .before .before .before .args .router .config .ports)
+    (c .before .before .before .before .before .before .before .before .before .before .args .router .wire)) (sound-wire
+    (c .before .before .before .before .before .before .before .before .before .before .args .router)) (sym
+    (c .before .is-wire-sound .ensures) ∙ not-true (c .before .is-wire-sound .result) (c .if2 .taken))
 
 is-home-sound-requires : tie.Need-is-home-sound-requires
-is-home-sound-requires c κs = let b = (legal-bounded (c .before .before .before .before .before .before .before .before .before .before .before .before .args .router .config) (sym (c .before .before .before .before .before .before .before .before .before .before .judged .ensures) ∙ ap fieldOf (c .before .before .before .before .before .before .before .before .enum-told2 .given .1))) in (b .ports, b .back)
+is-home-sound-requires c κs =
+    let b = (legal-bounded (c .before .before .before .before .before .before .before .before .before .before .before .before .args .router .config)
+    (sym (c .before .before .before .before .before .before .before .before .before .before .judged .ensures) ∙ ap fieldOf
+    (c .before .before .before .before .before .before .before .before .enum-told2 .given .1))) in (b .ports, b .back)
 
 returns-4 : tie.Need-returns-4
-returns-4 c = refused (c .before .before .before .before .before .before .before .before .before .before .before .before .before .before .args .router) (homeLegal (c .before .before .before .before .before .before .before .before .before .before .before .before .before .before .args .router .config) (c .before .before .before .before .before .before .before .before .before .before .before .before .before .before .args .router .home) && lineUnused (c .before .before .before .before .before .before .before .before .before .before .before .before .before .before .args .router .config .back) (c .before .before .before .before .before .before .before .before .before .before .before .before .before .before .args .router .config .ports) (c .before .before .before .before .before .before .before .before .before .before .before .before .before .before .args .router .home)) (sound-home (c .before .before .before .before .before .before .before .before .before .before .before .before .before .before .args .router)) (sym (c .before .is-home-sound .ensures) ∙ not-true (c .before .is-home-sound .result) (c .if3 .taken))
+returns-4 c =
+    refused (c .before .before .before .before .before .before .before .before .before .before .before .before .before .before .args .router)
+    (homeLegal (c .before .before .before .before .before .before .before .before .before .before .before .before .before .before .args .router
+    .config) (c .before .before .before .before .before .before .before .before .before .before .before .before .before .before .args .router .home)
+    && lineUnused (c .before .before .before .before .before .before .before .before .before .before .before .before .before .before .args .router
+    .config .back) (c .before .before .before .before .before .before .before .before .before .before .before .before .before .before .args .router
+    .config .ports) (c .before .before .before .before .before .before .before .before .before .before .before .before .before .before .args .router
+    .home)) (sound-home (c .before .before .before .before .before .before .before .before .before .before .before .before .before .before .args
+    .router)) (sym (c .before .is-home-sound .ensures) ∙ not-true (c .before .is-home-sound .result) (c .if3 .taken))
 
 are-sound-requires : tie.Need-are-sound-requires
-are-sound-requires c κs = (legal-bounded (c .before .before .before .before .before .before .before .before .before .before .before .before .before .before .before .before .before .before .args .router .config) (sym (c .before .before .before .before .before .before .before .before .before .before .before .before .before .before .before .before .judged .ensures) ∙ ap fieldOf (c .before .before .before .before .before .before .before .before .before .before .before .before .before .before .enum-told2 .given .1)))
+are-sound-requires c κs =
+    (legal-bounded (c .before .before .before .before .before .before .before .before .before .before .before .before .before .before .before .before
+    .before .before .args .router .config) (sym (c .before .before .before .before .before .before .before .before .before .before .before .before
+    .before .before .before .before .judged .ensures) ∙ ap fieldOf
+    (c .before .before .before .before .before .before .before .before .before .before .before .before .before .before .enum-told2 .given .1)))
 
 returns-5 : tie.Need-returns-5
-returns-5 c = refused (c .before .before .before .before .before .before .before .before .before .before .before .before .before .before .before .before .before .before .before .before .args .router) (arbitersSound (c .before .before .before .before .before .before .before .before .before .before .before .before .before .before .before .before .before .before .before .before .args .router .config) (c .before .before .before .before .before .before .before .before .before .before .before .before .before .before .before .before .before .before .before .before .args .router .arbiters)) (λ x. x .arbiters) (sym (c .before .are-sound .ensures) ∙ not-true (c .before .are-sound .result) (c .if4 .taken))
+returns-5 c =
+    refused (c .before .before .before .before .before .before .before .before .before .before .before .before .before .before .before .before
+    .before .before .before .before .args .router) (arbitersSound
+    (c .before .before .before .before .before .before .before .before .before .before .before .before .before .before .before .before .before
+    .before .before .before .args .router .config) (c .before .before .before .before .before .before .before .before .before .before .before .before
+    .before .before .before .before .before .before .before .before .args .router .arbiters)) (λ x. x .arbiters) (sym
+    (c .before .are-sound .ensures) ∙ not-true (c .before .are-sound .result) (c .if4 .taken))
 
 are-unused-requires : tie.Need-are-unused-requires
-are-unused-requires c κs = (legal-bounded (c .before .before .before .before .before .before .before .before .before .before .before .before .before .before .before .before .before .before .before .before .args .router .config) (sym (c .before .before .before .before .before .before .before .before .before .before .before .before .before .before .before .before .before .before .judged .ensures) ∙ ap fieldOf (c .before .before .before .before .before .before .before .before .before .before .before .before .before .before .before .before .enum-told2 .given .1)))
+are-unused-requires c κs =
+    (legal-bounded (c .before .before .before .before .before .before .before .before .before .before .before .before .before .before .before .before
+    .before .before .before .before .args .router .config) (sym (c .before .before .before .before .before .before .before .before .before .before
+    .before .before .before .before .before .before .before .before .judged .ensures) ∙ ap fieldOf
+    (c .before .before .before .before .before .before .before .before .before .before .before .before .before .before .before .before .enum-told2
+    .given .1)))
 
 returns-6 : tie.Need-returns-6
-returns-6 c = refused (c .before .before .before .before .before .before .before .before .before .before .before .before .before .before .before .before .before .before .before .before .before .before .args .router) (arbitersUnused (c .before .before .before .before .before .before .before .before .before .before .before .before .before .before .before .before .before .before .before .before .before .before .args .router .config) (c .before .before .before .before .before .before .before .before .before .before .before .before .before .before .before .before .before .before .before .before .before .before .args .router .arbiters)) (λ x. x .others) (sym (c .before .are-unused .ensures) ∙ not-true (c .before .are-unused .result) (c .if5 .taken))
+returns-6 c =
+    refused (c .before .before .before .before .before .before .before .before .before .before .before .before .before .before .before .before
+    .before .before .before .before .before .before .args .router) (arbitersUnused
+    (c .before .before .before .before .before .before .before .before .before .before .before .before .before .before .before .before .before
+    .before .before .before .before .before .args .router .config)
+    (c .before .before .before .before .before .before .before .before .before .before .before .before .before .before .before .before .before
+    .before .before .before .before .before .args .router .arbiters)) (λ x. x .others) (sym (c .before .are-unused .ensures) ∙ not-true
+    (c .before .are-unused .result) (c .if5 .taken))
 
 are-unused-requires-2 : tie.Need-are-unused-requires-2
-are-unused-requires-2 c κs = (legal-bounded (c .before .before .before .before .before .before .before .before .before .before .before .before .before .before .before .before .before .before .before .before .before .before .before .before .args .router .config) (sym (c .before .before .before .before .before .before .before .before .before .before .before .before .before .before .before .before .before .before .before .before .before .before .judged .ensures) ∙ ap fieldOf (c .before .before .before .before .before .before .before .before .before .before .before .before .before .before .before .before .before .before .before .before .enum-told2 .given .1)))
+are-unused-requires-2 c κs =
+    (legal-bounded (c .before .before .before .before .before .before .before .before .before .before .before .before .before .before .before .before
+    .before .before .before .before .before .before .before .before .args .router .config) (sym
+    (c .before .before .before .before .before .before .before .before .before .before .before .before .before .before .before .before .before
+    .before .before .before .before .before .judged .ensures) ∙ ap fieldOf
+    (c .before .before .before .before .before .before .before .before .before .before .before .before .before .before .before .before .before
+    .before .before .before .enum-told2 .given .1)))
 
 returns-7 : tie.Need-returns-7
-returns-7 c = refused (c .before .before .before .before .before .before .before .before .before .before .before .before .before .before .before .before .before .before .before .before .before .before .before .before .before .before .args .router) (channelsUnused (c .before .before .before .before .before .before .before .before .before .before .before .before .before .before .before .before .before .before .before .before .before .before .before .before .before .before .args .router .config) (c .before .before .before .before .before .before .before .before .before .before .before .before .before .before .before .before .before .before .before .before .before .before .before .before .before .before .args .router .inputs) (c .before .before .before .before .before .before .before .before .before .before .before .before .before .before .before .before .before .before .before .before .before .before .before .before .before .before .args .router .outputs)) (λ x. x .channels) (sym (c .before .are-unused2 .ensures) ∙ not-true (c .before .are-unused2 .result) (c .if6 .taken))
+returns-7 c =
+    refused (c .before .before .before .before .before .before .before .before .before .before .before .before .before .before .before .before
+    .before .before .before .before .before .before .before .before .before .before .args .router) (channelsUnused
+    (c .before .before .before .before .before .before .before .before .before .before .before .before .before .before .before .before .before
+    .before .before .before .before .before .before .before .before .before .args .router .config)
+    (c .before .before .before .before .before .before .before .before .before .before .before .before .before .before .before .before .before
+    .before .before .before .before .before .before .before .before .before .args .router .inputs)
+    (c .before .before .before .before .before .before .before .before .before .before .before .before .before .before .before .before .before
+    .before .before .before .before .before .before .before .before .before .args .router .outputs)) (λ x. x .channels) (sym
+    (c .before .are-unused2 .ensures) ∙ not-true (c .before .are-unused2 .result) (c .if6 .taken))
 
 are-slots-empty-requires : tie.Need-are-slots-empty-requires
 are-slots-empty-requires c κs = search needs
 
 returns-8 : tie.Need-returns-8
-returns-8 c = refused (c .before .before .before .before .before .before .before .before .before .before .before .before .before .before .before .before .before .before .before .before .before .before .before .before .before .before .before .before .before .before .args .router) (slotsEmpty (c .before .before .before .before .before .before .before .before .before .before .before .before .before .before .before .before .before .before .before .before .before .before .before .before .before .before .before .before .before .before .args .router .inputs) (c .before .before .before .before .before .before .before .before .before .before .before .before .before .before .before .before .before .before .before .before .before .before .before .before .before .before .before .before .before .before .args .router .store)) (λ x. x .slots) (sym (c .before .are-slots-empty .ensures) ∙ not-true (c .before .are-slots-empty .result) (c .if7 .taken))
+returns-8 c =
+    refused (c .before .before .before .before .before .before .before .before .before .before .before .before .before .before .before .before
+    .before .before .before .before .before .before .before .before .before .before .before .before .before .before .args .router) (slotsEmpty
+    (c .before .before .before .before .before .before .before .before .before .before .before .before .before .before .before .before .before
+    .before .before .before .before .before .before .before .before .before .before .before .before .before .args .router .inputs)
+    (c .before .before .before .before .before .before .before .before .before .before .before .before .before .before .before .before .before
+    .before .before .before .before .before .before .before .before .before .before .before .before .before .args .router .store)) (λ x. x .slots)
+    (sym (c .before .are-slots-empty .ensures) ∙ not-true (c .before .are-slots-empty .result) (c .if7 .taken))
 
 are-sound-requires-2 : tie.Need-are-sound-requires-2
-are-sound-requires-2 c κs = ((legal-bounded (c .before .before .before .before .before .before .before .before .before .before .before .before .before .before .before .before .before .before .before .before .before .before .before .before .before .before .before .before .before .before .before .before .before .args .router .config) (sym (c .before .before .before .before .before .before .before .before .before .before .before .before .before .before .before .before .before .before .before .before .before .before .before .before .before .before .before .before .before .before .before .judged .ensures) ∙ ap fieldOf (c .before .before .before .before .before .before .before .before .before .before .before .before .before .before .before .before .before .before .before .before .before .before .before .before .before .before .before .before .before .enum-told2 .given .1))), store-long (c .before .before .before .before .before .before .before .before .before .before .before .before .before .before .before .before .before .before .before .before .before .before .before .before .before .before .before .before .before .before .before .before .before))
+are-sound-requires-2 c κs = (
+  (legal-bounded (c .before .before .before .before .before .before .before .before .before .before .before .before .before .before .before
+      .before .before .before .before .before .before .before .before .before .before .before .before .before .before .before .before .before .before
+      .args .router .config) (sym (c .before .before .before .before .before .before .before .before .before .before .before .before .before .before
+      .before .before .before .before .before .before .before .before .before .before .before .before .before .before .before .before .before .judged
+      .ensures) ∙ ap fieldOf (c .before .before .before .before .before .before .before .before .before .before .before .before .before .before .before
+      .before .before .before .before .before .before .before .before .before .before .before .before .before .before .enum-told2 .given .1))),
+  store-long (c .before .before .before .before .before .before .before .before .before .before .before .before .before .before .before .before
+      .before .before .before .before .before .before .before .before .before .before .before .before .before .before .before .before .before),
+)
 
 returns-9 : tie.Need-returns-9
 returns-9 c =
-    let s = c .before .before .before .before .before .before .before .before .before .before .before .before .before .before .before .before .before .before .before .before .before .before .before .before .before .before .before .before .before .before .before .before .before .before .args .router in
-    let o = c .before .before .before .before .before .before .before .before .before .before .before .before .before .before .before .before .before .before .before .before .before .before .before .before .before .before .before .before .before .before .before .before .before .before in
+    let s = c .before .before .before .before .before .before .before .before .before .before .before .before .before .before .before .before .before
+    .before .before .before .before .before .before .before .before .before .before .before .before .before .before .before .before .before .args
+    .router in
+    let o = c .before .before .before .before .before .before .before .before .before .before .before .before .before .before .before .before .before
+    .before .before .before .before .before .before .before .before .before .before .before .before .before .before .before .before .before in
     exact s (c .are-sound2 .result) (c .are-sound2 .ensures)
-    (all-sound s (sym (c .before .before .before .before .before .before .before .before .before .before .before .before .before .before .before .before .before .before .before .before .before .before .before .before .before .before .before .before .before .before .before .before .judged .ensures) ∙ ap fieldOf (c .before .before .before .before .before .before .before .before .before .before .before .before .before .before .before .before .before .before .before .before .before .before .before .before .before .before .before .before .before .before .enum-told2 .given .1)) (c .before .before .before .before .before .before .before .before .before .before .before .before .before .before .before .before .before .before .before .before .before .before .before .before .before .before .before .before .if1 .left) (sym (c .before .before .before .before .before .before .before .before .before .before .before .before .before .before .before .before .before .before .before .before .before .before .before .before .before .is-wire-sound .ensures) ∙ not-false (c .before .before .before .before .before .before .before .before .before .before .before .before .before .before .before .before .before .before .before .before .before .before .before .before .before .is-wire-sound .result) (c .before .before .before .before .before .before .before .before .before .before .before .before .before .before .before .before .before .before .before .before .before .before .before .before .if2 .left)) (sym (c .before .before .before .before .before .before .before .before .before .before .before .before .before .before .before .before .before .before .before .before .before .is-home-sound .ensures) ∙ not-false (c .before .before .before .before .before .before .before .before .before .before .before .before .before .before .before .before .before .before .before .before .before .is-home-sound .result) (c .before .before .before .before .before .before .before .before .before .before .before .before .before .before .before .before .before .before .before .before .if3 .left))
-    (sym (c .before .before .before .before .before .before .before .before .before .before .before .before .before .before .before .are-sound .ensures) ∙ not-false (c .before .before .before .before .before .before .before .before .before .before .before .before .before .before .before .are-sound .result) (c .before .before .before .before .before .before .before .before .before .before .before .before .before .before .if4 .left)) (sym (c .before .before .before .before .before .before .before .before .before .before .before .before .before .are-unused .ensures) ∙ not-false (c .before .before .before .before .before .before .before .before .before .before .before .before .before .are-unused .result) (c .before .before .before .before .before .before .before .before .before .before .before .before .if5 .left))
-    (sym (c .before .before .before .before .before .before .before .before .before .are-unused2 .ensures) ∙ not-false (c .before .before .before .before .before .before .before .before .before .are-unused2 .result) (c .before .before .before .before .before .before .before .before .if6 .left)) (sym (c .before .before .before .before .before .are-slots-empty .ensures) ∙ not-false (c .before .before .before .before .before .are-slots-empty .result) (c .before .before .before .before .if7 .left))
+    (all-sound s (sym (c .before .before .before .before .before .before .before .before .before .before .before .before .before .before .before
+    .before .before .before .before .before .before .before .before .before .before .before .before .before .before .before .before .before .judged
+    .ensures) ∙ ap fieldOf (c .before .before .before .before .before .before .before .before .before .before .before .before .before .before .before
+    .before .before .before .before .before .before .before .before .before .before .before .before .before .before .before .enum-told2 .given .1))
+    (c .before .before .before .before .before .before .before .before .before .before .before .before .before .before .before .before .before
+    .before .before .before .before .before .before .before .before .before .before .before .if1 .left) (sym
+    (c .before .before .before .before .before .before .before .before .before .before .before .before .before .before .before .before .before
+    .before .before .before .before .before .before .before .before .is-wire-sound .ensures) ∙ not-false
+    (c .before .before .before .before .before .before .before .before .before .before .before .before .before .before .before .before .before
+    .before .before .before .before .before .before .before .before .is-wire-sound .result)
+    (c .before .before .before .before .before .before .before .before .before .before .before .before .before .before .before .before .before
+    .before .before .before .before .before .before .before .if2 .left)) (sym
+    (c .before .before .before .before .before .before .before .before .before .before .before .before .before .before .before .before .before
+    .before .before .before .before .is-home-sound .ensures) ∙ not-false
+    (c .before .before .before .before .before .before .before .before .before .before .before .before .before .before .before .before .before
+    .before .before .before .before .is-home-sound .result) (c .before .before .before .before .before .before .before .before .before .before
+    .before .before .before .before .before .before .before .before .before .before .if3 .left))
+    (sym (c .before .before .before .before .before .before .before .before .before .before .before .before .before .before .before .are-sound
+    .ensures) ∙ not-false (c .before .before .before .before .before .before .before .before .before .before .before .before .before .before .before
+    .are-sound .result) (c .before .before .before .before .before .before .before .before .before .before .before .before .before .before .if4
+    .left)) (sym (c .before .before .before .before .before .before .before .before .before .before .before .before .before .are-unused .ensures) ∙
+    not-false (c .before .before .before .before .before .before .before .before .before .before .before .before .before .are-unused .result)
+    (c .before .before .before .before .before .before .before .before .before .before .before .before .if5 .left))
+    (sym (c .before .before .before .before .before .before .before .before .before .are-unused2 .ensures) ∙ not-false
+    (c .before .before .before .before .before .before .before .before .before .are-unused2 .result)
+    (c .before .before .before .before .before .before .before .before .if6 .left)) (sym
+    (c .before .before .before .before .before .are-slots-empty .ensures) ∙ not-false
+    (c .before .before .before .before .before .are-slots-empty .result) (c .before .before .before .before .if7 .left))
     (shape-is s (inputs-long o) (outputs-long o) (store-long o) (wire-long o) (home-long o)))
 
 pub is-sound-spec : {M : Type 1} → statement M
