@@ -1,8 +1,8 @@
 -- The sound test is exact: a clause that fails refutes soundness, and all clauses together are soundness.
 -- Assumes nothing.
 use mathlib.Core.Path.{_≡_, refl, sym, ap, ap₂, _∙_}
-use mathlib.Core.Bool.{Bool, true, false, _&&_, true≢false, false≢true}
-use mathlib.Core.List.{List, map}
+use mathlib.Core.Bool.{Bool, true, false, _&&_, false≢true}
+use mathlib.Core.List.{List, _∷_, map}
 use mathlib.Core.Option.{Option, some, none}
 use Prim.Native.Nat.{ℕ, _≤_, _<_}
 use lib.Dec.{leb}
@@ -16,16 +16,63 @@ use Rattle.base.proofs.Configurations.{legal-exact}
 use Rattle.state.specs.declared.Router.{Router}
 use Rattle.state.specs.Views.{inputAt, outputAt, queueOf, wireOf, flat}
 use Rattle.state.specs.Sound
-use Rattle.state.specs.Sound.{isNone, everyChannel}
+use Rattle.state.specs.Sound.{isNone, all, everyChannel, clauses, sound}
 use Rattle.state.specs.Testing.{Bounded, inputSound, namesSound, channelSound}
+use Rattle.state.proofs.Tests.{same-test}
 
--- what the contract says of an answer
-abbrev pub Exact : Router → Bool → Type 0
-Exact s r = (r ≡ true → Sound.Sound s) × (Sound.Sound s → r ≡ true)
+-- the record of the clauses and the test are the same, both ways
+pub sound-passes : (s : Router) → Sound.Sound s → sound s ≡ true
+unfolding sound clauses all
+sound-passes s x =
+    yes (x .configuration) (yes (x .cycles) (yes (x .credits) (yes (x .wire) (yes (x .home) (yes (x .queues) (yes (x .outputCredits)
+    (yes (x .names) (yes (x .arbiters) (yes (x .packets) (yes (x .channels) (yes (x .slots) (yes (x .wireRest) (yes (x .homeRest)
+    (yes (x .others) (yes (x .shape) refl)))))))))))))))
+  where
+    yes : {a b : Bool} → a ≡ true → b ≡ true → (a && b) ≡ true
+    yes e f = ap₂ _&&_ e f
+
+pub passed-sound : (s : Router) → sound s ≡ true → Sound.Sound s
+unfolding sound clauses all
+passed-sound s e =
+    let c = s .config in
+    let p0 = both (Sound.configurationLegal c) _ e in
+    let p1 = both (Sound.cyclesFit (s .cycle)) _ (p0 .1) in
+    let p2 = both (Sound.creditsAddUp c (s .inputs) (s .wire) (s .home)) _ (p1 .1) in
+    let p3 = both (Sound.wireLegal c (s .wire)) _ (p2 .1) in
+    let p4 = both (Sound.homeLegal c (s .home)) _ (p3 .1) in
+    let p5 = both (Sound.queuesLegal c (s .inputs) (s .store)) _ (p4 .1) in
+    let p6 = both (Sound.outputCreditsFit c (s .outputs)) _ (p5 .1) in
+    let p7 = both (Sound.namesAgree c (s .inputs) (s .outputs)) _ (p6 .1) in
+    let p8 = both (Sound.arbitersSound c (s .arbiters)) _ (p7 .1) in
+    let p9 = both (Sound.packetsRead c (s .inputs) (s .store) (s .wire)) _ (p8 .1) in
+    let p10 = both (Sound.channelsUnused c (s .inputs) (s .outputs)) _ (p9 .1) in
+    let p11 = both (Sound.slotsEmpty (s .inputs) (s .store)) _ (p10 .1) in
+    let p12 = both (Sound.lineUnused (c .forward) (c .ports) (s .wire)) _ (p11 .1) in
+    let p13 = both (Sound.lineUnused (c .back) (c .ports) (s .home)) _ (p12 .1) in
+    let p14 = both (Sound.arbitersUnused c (s .arbiters)) _ (p13 .1) in
+    let p15 = both (Sound.shaped s) _ (p14 .1) in
+    record {
+      configuration = p0 .0;
+      cycles = p1 .0;
+      credits = p2 .0;
+      wire = p3 .0;
+      home = p4 .0;
+      queues = p5 .0;
+      outputCredits = p6 .0;
+      names = p7 .0;
+      arbiters = p8 .0;
+      packets = p9 .0;
+      channels = p10 .0;
+      slots = p11 .0;
+      wireRest = p12 .0;
+      homeRest = p13 .0;
+      others = p14 .0;
+      shape = p15 .0;
+    }
 
 -- a test that soundness passes and that fails refuses the state
-pub refused : (s : Router) (test : Bool) → (Sound.Sound s → test ≡ true) → test ≡ false → Exact s false
-refused s test f e = (λ p. absurd (false≢true p), λ sound. sym e ∙ f sound)
+pub refused : (s : Router) (test : Bool) → (Sound.Sound s → test ≡ true) → test ≡ false → false ≡ sound s
+refused s test f e = same-test false (sound s) (λ p. absurd (false≢true p)) (λ p. sym e ∙ f (passed-sound s p))
 
 pub legal-bounded : (c : Config) → illegalField c ≡ none → Bounded c
 legal-bounded c e =
@@ -33,11 +80,11 @@ legal-bounded c e =
     record { ports = l .ports .1; vcs = l .vcs .1; depth = l .depth .1; forward = l .forward .1; back = l .back .1 }
 
 module _ (s : Router) where
-  pub illegal-refused : (k : ℕ) → illegalField (s .config) ≡ some k → Exact s false
+  pub illegal-refused : (k : ℕ) → illegalField (s .config) ≡ some k → false ≡ sound s
   unfolding Sound.configurationLegal isNone
   illegal-refused k e = refused s (Sound.configurationLegal (s .config)) (λ x. x .configuration) (ap isNone e)
 
-  pub late-refused : cycleLimit < s .cycle → Exact s false
+  pub late-refused : cycleLimit < s .cycle → false ≡ sound s
   unfolding Sound.cyclesFit
   late-refused h = refused s (Sound.cyclesFit (s .cycle)) (λ x. x .cycles) (lt-leb (s .cycle) cycleLimit h)
 
@@ -175,8 +222,8 @@ module _ (s : Router) where
 
   -- the last test decides
   pub exact : (last : Bool) → last ≡ everyChannel (s .config) channelTest → (everyChannel
-      (s .config) channelTest ≡ true → Sound.Sound s) → Exact s last
-  exact last e f = (λ p. f (sym e ∙ p), λ x. e ∙ sound-channels x)
+      (s .config) channelTest ≡ true → Sound.Sound s) → last ≡ sound s
+  exact last e f = same-test last (sound s) (λ p. sound-passes s (f (sym e ∙ p))) (λ p. e ∙ sound-channels (passed-sound s p))
 
 -- the arrays of a struct are as long as they are declared
 pub shape-is : (s : Router) → length (s .inputs) ≡ 32 → length (s .outputs) ≡ 32 → length (s .store) ≡ 512 → length (s .wire) ≡ 64

@@ -26,6 +26,7 @@ use Rattle.arbiter.proofs.Soundness.{fresh-sound, sound-holds}
 use Rattle.state.specs.Fresh.{filled, freshInput, freshOutput, zeroNarrow, zeroWide, pastNarrow, pastWide, freshRouter}
 use Rattle.state.specs.Views.{channel, inputAt, outputAt, queueOf, wirePlace, wireOf, homeOf, homePlace, onVc, queueAt, slotFlit, wireFlit, wireVc, places, flat, total, vcArbiter, inputArbiter, outputArbiter}
 use Rattle.state.specs.Sound
+use Rattle.state.proofs.Exact.{sound-passes}
 use Rattle.state.proofs.Made.{channels-fit}
 
 -- a filled array: the places below n, and those from n on
@@ -294,3 +295,7 @@ module _ (c : Config) (legal : Legal c) where
         others = others;
         shape = shape;
       }
+
+  -- the same of the test
+  pub fresh-passes : Sound.sound (freshRouter c) ≡ true
+  fresh-passes = sound-passes (freshRouter c) fresh-is-sound

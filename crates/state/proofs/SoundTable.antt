@@ -28,17 +28,7 @@ use Rattle.state.specs.declared.Arbiters.{Arbiters}
 use Rattle.state.specs.declared.Router.{Router}
 use Rattle.state.specs.Fresh.{freshInput, freshOutput, asWide, pastNarrow, pastWide, freshRouter}
 use Rattle.state.specs.Views.{queueAt, wireOf, homeOf, places, flat, total}
-use Rattle.state.specs.Sound.{isNone, all, configurationLegal, cyclesFit, creditsWhole, creditsAddUp, legalFlit, wirePlaceLegal, wireLegal, homeLegal, queuesLegal, outputCreditsFit, namesAgree, arbitersSound, reading, reads, packetsRead, channelsUnused, slotsEmpty, lineUnused, arbitersUnused, shaped}
-
--- the clauses of `Sound`, in its order
-clauses : Router → List Bool
-clauses s =
-    configurationLegal (s .config) ∷ cyclesFit (s .cycle) ∷ creditsAddUp (s .config) (s .inputs) (s .wire) (s .home)
-    ∷ wireLegal (s .config) (s .wire) ∷ homeLegal (s .config) (s .home) ∷ queuesLegal (s .config) (s .inputs) (s .store)
-    ∷ outputCreditsFit (s .config) (s .outputs) ∷ namesAgree (s .config) (s .inputs) (s .outputs) ∷ arbitersSound (s .config) (s .arbiters)
-    ∷ packetsRead (s .config) (s .inputs) (s .store) (s .wire) ∷ channelsUnused (s .config) (s .inputs) (s .outputs)
-    ∷ slotsEmpty (s .inputs) (s .store) ∷ lineUnused (s .config .forward) (s .config .ports) (s .wire)
-    ∷ lineUnused (s .config .back) (s .config .ports) (s .home) ∷ arbitersUnused (s .config) (s .arbiters) ∷ shaped s ∷ []
+use Rattle.state.specs.Sound.{isNone, all, configurationLegal, cyclesFit, creditsWhole, creditsAddUp, legalFlit, wirePlaceLegal, wireLegal, homeLegal, queuesLegal, outputCreditsFit, namesAgree, arbitersSound, reading, reads, packetsRead, channelsUnused, slotsEmpty, lineUnused, arbitersUnused, shaped, clauses, sound}
 
 -- the numbers of the clauses that a state breaks
 brokenFrom : ℕ → List Bool → List ℕ

@@ -213,3 +213,16 @@ pub record Sound (s : Router) : Type 0 where
   pub homeRest : lineUnused (s .config .back) (s .config .ports) (s .home) ≡ true
   pub others : arbitersUnused (s .config) (s .arbiters) ≡ true
   pub shape : shaped s ≡ true
+
+-- the same, as a test that computes: its clauses, in the same order, and whether all of them pass
+unfoldable pub clauses : Router → List Bool
+clauses s =
+    configurationLegal (s .config) ∷ cyclesFit (s .cycle) ∷ creditsAddUp (s .config) (s .inputs) (s .wire) (s .home)
+    ∷ wireLegal (s .config) (s .wire) ∷ homeLegal (s .config) (s .home) ∷ queuesLegal (s .config) (s .inputs) (s .store)
+    ∷ outputCreditsFit (s .config) (s .outputs) ∷ namesAgree (s .config) (s .inputs) (s .outputs) ∷ arbitersSound (s .config) (s .arbiters)
+    ∷ packetsRead (s .config) (s .inputs) (s .store) (s .wire) ∷ channelsUnused (s .config) (s .inputs) (s .outputs)
+    ∷ slotsEmpty (s .inputs) (s .store) ∷ lineUnused (s .config .forward) (s .config .ports) (s .wire)
+    ∷ lineUnused (s .config .back) (s .config .ports) (s .home) ∷ arbitersUnused (s .config) (s .arbiters) ∷ shaped s ∷ []
+
+unfoldable pub sound : Router → Bool
+sound s = all (λ (clause : Bool). clause) (clauses s)

@@ -6,12 +6,11 @@ use crate::lines;
 use base::CYCLE_LIMIT;
 use base::Judged;
 ghost use mathlib.Core.Path.{_≡_};
-ghost use mathlib.Core.Bool.{true};
-ghost use Rattle.state.specs.Sound.{Sound};
+ghost use Rattle.state.specs.Sound.{sound};
 
 // "A state handed in is sound when": all clauses. The configuration comes first, so that every index after it is in range.
 pub fn is_sound(router: Router) -> bool
-    ensures { λ r. ⌜ (r ≡ true → Sound router) × (Sound router → r ≡ true) ⌝ }
+    ensures { λ r. ⌜ r ≡ sound router ⌝ }
 {
     let config = router.config;
     let judged = config.judged();

@@ -1,4 +1,4 @@
--- `state::is_sound` meets its contract: a clause that fails refuses, and all together are soundness.
+-- `state::is_sound` meets its contract: a clause that fails refuses, and the last decides.
 -- Assumes nothing.
 use native.Mathlib.Omega.{arith}
 use mathlib.Core.Path.{_≡_, sym, ap, ap₂, _∙_}
@@ -8,7 +8,7 @@ use lib.ListN.{length}
 use Rattle.base.specs.Sizes.{fieldOf}
 use borrow.Author.Needs.{needs}
 use Rattle.state.specs.Sound.{wireLegal, homeLegal, lineUnused, arbitersSound, arbitersUnused, channelsUnused, slotsEmpty}
-use Rattle.state.proofs.Exact.{Exact, refused, legal-bounded, illegal-refused, late-refused, sound-wire, sound-home, all-sound, exact, shape-is, length-any}
+use Rattle.state.proofs.Exact.{refused, legal-bounded, illegal-refused, late-refused, sound-wire, sound-home, all-sound, exact, shape-is, length-any}
 use Rattle.state.proofs.soundness.is_sound.Statement.{statement}
 use Rattle.state.proofs.soundness.is_sound.Tie as tie
 
