@@ -1,5 +1,6 @@
 pub mod PortArbiters
 pub mod Clauses
+pub mod EmptySlots
 pub mod Exact
 pub mod Filled
 pub mod FreshIsSound
@@ -7,6 +8,8 @@ pub mod Made
 pub mod Naming
 pub mod Pairs
 pub mod Places
+pub mod Queues
 pub mod Reading
+pub mod Slots
 pub mod SoundTable
 pub mod Tests

@@ -1,4 +1,5 @@
 pub mod Fresh
 pub mod Sound
+pub mod Store
 pub mod Testing
 pub mod Views

@@ -27,6 +27,7 @@ use Rattle.state.specs.declared.OutputVc.{OutputVc}
 use Rattle.state.specs.declared.Arbiters.{Arbiters}
 use Rattle.state.specs.declared.Router.{Router}
 use Rattle.state.specs.Fresh.{freshInput, freshOutput, asNarrow, asWide}
+use Rattle.state.specs.Store.{slot}
 use Rattle.state.specs.Views.{inputAt, outputAt, queueOf, wirePlace, wireFlit, wireVc, wireOf, homeOf, homePlace, flat, total, vcArbiter, inputArbiter, outputArbiter}
 
 unfoldable pub isNone : Option ℕ → Bool
@@ -175,7 +176,7 @@ channelsUnused c inputs outputs =
 -- "an empty slot is zero": those behind each queue, and all of a channel that is not in use
 unfoldable pub slotsEmpty : List InputVc → List ℕ → Bool
 slotsEmpty inputs store =
-    every 32 (λ (x : ℕ). every 16 (λ (k : ℕ). ltb k (getD inputs x (freshInput 0) .queued) || eqb (getD store (16 * x + k) 0) 0))
+    every 32 (λ (x : ℕ). every 16 (λ (k : ℕ). ltb k (getD inputs x (freshInput 0) .queued) || eqb (getD store (slot x k) 0) 0))
 
 -- "Places not in use" of the lines: those of ports from P on, and those past the delay
 unfoldable pub lineUnused : ℕ → ℕ → List ℕ → Bool

@@ -13,6 +13,7 @@ use Rattle.state.specs.declared.InputVc.{InputVc}
 use Rattle.state.specs.declared.OutputVc.{OutputVc}
 use Rattle.state.specs.declared.Arbiters.{Arbiters}
 use Rattle.state.specs.Fresh.{freshInput, freshOutput, pastNarrow, pastWide}
+use Rattle.state.specs.Store.{firstSlot}
 
 -- "requester number i·V+v": the place of a channel in the arrays
 abbrev pub channel : Config → ℕ → ℕ → ℕ
@@ -34,7 +35,7 @@ queueAt store base queued = map slotFlit (take queued (take 16 (drop base store)
 
 -- the flits queued on a channel, the front first, where so many are queued
 abbrev pub queueOf : Config → List ℕ → ℕ → ℕ → ℕ → List Flit
-queueOf c store i v queued = queueAt store (16 * channel c i v) queued
+queueOf c store i v queued = queueAt store (firstSlot (channel c i v)) queued
 
 -- the wire's place k of port i, the oldest being 0: empty, or a flit with its VC above it
 abbrev pub wirePlace : List ℕ → ℕ → ℕ → ℕ
