@@ -86,21 +86,21 @@ module _ (c : Config) (legal : Legal c) where
   channels = channels-fit (c .ports) (c .vcs) (legal .ports .1) (legal .vcs .1)
 
   -- what stands at a channel that there is
-  input-is : (i v : ℕ) → i < c .ports → v < c .vcs → inputAt c (freshRouter c .inputs) i v ≡ freshInput (c .depth)
+  pub input-is : (i v : ℕ) → i < c .ports → v < c .vcs → inputAt c (freshRouter c .inputs) i v ≡ freshInput (c .depth)
   unfolding freshRouter
   input-is i v h g = filled-below (c .ports * c .vcs) 32 (freshInput (c .depth)) (freshInput 0) (freshInput 0) (i * c .vcs + v) (digits-lt h g)
 
-  output-is : (o w : ℕ) → o < c .ports → w < c .vcs → outputAt c (freshRouter c .outputs) o w ≡ freshOutput (c .downstream)
+  pub output-is : (o w : ℕ) → o < c .ports → w < c .vcs → outputAt c (freshRouter c .outputs) o w ≡ freshOutput (c .downstream)
   unfolding freshRouter
   output-is o w h g = filled-below (c .ports * c .vcs) 32 (freshOutput (c .downstream)) (freshOutput 0) (freshOutput 0) (o * c .vcs + w)
       (digits-lt h g)
 
   -- nothing is on the wire or on its way home
-  wire-is : (k i : ℕ) → wirePlace (freshRouter c .wire) k i ≡ 0
+  pub wire-is : (k i : ℕ) → wirePlace (freshRouter c .wire) k i ≡ 0
   unfolding freshRouter
   wire-is k i = same-at 64 0 (8 * k + i)
 
-  home-is : (k i : ℕ) → homePlace (freshRouter c .home) k i ≡ 0
+  pub home-is : (k i : ℕ) → homePlace (freshRouter c .home) k i ≡ 0
   unfolding freshRouter
   home-is k i = same-at 64 0 (8 * k + i)
 
@@ -151,7 +151,7 @@ module _ (c : Config) (legal : Legal c) where
   home = all-every (c .back) _ (λ k h. all-every (c .ports) _ (λ i g. le-leb (homePlace (freshRouter c .home) k i) (c .vcs) (subst (λ x. x ≤ c .vcs)
       (sym (home-is k i)) zero-le)))
 
-  no-queue : (i v : ℕ) → i < c .ports → v < c .vcs → queueOf c (freshRouter c .store) i v (inputAt c (freshRouter c .inputs) i v .queued) ≡ []
+  pub no-queue : (i v : ℕ) → i < c .ports → v < c .vcs → queueOf c (freshRouter c .store) i v (inputAt c (freshRouter c .inputs) i v .queued) ≡ []
   unfolding queueAt
   no-queue i v h g =
       ap (λ n. map slotFlit (take n (take 16 (drop (16 * channel c i v) (freshRouter c .store))))) (ap (λ x. x .queued) (input-is i v h g))

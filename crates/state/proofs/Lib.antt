@@ -4,6 +4,7 @@ pub mod EmptySlots
 pub mod Exact
 pub mod Filled
 pub mod FreshIsSound
+pub mod FreshViews
 pub mod Made
 pub mod Naming
 pub mod Pairs

@@ -1,3 +1,4 @@
+pub mod Channels
 pub mod Fresh
 pub mod Sound
 pub mod Store
