@@ -12,5 +12,6 @@ pub mod Places
 pub mod Queues
 pub mod Reading
 pub mod Slots
+pub mod SoundStates
 pub mod SoundTable
 pub mod Tests
