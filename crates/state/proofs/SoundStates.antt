@@ -16,7 +16,7 @@ use Rattle.state.specs.declared.InputVc.{InputVc}
 use Rattle.state.specs.declared.OutputVc.{OutputVc}
 use Rattle.state.specs.declared.Arbiters.{Arbiters}
 use Rattle.state.specs.declared.Router.{Router}
-use Rattle.state.specs.Fresh.{freshRouter}
+use Rattle.state.specs.Fresh.{asNarrow, asWide, freshRouter}
 
 -- setters, one part each
 unfoldable pub withCycle : ℕ → Router → Router
@@ -258,31 +258,24 @@ deep queued =
     withStore (replicate 16 (single 1) ++ replicate 496 0) (withInput 0 (unbound 0 false queued)
     (freshRouter (record { ports = 2; vcs = 2; depth = 16; downstream = 2; forward = 1; back = 1; arbiter = 1 })))
 
--- matrices after picks, the last pick first, and what their rows then are: `picked-rows` of SoundTable
+-- a matrix after picks, the last pick first
 unfoldable pub picked : ℕ → ℕ → List ℕ → arbiter.Arbiter
 picked places n [] = arbiter.fresh places 2 n
 picked places n (w ∷ ws) = arbiter.moved places 2 n w (picked places n ws)
 
-unfoldable pub pickedWide : Wide
-pickedWide = record {
-  pointer = 0;
-  rows = 512 ∷ 4294967293 ∷ 4294967289 ∷ 4294967281 ∷ 4294967265 ∷ 4294967233 ∷ 4294967169 ∷ 4294967041
-      ∷ 4294966785 ∷ 0 ∷ 4294965761 ∷ 4294963713 ∷ 4294959617 ∷ 4294951425 ∷ 4294935041 ∷ 4294902273
-      ∷ 4294836737 ∷ 4294705665 ∷ 4294443521 ∷ 4293919233 ∷ 4292870657 ∷ 4290773505 ∷ 4286579201 ∷ 4278190593
-      ∷ 4261413377 ∷ 4227858945 ∷ 4160750081 ∷ 4026532353 ∷ 3758096897 ∷ 3221225985 ∷ 2147484161 ∷ 513 ∷ [];
-}
-
-unfoldable pub pickedInput : Narrow
-pickedInput = record { pointer = 0; rows = 4 ∷ 13 ∷ 0 ∷ 5 ∷ 0 ∷ 0 ∷ 0 ∷ 0 ∷ [] }
-
-unfoldable pub pickedOutput : Narrow
-pickedOutput = record { pointer = 0; rows = 32 ∷ 253 ∷ 249 ∷ 241 ∷ 225 ∷ 0 ∷ 161 ∷ 33 ∷ [] }
+unfoldable pub pickedArbiters : Arbiters
+pickedArbiters =
+    record {
+      vcs = replicate 8 (asWide (picked 32 32 (9 ∷ 0 ∷ 31 ∷ [])));
+      inputs = replicate 8 (asNarrow (picked 8 4 (2 ∷ 0 ∷ 3 ∷ [])));
+      outputs = replicate 8 (asNarrow (picked 8 8 (5 ∷ 0 ∷ 7 ∷ [])));
+    }
 
 -- P = 8, V = 4, every arbiter a matrix after picks: VC 0 of input 0 bound to VC 1 of output 5 with a packet's start queued, VC 3 of
 -- input 7 with a flit queued, one on the wire and a credit on its way home
 unfoldable pub large : Router
 large =
-    withArbiters (record { vcs = replicate 8 pickedWide; inputs = replicate 8 pickedInput; outputs = replicate 8 pickedOutput })
+    withArbiters pickedArbiters
     (withHome 2 7 4 (withWire 1 7 (on 3 (single 2)) (withOutput 21 (held 0 0 1) (stored 496 (single 0 ∷ []) (queue (head 5 ∷ body ∷ [])
     (withInput 31 (unbound 1 false 1) (withInput 0 (bound 5 1 2 true 2)
     (freshRouter (record { ports = 8; vcs = 4; depth = 4; downstream = 2; forward = 3; back = 3; arbiter = 2 })))))))))

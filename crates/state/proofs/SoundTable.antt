@@ -4,23 +4,30 @@
 use mathlib.Core.Path.{_≡_, refl, sym, ap, ap₂, _∙_}
 use mathlib.Core.Bool.{Bool, true, false, xor, _&&_, false≢true}
 use mathlib.Core.List.{List, [], _∷_}
-use Prim.Native.Nat.{ℕ, suc, _+_, _^_}
+use mathlib.Core.Logic.{inr}
+use Prim.Native.Nat.{ℕ, suc, _+_, _^_, _≤_}
+use native.Mathlib.Omega.{arith}
 use lib.Dec.{eqb}
+use lib.ListN.{getD-replicate}
 use borrow.Author.Tests.{eqb-true}
 use Rattle.base.specs.Bits.{bit, wordOf, withBit}
 use Rattle.base.specs.Flit.{flitOf, kindOf, destinationOf, startsKind, endsKind}
 use Rattle.base.specs.Search.{every}
 use Rattle.base.specs.Sizes.{illegalField, firstIllegal, inRange}
-use Rattle.base.proofs.Search.{both}
+use Rattle.base.proofs.Search.{both, all-every}
 use Rattle.arbiter.specs.Arbiter as arbiter
 use Rattle.arbiter.specs.Arbiter.{ofNarrow, ofWide}
+use Rattle.arbiter.proofs.ByKind.{Known}
+use Rattle.arbiter.proofs.Soundness as arbiters
 use Rattle.arbiter.specs.RoundRobin.{pointerAfter}
 use Rattle.arbiter.specs.Matrix.{beats, raised, defeated, listOf, freshRow, freshRows, totalOrder, within, blankFrom}
 use Rattle.state.specs.declared.Router.{Router}
-use Rattle.state.specs.Fresh.{freshOutput, freshRouter}
+use Rattle.state.specs.Fresh.{freshOutput, asNarrow, asWide, pastNarrow, pastWide, freshRouter}
 use Rattle.state.specs.Views.{queueAt, wireOf, homeOf, places, flat, total}
+use Rattle.state.specs.Sound
 use Rattle.state.specs.Sound.{isNone, all, configurationLegal, cyclesFit, creditsWhole, creditsAddUp, legalFlit, wirePlaceLegal, wireLegal, homeLegal, queuesLegal, outputCreditsFit, namesAgree, arbitersSound, reading, reads, packetsRead, channelsUnused, slotsEmpty, lineUnused, arbitersUnused, shaped, clauses, sound}
-use Rattle.state.proofs.SoundStates.{withCycle, withInput, withOutput, withSlot, withStore, withWire, withHome, withVcArbiter, withInputArbiter, withOutputArbiter, withArbiters, withConfig, config, turns, orders, unbound, bound, held, head, single, body, tail, on, pointerWide, pointerNarrow, orderWide, stored, queue, middle, fronted, fullWire, homing, deep, picked, pickedWide, pickedInput, pickedOutput, large}
+use Rattle.state.proofs.Exact.{sound-passes}
+use Rattle.state.proofs.SoundStates.{withCycle, withInput, withOutput, withSlot, withStore, withWire, withHome, withVcArbiter, withInputArbiter, withOutputArbiter, withArbiters, withConfig, config, turns, orders, unbound, bound, held, head, single, body, tail, on, pointerWide, pointerNarrow, orderWide, stored, queue, middle, fronted, fullWire, homing, deep, picked, pickedArbiters, large}
 
 -- the numbers of the clauses that a state breaks
 brokenFrom : ℕ → List Bool → List ℕ
@@ -48,10 +55,11 @@ sameList (x ∷ xs) (y ∷ ys) = eqb x y && sameList xs ys
 pub right : Row → Bool
 right r = sameList (broken (r .state)) (r .breaks)
 
-pub table : List Row
-table =
+-- all but the large router
+others : List Row
+others =
     -- accepted
-    row turns [] ∷ row orders [] ∷ row middle [] ∷ row fronted [] ∷ row fullWire [] ∷ row homing [] ∷ row (deep 16) [] ∷ row large [] ∷
+    row turns [] ∷ row orders [] ∷ row middle [] ∷ row fronted [] ∷ row fullWire [] ∷ row homing [] ∷ row (deep 16) [] ∷
     -- the configuration, the cycle count, the credits
     row (withConfig (record { ports = 2; vcs = 2; depth = 3; downstream = 17; forward = 2; back = 2; arbiter = 1 }) turns) (0 ∷ []) ∷
     row (withCycle 1000000001 turns) (1 ∷ []) ∷
@@ -114,16 +122,9 @@ table =
     row (withInputArbiter 2 (pointerNarrow 1) turns) (14 ∷ []) ∷
     row (withOutputArbiter 7 (pointerNarrow 1) orders) (14 ∷ []) ∷ []
 
--- each row breaks just the clauses that it names
-pub table-right : all right table ≡ true
-unfolding xor all right sameList broken brokenFrom clauses table row withCycle withInput withOutput withSlot withStore withWire withHome withVcArbiter withInputArbiter withOutputArbiter withArbiters withConfig config turns orders unbound bound held head single body tail on pointerWide pointerNarrow orderWide stored queue middle fronted fullWire homing deep pickedWide pickedInput pickedOutput large configurationLegal isNone illegalField firstIllegal inRange cyclesFit creditsAddUp creditsWhole legalFlit wirePlaceLegal wireLegal homeLegal queuesLegal outputCreditsFit namesAgree arbitersSound reading reads packetsRead channelsUnused slotsEmpty lineUnused arbitersUnused shaped every freshRouter queueAt wireOf homeOf places flat total flitOf kindOf destinationOf startsKind endsKind bit wordOf withBit arbiter.sound arbiter.known arbiter.fresh beats listOf freshRow freshRows totalOrder within blankFrom
-table-right = refl
-
--- the large router's arbiters are those after picks of 31, 0 and 9 of 32, of 3, 0 and 2 of 4, of 7, 0 and 5 of 8
-pub picked-rows : (ofWide pickedWide ≡ picked 32 32 (9 ∷ 0 ∷ 31 ∷ [])) × (ofNarrow pickedInput ≡ picked 8 4 (2 ∷ 0 ∷ 3 ∷ []))
-    × (ofNarrow pickedOutput ≡ picked 8 8 (5 ∷ 0 ∷ 7 ∷ []))
-unfolding picked pickedWide pickedInput pickedOutput xor every bit wordOf withBit arbiter.known arbiter.usable arbiter.moved arbiter.fresh pointerAfter beats raised defeated listOf freshRow freshRows
-picked-rows = (refl, refl, refl)
+others-right : all right others ≡ true
+unfolding xor all right sameList broken brokenFrom clauses others row withCycle withInput withOutput withSlot withStore withWire withHome withVcArbiter withInputArbiter withOutputArbiter withArbiters withConfig config turns orders unbound bound held head single body tail on pointerWide pointerNarrow orderWide stored queue middle fronted fullWire homing deep configurationLegal isNone illegalField firstIllegal inRange cyclesFit creditsAddUp creditsWhole legalFlit wirePlaceLegal wireLegal homeLegal queuesLegal outputCreditsFit namesAgree arbitersSound reading reads packetsRead channelsUnused slotsEmpty lineUnused arbitersUnused shaped every freshRouter queueAt wireOf homeOf places flat total flitOf kindOf destinationOf startsKind endsKind bit wordOf withBit arbiter.sound arbiter.known arbiter.fresh beats listOf freshRow freshRows totalOrder within blankFrom
+others-right = refl
 
 -- so the test of soundness accepts just the rows that break none
 sameList-is : (xs ys : List ℕ) → sameList xs ys ≡ true → xs ≡ ys
@@ -147,3 +148,71 @@ all-none k (false ∷ bs) = refl
 pub right-sound : (r : Row) → right r ≡ true → sound (r .state) ≡ none (r .breaks)
 unfolding right broken sound
 right-sound r e = all-none 0 (clauses (r .state)) ∙ ap none (sameList-is (broken (r .state)) (r .breaks) e)
+
+-- picks keep a matrix sound
+picks : (places n : ℕ) (ws : List ℕ) → Known places 2 n → arbiters.Sound places 2 n (picked places n ws)
+unfolding picked
+picks places n [] k = arbiters.fresh-sound places 2 n k
+picks places n (w ∷ ws) k = arbiters.moved-sound places 2 n w (picked places n ws) (picks places n ws k)
+
+-- the large router: its arbiters are sound since picks keep them so, all else is computed
+picks-sound : (places n : ℕ) (ws : List ℕ) → 1 ≤ n → n ≤ places → arbiter.sound places 2 n (picked places n ws) ≡ true
+picks-sound places n ws h g =
+    arbiters.sound-holds places 2 n (picked places n ws) (picks places n ws (record { some = h; room = g; kind = inr refl }))
+
+large-arbiters : arbitersSound (large .config) (large .arbiters) ≡ true
+unfolding arbitersSound large pickedArbiters withArbiters withHome withWire withOutput stored queue withSlot withInput freshRouter
+large-arbiters =
+    all-every 8 _ (λ i h.
+    ap₂ _&&_
+    (ap₂ _&&_
+    (ap (λ a. arbiter.sound 32 2 32 (ofWide a)) (getD-replicate 8 i (asWide (picked 32 32 (9 ∷ 0 ∷ 31 ∷ []))) pastWide h)
+    ∙ picks-sound 32 32 (9 ∷ 0 ∷ 31 ∷ []) (omega arith) (omega arith))
+    (ap (λ a. arbiter.sound 8 2 4 (ofNarrow a)) (getD-replicate 8 i (asNarrow (picked 8 4 (2 ∷ 0 ∷ 3 ∷ []))) pastNarrow h)
+    ∙ picks-sound 8 4 (2 ∷ 0 ∷ 3 ∷ []) (omega arith) (omega arith)))
+    (ap (λ a. arbiter.sound 8 2 8 (ofNarrow a)) (getD-replicate 8 i (asNarrow (picked 8 8 (5 ∷ 0 ∷ 7 ∷ []))) pastNarrow h)
+    ∙ picks-sound 8 8 (5 ∷ 0 ∷ 7 ∷ []) (omega arith) (omega arith)))
+
+large-sound : Sound.Sound large
+unfolding all pickedArbiters xor withCycle withInput withOutput withSlot withStore withWire withHome withVcArbiter withInputArbiter withOutputArbiter withArbiters withConfig config unbound bound held head single body tail on pointerWide pointerNarrow orderWide stored queue large configurationLegal isNone illegalField firstIllegal inRange cyclesFit creditsAddUp creditsWhole legalFlit wirePlaceLegal wireLegal homeLegal queuesLegal outputCreditsFit namesAgree reading reads packetsRead channelsUnused slotsEmpty lineUnused arbitersUnused shaped every freshRouter queueAt wireOf homeOf places flat total flitOf kindOf destinationOf startsKind endsKind bit wordOf withBit
+large-sound =
+    record {
+      configuration = refl;
+      cycles = refl;
+      credits = refl;
+      wire = refl;
+      home = refl;
+      queues = refl;
+      outputCredits = refl;
+      names = refl;
+      arbiters = large-arbiters;
+      packets = refl;
+      channels = refl;
+      slots = refl;
+      wireRest = refl;
+      homeRest = refl;
+      others = refl;
+      shape = refl;
+    }
+
+sameList-none : (xs : List ℕ) → sameList xs [] ≡ none xs
+unfolding sameList none
+sameList-none [] = refl
+sameList-none (x ∷ xs) = refl
+
+large-right : right (row large []) ≡ true
+unfolding right row broken sound
+large-right = sameList-none (broken large) ∙ sym (all-none 0 (clauses large)) ∙ sound-passes large large-sound
+
+-- each row breaks just the clauses that it names
+pub table : List Row
+table = row large [] ∷ others
+
+pub table-right : all right table ≡ true
+unfolding all table
+table-right = ap₂ _&&_ large-right others-right
+
+-- of one of its arbiters the test is computed too
+pub picked-computed : arbiter.sound 32 2 32 (picked 32 32 (9 ∷ 0 ∷ 31 ∷ [])) ≡ true
+unfolding picked xor every bit wordOf withBit arbiter.sound arbiter.known arbiter.usable arbiter.moved arbiter.fresh pointerAfter beats raised defeated listOf freshRow freshRows totalOrder within blankFrom
+picked-computed = refl
