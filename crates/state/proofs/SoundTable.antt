@@ -204,10 +204,10 @@ large-right : right (row large []) ≡ true
 unfolding right row broken sound
 large-right = sameList-none (broken large) ∙ sym (all-none 0 (clauses large)) ∙ sound-passes large large-sound
 
--- each row breaks just the clauses that it names
 pub table : List Row
 table = row large [] ∷ others
 
+-- each row breaks just the clauses that it names
 pub table-right : all right table ≡ true
 unfolding all table
 table-right = ap₂ _&&_ large-right others-right
