@@ -5,3 +5,5 @@ pub mod Allocation
 pub mod Departures
 pub mod Numbers
 pub mod Step
+pub mod Free
+pub mod Chosen
