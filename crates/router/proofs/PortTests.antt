@@ -1,0 +1,93 @@
+-- The tests of 6, 4 and 5 at a port, and 3, as the code makes them.
+-- Assumes nothing.
+use mathlib.Core.Path.{_≡_, refl, sym}
+use mathlib.Core.Bool.{Bool, true, false, cond, not, Bool·beq}
+use mathlib.Core.List.{List}
+use Prim.Native.Nat.{ℕ, _+_, _-_, _*_, _≤_}
+use lib.Dec.{eqb, ltb}
+use lib.ListN.{length, getD, List·getD-eq-default}
+use borrow.Author.Tests.{eqb-true, eqb-false, eq-eqb, ne-eqb}
+use Rattle.base.specs.declared.config.Config.{Config}
+use Rattle.base.specs.Flit.{startsKind}
+use Rattle.state.specs.declared.InputVc.{InputVc}
+use Rattle.state.specs.declared.OutputVc.{OutputVc}
+use Rattle.state.specs.Fresh.{freshInput, freshOutput}
+use Rattle.state.specs.Views.{channel}
+use Rattle.trace.specs.Bytes.{byte}
+use Rattle.rules.specs.Rows.{rowLegal, rowZero, creditAt}
+use Rattle.rules.specs.Numbers.{rowWrong, creditPastRoom, outOfTurn, noSenderCredit}
+use Rattle.router.proofs.RowBytes.{kind-is}
+
+-- a test of equality, either way round
+eqb-turned : (a b : ℕ) → eqb a b ≡ eqb b a
+eqb-turned a b = go (eqb b a) refl
+  where
+    go : (t : Bool) → eqb b a ≡ t → eqb a b ≡ t
+    go true e = eq-eqb a b (sym (eqb-true b a e))
+    go false e = ne-eqb a b (λ q. eqb-false b a e (sym q))
+
+-- nothing equals false as its negation
+beq-false : (b : Bool) → not b ≡ Bool·beq b false
+beq-false true = refl
+beq-false false = refl
+
+-- a part that is long enough breaks the rules where its row does
+pub wrong-is : (c : Config) (part : List ℕ) (i : ℕ) → length part ≡ 64 → (r : Bool)
+    → r ≡ not (cond (ltb i (c .ports)) (rowLegal c part i) (rowZero part i)) → r ≡ rowWrong c part i
+unfolding rowWrong
+wrong-is c part i l r e = rw l e
+
+module _ (c : Config) (outputs : List OutputVc) (part : List ℕ) (o : ℕ) where
+  -- no credit comes
+  pub past-none : creditAt part o ≡ 0 → false ≡ creditPastRoom c outputs part o
+  unfolding creditPastRoom
+  past-none e = rw e
+
+  -- a credit for a VC that there is not
+  pub past-out : (k : ℕ) → k ≡ creditAt part o → (k ≡ 0 → ⊥) → (y : ℕ) → y ≡ channel c o (k - 1) → length outputs ≤ y
+      → eqb (c .downstream) 0 ≡ creditPastRoom c outputs part o
+  unfolding creditPastRoom
+  past-out k e n y g l =
+      rw (← e, ne-eqb k 0 n, ← g, List·getD-eq-default outputs (freshOutput 0) l) (eqb-turned (c .downstream) 0)
+
+  -- a credit for one that there is
+  pub past-in : (k : ℕ) → k ≡ creditAt part o → (k ≡ 0 → ⊥) → (y : ℕ) → y ≡ channel c o (k - 1)
+      → eqb (getD outputs y (freshOutput 0) .credit) (c .downstream) ≡ creditPastRoom c outputs part o
+  unfolding creditPastRoom
+  past-in k e n y g = rw (← e, ne-eqb k 0 n, ← g)
+
+module _ (c : Config) (inputs : List InputVc) (part : List ℕ) (i : ℕ) where
+  -- no flit comes
+  pub turn-none : byte part (8 * i) ≡ 0 → false ≡ outOfTurn c inputs part i
+  unfolding outOfTurn
+  turn-none e = rw (kind-is part i, e)
+
+  -- a flit on a VC that there is not
+  pub turn-out : (byte part (8 * i) ≡ 0 → ⊥) → (s : Bool) → s ≡ startsKind (byte part (8 * i)) → (x : ℕ)
+      → x ≡ channel c i (byte part (8 * i + 1)) → length inputs ≤ x → not s ≡ outOfTurn c inputs part i
+  unfolding outOfTurn
+  turn-out n s e x g l =
+      rw (kind-is part i, ne-eqb (byte part (8 * i)) 0 n, ← e, ← g, List·getD-eq-default inputs (freshInput 0) l) (beq-false s)
+
+  -- a flit on one that there is
+  pub turn-in : (byte part (8 * i) ≡ 0 → ⊥) → (s : Bool) → s ≡ startsKind (byte part (8 * i)) → (x : ℕ)
+      → x ≡ channel c i (byte part (8 * i + 1)) → Bool·beq s (getD inputs x (freshInput 0) .inside) ≡ outOfTurn c inputs part i
+  unfolding outOfTurn
+  turn-in n s e x g = rw (kind-is part i, ne-eqb (byte part (8 * i)) 0 n, ← e, ← g)
+
+  -- no flit comes
+  pub credit-none : byte part (8 * i) ≡ 0 → false ≡ noSenderCredit c inputs part i
+  unfolding noSenderCredit
+  credit-none e = rw (kind-is part i, e)
+
+  -- a flit on a VC that there is not
+  pub credit-out : (byte part (8 * i) ≡ 0 → ⊥) → (x : ℕ) → x ≡ channel c i (byte part (8 * i + 1)) → length inputs ≤ x
+      → true ≡ noSenderCredit c inputs part i
+  unfolding noSenderCredit
+  credit-out n x g l = rw (kind-is part i, ne-eqb (byte part (8 * i)) 0 n, ← g, List·getD-eq-default inputs (freshInput 0) l)
+
+  -- a flit on one that there is
+  pub credit-in : (byte part (8 * i) ≡ 0 → ⊥) → (x : ℕ) → x ≡ channel c i (byte part (8 * i + 1))
+      → eqb (getD inputs x (freshInput 0) .credit) 0 ≡ noSenderCredit c inputs part i
+  unfolding noSenderCredit
+  credit-in n x g = rw (kind-is part i, ne-eqb (byte part (8 * i)) 0 n, ← g)

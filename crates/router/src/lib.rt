@@ -1,0 +1,5 @@
+// The code of a cycle: judged first, then acted on, phase by phase; equal to the rules.
+mod channel;
+mod counts;
+mod judge;
+mod rows;
