@@ -3,3 +3,8 @@ pub mod RowBytes
 pub mod PortTests
 pub mod FirstPort
 pub mod RuleOrder
+pub mod Turns
+pub mod Paying
+pub mod Advancing
+pub mod Landing
+pub mod Offering

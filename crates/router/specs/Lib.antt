@@ -1,2 +1,3 @@
+pub mod Fitting
 pub mod Rows
 pub mod Picks

@@ -1,5 +1,6 @@
 // The code of a cycle: judged first, then acted on, phase by phase; equal to the rules.
 mod channel;
 mod counts;
+mod intake;
 mod judge;
 mod rows;

@@ -1,0 +1,152 @@
+-- `router::intake::land` meets its contract.
+-- Assumes nothing.
+use native.Mathlib.Omega.{arith}
+use mathlib.Core.Path.{_≡_, sym, ap, _∙_}
+use Prim.Native.Nat.{ℕ, _+_, _≤_, _-_}
+use lib.ListN.{length, getD, set}
+use Rattle.state.specs.declared.InputVc.{InputVc}
+use Rattle.state.specs.Fresh.{freshInput}
+use Rattle.state.specs.Views.{channel}
+use Rattle.state.proofs.Exact.{length-any}
+use borrow.Author.Needs.{needs}
+use Rattle.rules.specs.Ports.{overPorts}
+use Rattle.rules.specs.Intake.{Queues, landings}
+use Rattle.rules.proofs.Folds.{over-none, over-again}
+use Rattle.router.proofs.Landing.{landTurn, land-none, land-some, land-out, landed-long, landed-fit}
+use Rattle.router.proofs.intake.land.Statement.{statement}
+use Rattle.router.proofs.intake.land.Tie as tie
+
+abbrev Inv-loop : tie.InvT-loop
+Inv-loop config wire store₀ inputs₀ i₀ store inputs i =
+    (i ≤ config .ports) × (_≡_ {A = Queues} (record { inputs = inputs; store = store }) (overPorts i (landTurn config wire) (record { inputs = inputs₀; store = store₀ })))
+
+abbrev μ-loop : tie.MeasureT-loop
+μ-loop config wire store₀ inputs₀ i₀ store inputs i = config .ports - i
+
+loop-holds : tie.Need-loop-holds Inv-loop μ-loop
+loop-holds c = (search needs, over-none (landTurn (c .args .config) (c .args .wire .now)) (record { inputs = c .args .before; store = c .args .store .now }))
+
+cast-if1 : tie.Need-cast-if1 Inv-loop μ-loop
+cast-if1 c = search needs
+
+mul-place : tie.Need-mul-place Inv-loop μ-loop
+mul-place c = search needs
+
+element-copy-out-place : tie.Need-element-copy-out-place Inv-loop μ-loop
+element-copy-out-place c = search needs
+
+add-i : tie.Need-add-i Inv-loop μ-loop
+add-i c = search needs
+
+loop-less : tie.Need-loop-less Inv-loop μ-loop
+loop-less c = search needs
+
+loop-again : tie.Need-loop-again Inv-loop μ-loop
+loop-again c =
+    let l = c .before .before .before .before .loop in
+    let a = c .before .before .before .before .before .args in
+    let q : Queues = (record { inputs = l .inputs; store = l .store }) in (
+      search needs,
+      over-again (l .i) (landTurn (a .config) (a .wire .now)) (record { inputs = a .before; store = a .store .now }) q q (l .inv .1)
+          (land-none (a .config) (a .wire .now) q (l .i) (c .if2 .taken)),
+    )
+
+vc-on-wire-requires : tie.Need-vc-on-wire-requires Inv-loop μ-loop
+vc-on-wire-requires c κs = search needs
+
+number-requires : tie.Need-number-requires Inv-loop μ-loop
+number-requires c κs = search needs
+
+add-i-2 : tie.Need-add-i-2 Inv-loop μ-loop
+add-i-2 c = search needs
+
+loop-less-2 : tie.Need-loop-less-2 Inv-loop μ-loop
+loop-less-2 c = search needs
+
+loop-again-2 : tie.Need-loop-again-2 Inv-loop μ-loop
+loop-again-2 c =
+    let l = c .before .before .before .before .before .before .before .loop in
+    let a = c .before .before .before .before .before .before .before .before .args in
+    let q : Queues = (record { inputs = l .inputs; store = l .store }) in
+    let q₀ : Queues = (record { inputs = a .before; store = a .store .now }) in
+    let given : length (a .before) ≡ 32 = search (needs, length-any) in
+    let long : length (l .inputs) ≡ 32 = ap (λ (t : Queues). length (t .inputs)) (l .inv .1) ∙ landed-long (a .config) (a .wire .now) q₀ (l .i) ∙ given in (
+      search needs,
+      over-again (l .i) (landTurn (a .config) (a .wire .now)) q₀ q q (l .inv .1)
+          (land-out (a .config) (a .wire .now) q (l .i) (c .before .number .result) (c .before .before .before .if2 .left)
+          (c .before .number .ensures ∙ ap (channel (a .config) (l .i)) (c .before .before .vc-on-wire .ensures .0)) long (c .if3 .taken)),
+    )
+
+mul-input : tie.Need-mul-input Inv-loop μ-loop
+mul-input c = search needs
+
+array-copy-out-input : tie.Need-array-copy-out-input Inv-loop μ-loop
+array-copy-out-input c = c .if3 .left
+
+push-requires : tie.Need-push-requires Inv-loop μ-loop
+push-requires c κs = search needs
+
+with-one-more-queued-requires : tie.Need-with-one-more-queued-requires Inv-loop μ-loop
+with-one-more-queued-requires c κs =
+    let l = c .before .before .before .before .before .before .before .before .before .before .loop in
+    let a = c .before .before .before .before .before .before .before .before .before .before .before .args in
+    let h = landed-fit (a .config) (a .wire .now) (record { inputs = a .before; store = a .store .now }) (l .i) (c .before .before .before .before .before .before .before .before .before .before .before .pre .1) (c .before .before .before .before .number .result) in
+    let e : getD (l .inputs) (c .before .before .before .before .number .result) (freshInput 0) .queued ≤ 16 + l .i = rw (ap (λ (t : Queues). t .inputs) (l .inv .1)) h in omega arith
+
+mul-inputs : tie.Need-mul-inputs Inv-loop μ-loop
+mul-inputs c = search needs
+
+array-set-from-inputs : tie.Need-array-set-from-inputs Inv-loop μ-loop
+array-set-from-inputs c = c .before .before .before .before .if3 .left
+
+loop-less-3 : tie.Need-loop-less-3 Inv-loop μ-loop
+loop-less-3 c = search needs
+
+loop-again-3 : tie.Need-loop-again-3 Inv-loop μ-loop
+loop-again-3 c =
+    let l = c .before .before .before .before .before .before .before .before .before .before .before .loop in
+    let a = c .before .before .before .before .before .before .before .before .before .before .before .before .args in
+    let q : Queues = (record { inputs = l .inputs; store = l .store }) in
+    let q₀ : Queues = (record { inputs = a .before; store = a .store .now }) in (
+      search needs,
+      over-again (l .i) (landTurn (a .config) (a .wire .now)) q₀ q _ (l .inv .1)
+          (rw (c .with-one-more-queued .ensures, c .before .push .ensures)
+          (land-some (a .config) (a .wire .now) q (l .i) (c .before .before .before .before .before .number .result) (c .before .before .before .before .before .before .before .if2 .left)
+          (c .before .before .before .before .before .number .ensures ∙ ap (channel (a .config) (l .i)) (c .before .before .before .before .before .before .vc-on-wire .ensures .0)))),
+    )
+
+returns : tie.Need-returns Inv-loop μ-loop
+unfolding landings
+returns c =
+    let l = c .before .before .loop in
+    let a = c .before .before .before .args in
+    let e : l .i ≡ a .config .ports = omega arith in
+    l .inv .1 ∙ ap (λ (n : ℕ). overPorts n (landTurn (a .config) (a .wire .now)) (record { inputs = a .before; store = a .store .now })) e
+
+pub land-spec : {M : Type 1} → statement M
+land-spec =
+    tie.close
+    (tie.spec
+    Inv-loop
+    μ-loop
+    loop-holds
+    cast-if1
+    mul-place
+    element-copy-out-place
+    add-i
+    loop-less
+    loop-again
+    vc-on-wire-requires
+    number-requires
+    add-i-2
+    loop-less-2
+    loop-again-2
+    mul-input
+    array-copy-out-input
+    push-requires
+    with-one-more-queued-requires
+    mul-inputs
+    array-set-from-inputs
+    loop-less-3
+    loop-again-3
+    returns)
