@@ -8,3 +8,6 @@ pub mod Paying
 pub mod Advancing
 pub mod Landing
 pub mod Offering
+pub mod Asking
+pub mod Granting
+pub mod Binding

@@ -1,4 +1,5 @@
 // The code of a cycle: judged first, then acted on, phase by phase; equal to the rules.
+mod allocation;
 mod channel;
 mod counts;
 mod intake;
