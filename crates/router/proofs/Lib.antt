@@ -11,3 +11,7 @@ pub mod Offering
 pub mod Asking
 pub mod Granting
 pub mod Binding
+pub mod Readiness
+pub mod Choosing
+pub mod Moving
+pub mod Columns

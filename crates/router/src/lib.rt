@@ -5,3 +5,4 @@ mod counts;
 mod intake;
 mod judge;
 mod rows;
+mod switching;
