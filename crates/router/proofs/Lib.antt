@@ -15,3 +15,4 @@ pub mod Readiness
 pub mod Choosing
 pub mod Moving
 pub mod Columns
+pub mod Departing

@@ -4,5 +4,6 @@ mod channel;
 mod counts;
 mod intake;
 mod judge;
+mod leaving;
 mod rows;
 mod switching;

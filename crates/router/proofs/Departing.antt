@@ -1,0 +1,115 @@
+-- Phase 7, turn by turn.
+-- Assumes nothing.
+use mathlib.Core.Path.{_≡_, refl, sym, ap, _∙_}
+use mathlib.Core.Bool.{Bool}
+use mathlib.Core.List.{List}
+use mathlib.Core.Option.{Option, some, none}
+use Prim.Native.Nat.{ℕ, _+_, _-_, _<_, _≤_}
+use native.Mathlib.Omega.{arith}
+use lib.ListN.{length, getD, set, length-set, List·getD-eq-default}
+use lib.Seq.{set-out}
+use Rattle.base.specs.declared.config.Config.{Config}
+use Rattle.base.specs.declared.flit.Flit.{Flit}
+use Rattle.base.specs.declared.reply.Output.{Output}
+use Rattle.base.specs.Flit.{kindOf, endsKind}
+use Rattle.state.specs.declared.InVc.{InVc}
+use Rattle.state.specs.declared.OutVc.{OutVc}
+use Rattle.state.specs.declared.Binding.{Binding}
+use Rattle.state.specs.declared.Binding.the-variants.{Unbound, Bound}
+use Rattle.state.specs.declared.InputVc.{InputVc}
+use Rattle.state.specs.declared.OutputVc.{OutputVc}
+use Rattle.state.specs.Fresh.{freshInput, freshOutput}
+use Rattle.state.specs.Store.{frontOf, popped}
+use Rattle.state.specs.Views.{channel}
+use Rattle.rules.specs.Ports.{overPorts}
+use Rattle.rules.specs.Intake.{newest}
+use Rattle.rules.specs.Allocation.{vcOf}
+use Rattle.rules.specs.Departures.{Leaving, inputLeft, outputLeft, departure, leaves, leavesBy}
+use Rattle.rules.proofs.Folds.{over-keeps}
+use Rattle.router.specs.Picks.{pickIn}
+use Rattle.rules.proofs.Named.{named-some}
+
+-- the winner at output o, by the row picked there and by what that row's input picked
+abbrev pub win : List ℕ → List ℕ → ℕ → Option InVc
+win rows picks o = vcOf (pickIn picks) (pickIn rows o)
+
+abbrev pub leaveTurn : Config → List ℕ → List ℕ → Leaving → ℕ → Leaving
+leaveTurn c rows picks l o = leavesBy c o (win rows picks o) l
+
+module _ (c : Config) (rows picks : List ℕ) (l : Leaving) (o : ℕ) where
+  -- no row is picked
+  pub no-row : getD rows o 0 ≡ 0 → l ≡ leaveTurn c rows picks l o
+  no-row e = rw e
+
+  -- the row's input i picked nothing
+  pub no-pick : (i : ℕ) → (getD rows o 0 ≡ 0 → ⊥) → i ≡ getD rows o 0 - 1 → getD picks i 0 ≡ 0 → l ≡ leaveTurn c rows picks l o
+  no-pick i n e p = rw (named-some (getD rows o 0) n, sym e, p)
+
+  -- the winner is VC v of input i, on channel x
+  module _ (i v x : ℕ) (n : getD rows o 0 ≡ 0 → ⊥) (e : i ≡ getD rows o 0 - 1) (m : getD picks i 0 ≡ 0 → ⊥) (f : v ≡ getD picks i 0 - 1)
+      (h : x ≡ channel c i v) where
+    won : win rows picks o ≡ some (record { input = i; vc = v })
+    won = rw (named-some (getD rows o 0) n, sym e, named-some (getD picks i 0) m, sym f)
+
+    -- a winner that is not bound stays; there is none in a sound router
+    pub not-bound : getD (l .inputs) x (freshInput 0) .binding ≡ Unbound → l ≡ leaveTurn c rows picks l o
+    not-bound u = let w : getD (l .inputs) (channel c i v) (freshInput 0) .binding ≡ Unbound = rw (sym h) u in rw (won, w)
+
+    -- a winner on no channel that there is
+    pub no-channel : length (l .inputs) ≤ x → l ≡ leaveTurn c rows picks l o
+    no-channel g = not-bound (ap (λ (y : InputVc). y .binding) (List·getD-eq-default (l .inputs) (freshInput 0) g))
+
+    -- the front flit of channel x leaves by VC w of output o, on channel y: what the code's parts make of it
+    module _ (b : OutVc) (u : getD (l .inputs) x (freshInput 0) .binding ≡ Bound b) {flit : Flit} {kind : ℕ} {last : Bool} {store : List ℕ}
+        {input : InputVc} {report : Output} {w y : ℕ} (ef : flit ≡ frontOf (l .store) x) (ek : kind ≡ kindOf flit) (el : last ≡ endsKind kind)
+        (es : store ≡ popped (l .store) x) (ei : input ≡ inputLeft last (getD (l .inputs) x (freshInput 0)))
+        (er : report ≡ departure (b .vc) (getD rows o 0 - 1) (getD picks i 0 - 1) flit) (ew : w ≡ b .vc) (ey : y ≡ channel c o w) where
+      abbrev gone : List OutputVc → Leaving
+      gone outputs =
+          record {
+            inputs = set (l .inputs) x input;
+            outputs = outputs;
+            store = store;
+            home = set (l .home) (newest (c .back) i) (getD picks i 0);
+            left = set (l .left) o report;
+          }
+
+      pub leaves-now : {output : OutputVc} → output ≡ outputLeft last (getD (l .outputs) y (freshOutput 0))
+          → gone (set (l .outputs) y output) ≡ leaveTurn c rows picks l o
+      leaves-now et =
+          let p : getD (l .inputs) (channel c i v) (freshInput 0) .binding ≡ Bound b = rw (sym h) u in
+          let q : getD picks i 0 ≡ v + 1 = omega arith in rw (won, p, et, ei, er, es, el, ek, ef, ey, ew, sym e, sym f, q, h)
+
+      -- its output VC is none that there is
+      pub leaves-past : length (l .outputs) ≤ y → gone (l .outputs) ≡ leaveTurn c rows picks l o
+      leaves-past k =
+          ap gone (sym (set-out (l .outputs) y (outputLeft last (getD (l .outputs) y (freshOutput 0))) k)) ∙ leaves-now refl
+
+-- what a turn does keeps both arrays' lengths
+left-long : (c : Config) (o : ℕ) (w : Option InVc) (l : Leaving) (n m : ℕ) → length (l .inputs) ≡ n → length (l .outputs) ≡ m
+    → (length (leavesBy c o w l .inputs) ≡ n) × (length (leavesBy c o w l .outputs) ≡ m)
+left-long c o none l n m e f = (e, f)
+left-long c o (some x) l n m e f = go (getD (l .inputs) (channel c (x .input) (x .vc)) (freshInput 0) .binding)
+  where
+    i : ℕ
+    i = x .input
+
+    v : ℕ
+    v = x .vc
+
+    go : (b : Binding) → (length (leaves c o i v b l .inputs) ≡ n) × (length (leaves c o i v b l .outputs) ≡ m)
+    go Unbound = (e, f)
+    go (Bound b) = (length-set (l .inputs) _ _ ∙ e, length-set (l .outputs) _ _ ∙ f)
+
+pub leaving-long : (c : Config) (rows picks : List ℕ) (l : Leaving) (n m k : ℕ) → length (l .inputs) ≡ n → length (l .outputs) ≡ m
+    → (length (overPorts k (leaveTurn c rows picks) l .inputs) ≡ n) × (length (overPorts k (leaveTurn c rows picks) l .outputs) ≡ m)
+leaving-long c rows picks l n m k e f =
+    over-keeps (λ (t : Leaving). (length (t .inputs) ≡ n) × (length (t .outputs) ≡ m)) k (leaveTurn c rows picks) l
+    (λ t o h q. left-long c o (win rows picks o) t n m (q .0) (q .1)) (e, f)
+
+-- a loop's next turn: it is one of them, and leaves fewer
+pub more : (k n : ℕ) → n < k → n + 1 ≤ k
+more k n h = omega arith
+
+pub fewer : (k n : ℕ) → n < k → k - (n + 1) < k - n
+fewer k n h = omega arith

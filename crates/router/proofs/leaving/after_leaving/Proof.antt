@@ -1,0 +1,17 @@
+-- `router::leaving::after_leaving` meets its contract.
+-- Assumes nothing.
+use borrow.Author.Needs.{needs}
+use Rattle.router.proofs.leaving.after_leaving.Statement.{statement}
+use Rattle.router.proofs.leaving.after_leaving.Tie as tie
+
+less-one-requires : tie.Need-less-one-requires
+less-one-requires c κs = search needs
+
+returns : tie.Need-returns
+returns c = rw (c .before .less-one .ensures, c .if1 .taken)
+
+returns-2 : tie.Need-returns-2
+returns-2 c = rw (c .before .less-one .ensures, c .if1 .left)
+
+pub after-leaving-spec : {M : Type 1} → statement M
+after-leaving-spec = tie.close (tie.spec less-one-requires returns returns-2)
