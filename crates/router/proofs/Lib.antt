@@ -8,6 +8,7 @@ pub mod Paying
 pub mod Advancing
 pub mod Landing
 pub mod Offering
+pub mod Departing
 pub mod Asking
 pub mod Granting
 pub mod Binding
@@ -15,4 +16,8 @@ pub mod Readiness
 pub mod Choosing
 pub mod Moving
 pub mod Columns
-pub mod Departing
+pub mod Agreeing
+pub mod Phases
+pub mod SoundFits
+pub mod WholeCycle
+pub mod StepLaws
