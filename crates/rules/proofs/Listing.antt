@@ -22,7 +22,7 @@ use Rattle.base.specs.Sizes.{inRange, firstIllegal, illegalField}
 use Rattle.arbiter.specs.RoundRobin.{nextInTurn, pointerAfter}
 use Rattle.arbiter.specs.Matrix.{blankFrom}
 use Rattle.arbiter.specs.Arbiter as arbiter
-use Rattle.state.specs.Views.{queueAt, places, wireOf, homeOf, flat, total}
+use Rattle.state.specs.Views.{inputAt, queueAt, places, wireOf, homeOf, flat, total}
 use Rattle.state.specs.Sound.{isNone, all, configurationLegal, cyclesFit, creditsWhole, creditsAddUp, legalFlit, wirePlaceLegal, wireLegal, homeLegal, queuesLegal, outputCreditsFit, namesAgree, arbitersSound, reading, reads, packetsRead, channelsUnused, slotsEmpty, lineUnused, arbitersUnused, shaped, clauses, sound}
 use Rattle.state.specs.Store.{frontOf, pushed, movedUp, popped}
 use Rattle.trace.specs.Bytes.{bigEndian}
@@ -80,6 +80,12 @@ leftBy1 input kind payload r =
 abbrev replyIn : ℕ → Reply
 replyIn n = stepOf (before n) (partOf n) .reply
 
+-- of VC 0 of input 0, after so many cycles: sender credit, flits on the wire, flits queued, credits on the way home
+abbrev countsAfter : ℕ → List ℕ
+countsAfter n =
+    inputAt config (before n .inputs) 0 0 .credit ∷ length (flat (wireOf config (before n .wire) 0 0)) ∷ inputAt config (before n .inputs) 0 0 .queued
+    ∷ total (homeOf config (before n .home) 0 0) ∷ []
+
 pub record Listing : Type 0 where
   pub cycle0 : replyIn 0 ≡ emptyReply
   pub cycle1 : replyIn 1 ≡ leftBy1 0 single 0x11 emptyReply
@@ -87,7 +93,10 @@ pub record Listing : Type 0 where
   pub cycle3 : replyIn 3 ≡ creditTo 2 emptyReply
   pub cycle4 : replyIn 4 ≡ leftBy1 0 head 0x21 emptyReply
   pub cycle5 : replyIn 5 ≡ creditTo 0 (leftBy1 0 tail 0x22 emptyReply)
+  -- "After cycle 3, input 0 has credit 0, wire 0, queue 2, home 0; after cycle 5, 1, 0, 0, 1."
+  pub after3 : countsAfter 4 ≡ 0 ∷ 0 ∷ 2 ∷ 0 ∷ []
+  pub after5 : countsAfter 6 ≡ 1 ∷ 0 ∷ 0 ∷ 1 ∷ []
 
 pub listing : Listing
 unfolding xor firstFrom every orElse inRange firstIllegal illegalField flitOf kindOf destinationOf payloadOf startsKind endsKind nextInTurn pointerAfter blankFrom arbiter.known arbiter.usable arbiter.choice arbiter.moved arbiter.after arbiter.fresh arbiter.sound queueAt places wireOf homeOf flat total isNone all configurationLegal cyclesFit creditsWhole creditsAddUp legalFlit wirePlaceLegal wireLegal homeLegal queuesLegal outputCreditsFit namesAgree arbitersSound reading reads packetsRead channelsUnused slotsEmpty lineUnused arbitersUnused shaped clauses sound frontOf pushed movedUp popped bigEndian overPorts rowZero noOffer legalOffer rowLegal advanced sendersPaid reported creditsReached outputsPaid creditsReturned landings landed offers offersTaken asks freeVc grantOf bindings wideMoved narrowMoved allocated isReady inputPick request outputPick switched winner departures leavingOf runFull rowWrong creditPastRoom outOfTurn noSenderCredit firstOf judged takenIn sentOut routerAfter replyOf stepOf freshRouter
-listing = record { cycle0 = refl; cycle1 = refl; cycle2 = refl; cycle3 = refl; cycle4 = refl; cycle5 = refl }
+listing = record { cycle0 = refl; cycle1 = refl; cycle2 = refl; cycle3 = refl; cycle4 = refl; cycle5 = refl; after3 = refl; after5 = refl }
