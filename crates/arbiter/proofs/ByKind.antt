@@ -2,9 +2,9 @@
 -- Assumes nothing.
 use mathlib.Core.Path.{_≡_, refl, ap, ap₂}
 use mathlib.Core.Logic.{_⊎_, inl, inr}
-use mathlib.Core.Bool.{Bool, true, false, not, _&&_, _||_, and-true, and-false, or-true}
+use mathlib.Core.Bool.{Bool, true, false, cond, not, _&&_, _||_, and-true, and-false, or-true}
 use mathlib.Core.List.{List}
-use mathlib.Core.Option.{none}
+use mathlib.Core.Option.{Option, none}
 use Prim.Native.Nat.{ℕ, _-_, _%_, _^_, _≤_, _<_}
 use native.Mathlib.Nat.{mod-lt}
 use native.Mathlib.Omega.{arith}
@@ -82,6 +82,20 @@ pub masked-lt : (n word : ℕ) → word % 2 ^ n < 2 ^ n
 masked-lt n word = mod-lt word (pow-pos n)
 
 -- ---- the choice
+
+-- requests that agree below the width give the same choice
+pub choice-same : (places code n : ℕ) (f g : ℕ → Bool) (a : Arbiter) → ((i : ℕ) → i < n → f i ≡ g i)
+    → choice places code n f a ≡ choice places code n g a
+unfolding choice
+choice-same places code n f g a same = go (usable places code n (a .pointer)) refl
+  where
+    go : (b : Bool) → usable places code n (a .pointer) ≡ b
+        → cond b (cond (eqb code 1) (nextInTurn n f (a .pointer)) (champion n f (a .rows))) none
+        ≡ cond b (cond (eqb code 1) (nextInTurn n g (a .pointer)) (champion n g (a .rows))) none
+    go true e =
+        let p = usable-is places code n (a .pointer) e in
+        ap₂ (λ (x y : Option ℕ). cond (eqb code 1) x y) (turn-ext n f g (a .pointer) (omega (arith, p .1)) same) (champion-ext n f g (a .rows) same)
+    go false e = refl
 
 module _ (places code n word : ℕ) (a : Arbiter) where
   pub choice-unusable : usable places code n (a .pointer) ≡ false → none ≡ choice places code n (bit word) a

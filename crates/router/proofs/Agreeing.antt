@@ -11,6 +11,7 @@ use Rattle.base.specs.declared.config.Config.{Config}
 use Rattle.base.specs.Bits.{bit, wordOf}
 use Rattle.base.proofs.Bits.{bit-shr, bit-word}
 use Rattle.arbiter.specs.Arbiter.{ofNarrow, ofWide, choice}
+use Rattle.arbiter.proofs.ByKind.{choice-same}
 use Rattle.arbiter.proofs.Winners.{winner-asks}
 use Rattle.state.specs.declared.InVc.{InVc}
 use Rattle.state.specs.declared.InputVc.{InputVc}
@@ -23,7 +24,7 @@ use Rattle.router.specs.declared.allocation.Granted.{Granted}
 use Rattle.router.specs.Grants.{grantAt}
 use Rattle.router.specs.Picks.{pickIn, asksIn}
 use Rattle.router.proofs.Asking.{places-at}
-use Rattle.router.proofs.Choosing.{choice-same, inputChoice}
+use Rattle.router.proofs.Choosing.{inputChoice}
 
 module _ (s : Router) (few : s .config .ports ≤ 8) where
   abbrev c : Config

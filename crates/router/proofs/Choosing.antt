@@ -1,10 +1,10 @@
--- Picks as numbers, and that a choice reads no request beyond its width.
+-- Picks as numbers.
 -- Assumes nothing.
-use mathlib.Core.Path.{_≡_, refl, sym, ap, ap₂, _∙_}
-use mathlib.Core.Bool.{Bool, true, false, cond, not, _&&_, _||_}
+use mathlib.Core.Path.{_≡_, refl, sym, ap, _∙_}
+use mathlib.Core.Bool.{Bool, true, false, cond}
 use mathlib.Core.List.{List}
 use mathlib.Core.Option.{Option, some, none, Option·none-ne-some}
-use Prim.Native.Nat.{ℕ, zero, suc, _+_, _-_, _*_, _/_, _^_, _<_}
+use Prim.Native.Nat.{ℕ, zero, suc, _+_, _*_, _/_, _^_, _<_}
 use native.Mathlib.Nat.{suc-mul, zero-mul, div-one}
 use native.Mathlib.Omega.{arith}
 use lib.Dec.{eqb}
@@ -12,8 +12,6 @@ use lib.ListN.{length, getD, set}
 use lib.Pow.{shr-shr}
 use lib.Seq.{getD-set-same, getD-set-other}
 use borrow.Author.Count.{below-more}
-use Rattle.base.proofs.Search.{every-ext, first-ext}
-use Rattle.base.specs.Search.{orElse}
 use Rattle.base.specs.declared.config.Config.{Config}
 use Rattle.base.specs.Bits.{bit}
 use Rattle.arbiter.specs.declared.Narrow.{Narrow}
@@ -21,7 +19,7 @@ use Rattle.arbiter.specs.declared.Pick.{Pick}
 use Rattle.arbiter.specs.declared.Pick.the-variants.{Nobody, Winner}
 use Rattle.arbiter.specs.Requests.{winnerOf}
 use Rattle.arbiter.specs.RoundRobin.{nextInTurn}
-use Rattle.arbiter.specs.Matrix.{beats, beatsEveryOther, champion}
+use Rattle.arbiter.specs.Matrix.{champion}
 use Rattle.arbiter.specs.Arbiter.{Arbiter, ofNarrow, usable, choice}
 use Rattle.arbiter.proofs.ByKind.{known-is, usable-is}
 use Rattle.arbiter.proofs.Winners.{winner-asks}
@@ -55,33 +53,6 @@ module _ (places code n : ℕ) (ask : ℕ → Bool) (a : Arbiter) where
       let l = winner-asks places code n ask a w g .0 in
       let r = known-is places code n (usable-is places code n (a .pointer) (usable-chosen w g) .0) .room in
       omega arith
-
-module _ (places code n : ℕ) (f g : ℕ → Bool) (a : Arbiter) (same : (i : ℕ) → i < n → f i ≡ g i) where
-  turn-same : a .pointer < n → nextInTurn n f (a .pointer) ≡ nextInTurn n g (a .pointer)
-  unfolding nextInTurn
-  turn-same h =
-      ap₂ orElse (first-ext f g (n - a .pointer) (a .pointer) (λ j l k. same j (omega arith)))
-      (first-ext f g (a .pointer) 0 (λ j l k. same j (omega arith)))
-
-  champion-same : champion n f (a .rows) ≡ champion n g (a .rows)
-  unfolding champion beatsEveryOther
-  champion-same =
-      first-ext (λ (i : ℕ). f i && beatsEveryOther n f (a .rows) i) (λ (i : ℕ). g i && beatsEveryOther n g (a .rows) i) n 0
-      (λ i l k.
-      ap₂ _&&_ (same i (omega arith))
-      (every-ext n (λ (j : ℕ). not (f j) || eqb j i || beats (a .rows) i j) (λ (j : ℕ). not (g j) || eqb j i || beats (a .rows) i j)
-      (λ j m. ap (λ (b : Bool). not b || eqb j i || beats (a .rows) i j) (same j m))))
-
-  -- requests that agree below the width give the same choice
-  pub choice-same : choice places code n f a ≡ choice places code n g a
-  unfolding choice
-  choice-same = go (usable places code n (a .pointer)) refl
-    where
-      go : (b : Bool) → usable places code n (a .pointer) ≡ b
-          → cond b (cond (eqb code 1) (nextInTurn n f (a .pointer)) (champion n f (a .rows))) none
-          ≡ cond b (cond (eqb code 1) (nextInTurn n g (a .pointer)) (champion n g (a .rows))) none
-      go true e = ap₂ (λ (x y : Option ℕ). cond (eqb code 1) x y) (turn-same (usable-is places code n (a .pointer) e .1)) champion-same
-      go false e = refl
 
 -- the picks so far, one more
 pub picks-again : (f : ℕ → Option ℕ) (picks : List ℕ) (i p : ℕ) → i < length picks → ((j : ℕ) → j < i → pickIn picks j ≡ f j)

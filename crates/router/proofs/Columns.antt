@@ -17,6 +17,7 @@ use Rattle.base.specs.Bits.{bit, wordOf}
 use Rattle.base.proofs.Bits.{bit-word}
 use Rattle.arbiter.specs.declared.Narrow.{Narrow}
 use Rattle.arbiter.specs.Arbiter.{ofNarrow, choice}
+use Rattle.arbiter.proofs.ByKind.{choice-same}
 use Rattle.state.specs.declared.OutVc.{OutVc}
 use Rattle.state.specs.declared.Binding.the-variants.{Unbound, Bound}
 use Rattle.state.specs.declared.InputVc.{InputVc}
@@ -26,7 +27,6 @@ use Rattle.rules.specs.Allocation.{isFor, picked}
 use Rattle.rules.proofs.Named.{named-some}
 use Rattle.rules.specs.Ports.{named}
 use Rattle.router.specs.Picks.{pickIn, asksIn}
-use Rattle.router.proofs.Choosing.{choice-same}
 
 module _ (c : Config) (inputs : List InputVc) (i pick : ℕ) where
   -- no pick asks for nothing
