@@ -46,7 +46,7 @@ module _ {A : Type 0} (d : A) (g : ℕ → A → A) where
 module _ {A : Type 0} (d : A) (of : A → Arbiter) (in-struct : Arbiter → A) (same : (a : Arbiter) → of (in-struct a) ≡ a) (none : of d .rows ≡ [])
     (places code n : ℕ) (room : 1 ≤ places) where
   -- a sound arbiter is not past the end
-  sound-there : (xs : List A) (i : ℕ) → sound places code n (of (getD xs i d)) ≡ true → i < length xs
+  pub sound-there : (xs : List A) (i : ℕ) → sound places code n (of (getD xs i d)) ≡ true → i < length xs
   sound-there xs i e = go (ltb i (length xs)) refl
     where
       go : (b : Bool) → ltb i (length xs) ≡ b → i < length xs

@@ -45,3 +45,12 @@ pub mod StepSound
 pub mod Choices
 pub mod LeavingViews
 pub mod StepChannel
+pub mod ChosenViews
+pub mod ChosenBinds
+pub mod ChosenGrants
+pub mod ChosenWinners
+pub mod ChosenLeaves
+pub mod ChosenDepartures
+pub mod ChosenEvent
+pub mod ChosenStep
+pub mod ChosenArbiters
