@@ -11,15 +11,17 @@ use borrow.Author.Tests.{lt-ltb, le-ltb, le-leb, lt-leb, eq-eqb, ne-eqb, eqb-tru
 use Rattle.base.specs.declared.config.Config.{Config}
 use Rattle.base.specs.Search.{every}
 use Rattle.base.proofs.Search.{all-every}
+use Rattle.state.specs.declared.Binding.{Binding}
 use Rattle.state.specs.declared.Binding.the-variants.{Unbound}
+use Rattle.state.specs.declared.Holder.{Holder}
 use Rattle.state.specs.declared.Holder.the-variants.{Nobody}
 use Rattle.state.specs.declared.InputVc.{InputVc}
 use Rattle.state.specs.declared.OutputVc.{OutputVc}
 use Rattle.state.specs.Fresh.{freshInput, freshOutput}
 use Rattle.state.specs.Views.{inputAt, outputAt, queueOf, wireOf, homeOf, flat, total}
-use Rattle.state.specs.Sound.{all, legalFlit, creditsWhole, reading, endsAs, startsInside, reads, inputNamed, outputNamed, isUnbound, isFree, inputUnused, outputUnused, channelsUnused, slotsEmpty}
-use Rattle.state.specs.Testing.{Bounded, inputSound, namesSound, channelSound}
-use Rattle.state.proofs.Naming.{channel-fits}
+use Rattle.state.specs.Sound.{all, legalFlit, creditsWhole, reading, endsAs, startsInside, reads, isUnbound, isFree, inputUnused, outputUnused, channelsUnused, slotsEmpty}
+use Rattle.state.specs.Testing.{Bounded, boundPlace, heldPlace, inputNames, outputNames, inputSound, namesPass, namesSound, channelSound}
+use Rattle.state.proofs.Naming.{channel-fits, input-names, output-names}
 use Rattle.state.proofs.Tests.{and-no, and-yes}
 
 -- what is counted is what the clause says
@@ -62,25 +64,40 @@ module _ (c : Config) (store wire home : List ℕ) (i v : ℕ) (input : InputVc)
       ap (λ b. endsAs (input .inside) (reading b (queueOf c store i v (input .queued) ++ flat (wireOf c wire i v)))) s
       ∙ and-yes (all (legalFlit c) (queueOf c store i v (input .queued))) _ f ∙ and-yes (creditsWhole c wire home i v input) _ e
 
+-- one channel's names
+module _ (c : Config) (i v : ℕ) (input : InputVc) (output : OutputVc) (holder : Holder) (binding : Binding) where
+  pub names-credit : c .downstream < output .credit → false ≡ namesPass c i v input output holder binding
+  unfolding namesPass
+  names-credit h = and-no (leb (output .credit) (c .downstream)) _ (lt-leb (output .credit) (c .downstream) h)
+
+  pub names-input : output .credit ≤ c .downstream → inputNames c i v (input .binding) holder ≡ false
+      → false ≡ namesPass c i v input output holder binding
+  unfolding namesPass
+  names-input h e =
+      and-no (inputNames c i v (input .binding) holder) _ e
+      ∙ and-yes (leb (output .credit) (c .downstream)) _ (le-leb (output .credit) (c .downstream) h)
+
+  pub names-are : output .credit ≤ c .downstream → inputNames c i v (input .binding) holder ≡ true
+      → outputNames c i v (output .holder) binding ≡ namesPass c i v input output holder binding
+  unfolding namesPass
+  names-are h e =
+      and-yes (inputNames c i v (input .binding) holder) _ e
+      ∙ and-yes (leb (output .credit) (c .downstream)) _ (le-leb (output .credit) (c .downstream) h)
+
 -- one channel
 module _ (c : Config) (inputs : List InputVc) (outputs : List OutputVc) (i v : ℕ) where
-  pub names-credit : c .downstream < outputAt c outputs i v .credit → false ≡ namesSound c inputs outputs i v
-  unfolding namesSound
-  names-credit h = and-no (leb (outputAt c outputs i v .credit) (c .downstream)) _ (lt-leb (outputAt c outputs i v .credit) (c .downstream) h)
-
-  pub names-input : outputAt c outputs i v .credit ≤ c .downstream → inputNamed c outputs i v (inputAt c inputs i v .binding) ≡ false
-      → false ≡ namesSound c inputs outputs i v
-  unfolding namesSound
-  names-input h e =
-      and-no (inputNamed c outputs i v (inputAt c inputs i v .binding)) _ e
-      ∙ and-yes (leb (outputAt c outputs i v .credit) (c .downstream)) _ (le-leb (outputAt c outputs i v .credit) (c .downstream) h)
-
-  pub names-are : outputAt c outputs i v .credit ≤ c .downstream → inputNamed c outputs i v (inputAt c inputs i v .binding) ≡ true
-      → outputNamed c inputs i v (outputAt c outputs i v .holder) ≡ namesSound c inputs outputs i v
-  unfolding namesSound
-  names-are h e =
-      and-yes (inputNamed c outputs i v (inputAt c inputs i v .binding)) _ e
-      ∙ and-yes (leb (outputAt c outputs i v .credit) (c .downstream)) _ (le-leb (outputAt c outputs i v .credit) (c .downstream) h)
+  -- y and z are the places of what the two VCs name
+  pub names-pass : (y z : ℕ) (r : Bool) → Bounded c → y ≡ boundPlace c (inputAt c inputs i v .binding) → z ≡ heldPlace c (outputAt c outputs i v .holder)
+      → r ≡ namesPass c i v (inputAt c inputs i v) (outputAt c outputs i v) (getD outputs y (freshOutput 0) .holder)
+      (getD inputs z (freshInput 0) .binding)
+      → r ≡ namesSound c inputs outputs i v
+  unfolding namesPass namesSound
+  names-pass y z r b d e f =
+      f ∙ ap₂ (λ p q. leb (outputAt c outputs i v .credit) (c .downstream) && (p && q))
+      (ap (λ n. inputNames c i v (inputAt c inputs i v .binding) (getD outputs n (freshOutput 0) .holder)) d
+      ∙ input-names c outputs i v (inputAt c inputs i v .binding) (b .ports) (b .vcs))
+      (ap (λ n. outputNames c i v (outputAt c outputs i v .holder) (getD inputs n (freshInput 0) .binding)) e
+      ∙ output-names c inputs i v (outputAt c outputs i v .holder) (b .ports) (b .vcs))
 
   pub channel-fails : (store wire home : List ℕ) → namesSound c inputs outputs i v ≡ false → false ≡ channelSound c inputs outputs store wire home i v
   unfolding channelSound

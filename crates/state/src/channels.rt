@@ -14,7 +14,7 @@ ghost use lib.Dec.{eqb, ltb};
 ghost use lib.ListN.{length, getD};
 ghost use Rattle.base.specs.Search.{every};
 ghost use Rattle.state.specs.Sound.{creditsWhole, everyChannel, inputUnused, outputUnused, channelsUnused, slotsEmpty};
-ghost use Rattle.state.specs.Testing.{Bounded, inputSound, namesSound, channelSound};
+ghost use Rattle.state.specs.Testing.{Bounded, inputSound, namesPass, channelSound};
 
 // "sender credit + wire + queue + credits going home = D"
 fn are_credits_whole(
@@ -71,50 +71,27 @@ fn is_input_sound(
     )
 }
 
-// One channel's output credit, and the names of both its VCs.
+// One channel's output credit, and the names of both its VCs: what holds the output VC it names, and what the input VC it names is bound to.
 fn are_names_sound(
     config: Config,
     i: u8,
     v: u8,
-    inputs: [InputVc; 32],
-    outputs: [OutputVc; 32],
+    input: InputVc,
+    output: OutputVc,
+    holder: Holder,
+    binding: Binding,
 ) -> bool
-    requires { ⌜ Bounded config × (i < config .ports) × (v < config .vcs) ⌝ }
-    ensures { λ r. ⌜ r ≡ namesSound config inputs outputs i v ⌝ }
+    ensures { λ r. ⌜ r ≡ namesPass config i v input output holder binding ⌝ }
 {
-    let x = (i as usize) * (config.vcs as usize) + (v as usize);
-    let output = outputs[x];
     if config.downstream < output.credit {
         return false;
     }
-    let input = inputs[x];
-    let binding = input.binding;
-    if !names::is_input_named(config, i, v, binding, outputs) {
+    let bound = input.binding;
+    if !names::is_input_named(config, i, v, bound, holder) {
         return false;
     }
-    let holder = output.holder;
-    names::is_output_named(config, i, v, holder, inputs)
-}
-
-fn is_channel_sound(
-    config: Config,
-    i: u8,
-    v: u8,
-    inputs: [InputVc; 32],
-    outputs: [OutputVc; 32],
-    store: &[u64; 512],
-    wire: &[u64; 64],
-    home: &[u8; 64],
-) -> bool
-    requires { ⌜ Bounded config × (i < config .ports) × (v < config .vcs) × (length (now store) ≡ 512) ⌝ }
-    ensures { λ r. ⌜ r ≡ channelSound config inputs outputs (now (store .entry)) (now (wire .entry)) (now (home .entry)) i v ⌝ }
-{
-    if !are_names_sound(config, i, v, inputs, outputs) {
-        return false;
-    }
-    let x = (i as usize) * (config.vcs as usize) + (v as usize);
-    let input = inputs[x];
-    is_input_sound(config, i, v, input, store, wire, home)
+    let held = output.holder;
+    names::is_output_named(config, i, v, held, binding)
 }
 
 fn is_port_sound(
@@ -131,7 +108,21 @@ fn is_port_sound(
 {
     let mut v: u8 = 0;
     while v < config.vcs {
-        if !is_channel_sound(config, i, v, inputs, outputs, store, wire, home) {
+        let x = (i as usize) * (config.vcs as usize) + (v as usize);
+        let input = inputs[x];
+        let output = outputs[x];
+        let bound = input.binding;
+        let y = names::bound_place(config, bound);
+        let there = outputs[y];
+        let holder = there.holder;
+        let held = output.holder;
+        let z = names::held_place(config, held);
+        let back = inputs[z];
+        let binding = back.binding;
+        if !are_names_sound(config, i, v, input, output, holder, binding) {
+            return false;
+        }
+        if !is_input_sound(config, i, v, input, store, wire, home) {
             return false;
         }
         v += 1;

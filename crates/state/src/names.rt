@@ -1,12 +1,38 @@
 // "input VC and output VC name each other or neither does"
 use crate::Binding;
 use crate::Holder;
-use crate::InputVc;
-use crate::OutputVc;
 use base::Config;
 ghost use mathlib.Core.Path.{_≡_};
-ghost use Prim.Native.Nat.{_≤_};
-ghost use Rattle.state.specs.Sound.{bindingIs, holderIs, inputNamed, outputNamed};
+ghost use Prim.Native.Nat.{_<_};
+ghost use Rattle.state.specs.Sound.{bindingIs, holderIs};
+ghost use Rattle.state.specs.Testing.{placeOf, boundPlace, heldPlace, inputNames, outputNames};
+
+// The place of channel v of port i in the arrays; beyond P and V some place.
+fn place(config: Config, i: u8, v: u8) -> usize
+    ensures { λ r. ⌜ r ≡ placeOf config i v ⌝ }
+{
+    ((i as usize) * (config.vcs as usize) + (v as usize)) % 32
+}
+
+// The place of what an input VC names.
+pub(crate) fn bound_place(config: Config, binding: Binding) -> usize
+    ensures { λ r. ⌜ (r ≡ boundPlace config binding) × (r < 32) ⌝ }
+{
+    let Binding::Bound(to) = binding else {
+        return 0;
+    };
+    place(config, to.output, to.vc)
+}
+
+// The place of what an output VC names.
+pub(crate) fn held_place(config: Config, holder: Holder) -> usize
+    ensures { λ r. ⌜ (r ≡ heldPlace config holder) × (r < 32) ⌝ }
+{
+    let Holder::Held(by) = holder else {
+        return 0;
+    };
+    place(config, by.input, by.vc)
+}
 
 // Whether input VC v of port i is the holder.
 fn is_held_by(i: u8, v: u8, holder: Holder) -> bool
@@ -34,16 +60,9 @@ fn is_bound_to(o: u8, w: u8, binding: Binding) -> bool
     to.vc == w
 }
 
-// What input VC v of port i names names it, or it names nothing.
-pub(crate) fn is_input_named(
-    config: Config,
-    i: u8,
-    v: u8,
-    binding: Binding,
-    outputs: [OutputVc; 32],
-) -> bool
-    requires { ⌜ (config .ports ≤ 8) × (config .vcs ≤ 4) ⌝ }
-    ensures { λ r. ⌜ r ≡ inputNamed config outputs i v binding ⌝ }
+// What input VC v of port i names is held by it, or it names nothing.
+pub(crate) fn is_input_named(config: Config, i: u8, v: u8, binding: Binding, holder: Holder) -> bool
+    ensures { λ r. ⌜ r ≡ inputNames config i v binding holder ⌝ }
 {
     let Binding::Bound(to) = binding else {
         return true;
@@ -54,22 +73,18 @@ pub(crate) fn is_input_named(
     if config.vcs <= to.vc {
         return false;
     }
-    let y = (to.output as usize) * (config.vcs as usize) + (to.vc as usize);
-    let output = outputs[y];
-    let holder = output.holder;
     is_held_by(i, v, holder)
 }
 
-// What output VC w of port o names names it, or it names nothing.
+// What output VC w of port o names is bound to it, or it names nothing.
 pub(crate) fn is_output_named(
     config: Config,
     o: u8,
     w: u8,
     holder: Holder,
-    inputs: [InputVc; 32],
+    binding: Binding,
 ) -> bool
-    requires { ⌜ (config .ports ≤ 8) × (config .vcs ≤ 4) ⌝ }
-    ensures { λ r. ⌜ r ≡ outputNamed config inputs o w holder ⌝ }
+    ensures { λ r. ⌜ r ≡ outputNames config o w holder binding ⌝ }
 {
     let Holder::Held(by) = holder else {
         return true;
@@ -80,8 +95,5 @@ pub(crate) fn is_output_named(
     if config.vcs <= by.vc {
         return false;
     }
-    let x = (by.input as usize) * (config.vcs as usize) + (by.vc as usize);
-    let input = inputs[x];
-    let binding = input.binding;
     is_bound_to(o, w, binding)
 }

@@ -1,42 +1,95 @@
--- `state::channels::is_port_sound` meets its contract: the VCs passed so far pass.
+-- `state::channels::is_port_sound` meets its contract.
 -- Assumes nothing.
 use native.Mathlib.Omega.{arith}
 use mathlib.Core.Path.{_≡_, sym, ap, ap₂, _∙_}
-use Prim.Native.Nat.{ℕ, _≤_, _<_, _*_, _-_}
-use mathlib.Core.Bool.{Bool, true, false}
+use mathlib.Core.Bool.{true}
+use Prim.Native.Nat.{ℕ, _≤_, _<_, _-_}
 use borrow.Author.Tests.{not-true, not-false}
-use Rattle.base.specs.Search.{every}
 use borrow.Author.Needs.{needs}
+use Rattle.base.specs.Search.{every}
 use Rattle.state.specs.Testing.{channelSound}
+use Rattle.state.proofs.Naming.{channel-fits}
+use Rattle.state.proofs.Clauses.{names-pass, channel-fails, channel-is}
 use Rattle.state.proofs.Tests.{every-none, every-more, every-passed, every-fails}
 use Rattle.state.proofs.channels.is_port_sound.Statement.{statement}
 use Rattle.state.proofs.channels.is_port_sound.Tie as tie
 
 abbrev Inv-loop : tie.InvT-loop
-Inv-loop config i inputs outputs store wire home v₀ v = (v ≤ config .vcs) × (every v (channelSound config inputs outputs store wire home i) ≡ true)
+Inv-loop config i store wire home inputs outputs v₀ v = (v ≤ config .vcs) × (every v (channelSound config inputs outputs store wire home i) ≡ true)
 
 abbrev μ-loop : tie.MeasureT-loop
-μ-loop config i inputs outputs store wire home v₀ v = config .vcs - v
+μ-loop config i store wire home inputs outputs v₀ v = config .vcs - v
 
 loop-holds : tie.Need-loop-holds Inv-loop μ-loop
-loop-holds c = (
-  search needs,
-  every-none (channelSound (c .args .config) (c .args .inputs) (c .args .outputs) (c .args .store .now) (c .args .wire .now)
-      (c .args .home .now) (c .args .i)),
-)
+loop-holds c = (search needs, every-none (channelSound (c .args .config) (c .args .t3) (c .args .t4) (c .args .store .now) (c .args .wire .now) (c .args .home .now) (c .args .i)))
 
-is-channel-sound-requires : tie.Need-is-channel-sound-requires Inv-loop μ-loop
-is-channel-sound-requires c κs =
-    (c .before .before .before .pre .0, c .before .before .before .pre .1, search needs, c .before .before .before .pre .2)
+cast-x : tie.Need-cast-x Inv-loop μ-loop
+cast-x c = search needs
+
+mul-x : tie.Need-mul-x Inv-loop μ-loop
+mul-x c =
+    let p = c .before .before .before .before .pre in let h : c .before .before .before .loop .v < c .before .before .before .before .args .config .vcs = search needs in let l = channel-fits (c .before .before .before .before .args .config .ports) (c .before .before .before .before .args .config .vcs) (c .before .before .before .before .args .i)
+    (c .before .before .before .loop .v) (p .1) h (p .0 .ports) (p .0 .vcs) in record { fits = omega arith }
+
+cast-x-2 : tie.Need-cast-x-2 Inv-loop μ-loop
+cast-x-2 c = search needs
+
+add-x : tie.Need-add-x Inv-loop μ-loop
+add-x c =
+    let p = c .before .before .before .before .pre in let h : c .before .before .before .loop .v < c .before .before .before .before .args .config .vcs = search needs in let l = channel-fits (c .before .before .before .before .args .config .ports) (c .before .before .before .before .args .config .vcs) (c .before .before .before .before .args .i)
+    (c .before .before .before .loop .v) (p .1) h (p .0 .ports) (p .0 .vcs) in record { fits = omega arith }
+
+mul-input : tie.Need-mul-input Inv-loop μ-loop
+mul-input c =
+    let p = c .before .before .before .before .pre in let h : c .before .before .before .loop .v < c .before .before .before .before .args .config .vcs = search needs in let l = channel-fits (c .before .before .before .before .args .config .ports) (c .before .before .before .before .args .config .vcs) (c .before .before .before .before .args .i)
+    (c .before .before .before .loop .v) (p .1) h (p .0 .ports) (p .0 .vcs) in record { fits = omega arith }
+
+array-copy-out-input : tie.Need-array-copy-out-input Inv-loop μ-loop
+array-copy-out-input c =
+    let p = c .before .before .before .before .pre in let h : c .before .before .before .loop .v < c .before .before .before .before .args .config .vcs = search needs in let l = channel-fits (c .before .before .before .before .args .config .ports) (c .before .before .before .before .args .config .vcs) (c .before .before .before .before .args .i)
+    (c .before .before .before .loop .v) (p .1) h (p .0 .ports) (p .0 .vcs) in l
+
+mul-output : tie.Need-mul-output Inv-loop μ-loop
+mul-output c =
+    let p = c .before .before .before .before .before .pre in let h : c .before .before .before .before .loop .v < c .before .before .before .before .before .args .config .vcs = search needs in let l = channel-fits (c .before .before .before .before .before .args .config .ports) (c .before .before .before .before .before .args .config .vcs) (c .before .before .before .before .before .args .i)
+    (c .before .before .before .before .loop .v) (p .1) h (p .0 .ports) (p .0 .vcs) in record { fits = omega arith }
+
+array-copy-out-output : tie.Need-array-copy-out-output Inv-loop μ-loop
+array-copy-out-output c =
+    let p = c .before .before .before .before .before .pre in let h : c .before .before .before .before .loop .v < c .before .before .before .before .before .args .config .vcs = search needs in let l = channel-fits (c .before .before .before .before .before .args .config .ports) (c .before .before .before .before .before .args .config .vcs) (c .before .before .before .before .before .args .i)
+    (c .before .before .before .before .loop .v) (p .1) h (p .0 .ports) (p .0 .vcs) in l
+
+bound-place-requires : tie.Need-bound-place-requires Inv-loop μ-loop
+bound-place-requires c κs = search needs
+
+mul-there : tie.Need-mul-there Inv-loop μ-loop
+mul-there c = search needs
+
+array-copy-out-there : tie.Need-array-copy-out-there Inv-loop μ-loop
+array-copy-out-there c = search needs
+
+held-place-requires : tie.Need-held-place-requires Inv-loop μ-loop
+held-place-requires c κs = search needs
+
+mul-back : tie.Need-mul-back Inv-loop μ-loop
+mul-back c = search needs
+
+array-copy-out-back : tie.Need-array-copy-out-back Inv-loop μ-loop
+array-copy-out-back c = search needs
+
+are-names-sound-requires : tie.Need-are-names-sound-requires Inv-loop μ-loop
+are-names-sound-requires c κs = search needs
 
 returns : tie.Need-returns Inv-loop μ-loop
 returns c =
-    every-fails (c .before .before .before .before .before .args .config .vcs) (c .before .before .before .before .loop .v) (channelSound
-    (c .before .before .before .before .before .args .config) (c .before .before .before .before .before .args .inputs)
-    (c .before .before .before .before .before .args .outputs) (c .before .before .before .before .before .args .store .now)
-    (c .before .before .before .before .before .args .wire .now) (c .before .before .before .before .before .args .home .now)
-    (c .before .before .before .before .before .args .i)) (search needs) (sym (c .before .is-channel-sound .ensures) ∙ not-true
-    (c .before .is-channel-sound .result) (c .if2 .taken))
+    let h : c .before .before .before .before .before .before .before .before .before .before .before .loop .v < c .before .before .before .before .before .before .before .before .before .before .before .before .args .config .vcs = search needs in every-fails (c .before .before .before .before .before .before .before .before .before .before .before .before .args .config .vcs) (c .before .before .before .before .before .before .before .before .before .before .before .loop .v) (channelSound (c .before .before .before .before .before .before .before .before .before .before .before .before .args .config) (c .before .before .before .before .before .before .before .before .before .before .before .before .args .t3) (c .before .before .before .before .before .before .before .before .before .before .before .before .args .t4) (c .before .before .before .before .before .before .before .before .before .before .before .before .args .store .now) (c .before .before .before .before .before .before .before .before .before .before .before .before .args .wire .now) (c .before .before .before .before .before .before .before .before .before .before .before .before .args .home .now) (c .before .before .before .before .before .before .before .before .before .before .before .before .args .i)) h (sym (channel-fails (c .before .before .before .before .before .before .before .before .before .before .before .before .args .config) (c .before .before .before .before .before .before .before .before .before .before .before .before .args .t3) (c .before .before .before .before .before .before .before .before .before .before .before .before .args .t4) (c .before .before .before .before .before .before .before .before .before .before .before .before .args .i) (c .before .before .before .before .before .before .before .before .before .before .before .loop .v) (c .before .before .before .before .before .before .before .before .before .before .before .before .args .store .now) (c .before .before .before .before .before .before .before .before .before .before .before .before .args .wire .now) (c .before .before .before .before .before .before .before .before .before .before .before .before .args .home .now) (sym (names-pass (c .before .before .before .before .before .before .before .before .before .before .before .before .args .config) (c .before .before .before .before .before .before .before .before .before .before .before .before .args .t3) (c .before .before .before .before .before .before .before .before .before .before .before .before .args .t4) (c .before .before .before .before .before .before .before .before .before .before .before .before .args .i) (c .before .before .before .before .before .before .before .before .before .before .before .loop .v) (c .before .before .before .before .before .bound-place .result) (c .before .before .before .held-place .result) (c .before .are-names-sound .result) (c .before .before .before .before .before .before .before .before .before .before .before .before .pre .0) (c .before .before .before .before .before .bound-place .ensures .0) (c .before .before .before .held-place .ensures .0) (c .before .are-names-sound .ensures)) ∙ not-true (c .before .are-names-sound .result) (c .if2 .taken))))
+
+is-input-sound-requires : tie.Need-is-input-sound-requires Inv-loop μ-loop
+is-input-sound-requires c κs = search needs
+
+returns-2 : tie.Need-returns-2 Inv-loop μ-loop
+returns-2 c =
+    let h : c .before .before .before .before .before .before .before .before .before .before .before .before .before .loop .v < c .before .before .before .before .before .before .before .before .before .before .before .before .before .before .args .config .vcs = search needs in every-fails (c .before .before .before .before .before .before .before .before .before .before .before .before .before .before .args .config .vcs) (c .before .before .before .before .before .before .before .before .before .before .before .before .before .loop .v) (channelSound (c .before .before .before .before .before .before .before .before .before .before .before .before .before .before .args .config) (c .before .before .before .before .before .before .before .before .before .before .before .before .before .before .args .t3) (c .before .before .before .before .before .before .before .before .before .before .before .before .before .before .args .t4) (c .before .before .before .before .before .before .before .before .before .before .before .before .before .before .args .store .now) (c .before .before .before .before .before .before .before .before .before .before .before .before .before .before .args .wire .now) (c .before .before .before .before .before .before .before .before .before .before .before .before .before .before .args .home .now) (c .before .before .before .before .before .before .before .before .before .before .before .before .before .before .args .i)) h (sym (channel-is (c .before .before .before .before .before .before .before .before .before .before .before .before .before .before .args .config) (c .before .before .before .before .before .before .before .before .before .before .before .before .before .before .args .t3) (c .before .before .before .before .before .before .before .before .before .before .before .before .before .before .args .t4) (c .before .before .before .before .before .before .before .before .before .before .before .before .before .before .args .i) (c .before .before .before .before .before .before .before .before .before .before .before .before .before .loop .v) (c .before .before .before .before .before .before .before .before .before .before .before .before .before .before .args .store .now) (c .before .before .before .before .before .before .before .before .before .before .before .before .before .before .args .wire .now) (c .before .before .before .before .before .before .before .before .before .before .before .before .before .before .args .home .now) (sym (names-pass (c .before .before .before .before .before .before .before .before .before .before .before .before .before .before .args .config) (c .before .before .before .before .before .before .before .before .before .before .before .before .before .before .args .t3) (c .before .before .before .before .before .before .before .before .before .before .before .before .before .before .args .t4) (c .before .before .before .before .before .before .before .before .before .before .before .before .before .before .args .i) (c .before .before .before .before .before .before .before .before .before .before .before .before .before .loop .v) (c .before .before .before .before .before .before .before .bound-place .result) (c .before .before .before .before .before .held-place .result) (c .before .before .before .are-names-sound .result) (c .before .before .before .before .before .before .before .before .before .before .before .before .before .before .pre .0) (c .before .before .before .before .before .before .before .bound-place .ensures .0) (c .before .before .before .before .before .held-place .ensures .0) (c .before .before .before .are-names-sound .ensures)) ∙ not-false (c .before .before .before .are-names-sound .result) (c .before .before .if2 .left))) ∙ sym (c .before .is-input-sound .ensures) ∙ not-true (c .before .is-input-sound .result) (c .if3 .taken))
 
 add-v : tie.Need-add-v Inv-loop μ-loop
 add-v c = search needs
@@ -45,22 +98,11 @@ loop-less : tie.Need-loop-less Inv-loop μ-loop
 loop-less c = search needs
 
 loop-again : tie.Need-loop-again Inv-loop μ-loop
-loop-again c = (
-  search needs,
-  every-more (c .before .before .before .before .loop .v) (channelSound (c .before .before .before .before .before .args .config)
-      (c .before .before .before .before .before .args .inputs) (c .before .before .before .before .before .args .outputs)
-      (c .before .before .before .before .before .args .store .now) (c .before .before .before .before .before .args .wire .now)
-      (c .before .before .before .before .before .args .home .now) (c .before .before .before .before .before .args .i))
-      (c .before .before .before .before .loop .inv .1) (sym (c .before .is-channel-sound .ensures) ∙ not-false (c .before .is-channel-sound .result)
-      (c .if2 .left)),
-)
+loop-again c = (search needs, every-more (c .before .before .before .before .before .before .before .before .before .before .before .before .before .loop .v) (channelSound (c .before .before .before .before .before .before .before .before .before .before .before .before .before .before .args .config) (c .before .before .before .before .before .before .before .before .before .before .before .before .before .before .args .t3) (c .before .before .before .before .before .before .before .before .before .before .before .before .before .before .args .t4) (c .before .before .before .before .before .before .before .before .before .before .before .before .before .before .args .store .now) (c .before .before .before .before .before .before .before .before .before .before .before .before .before .before .args .wire .now) (c .before .before .before .before .before .before .before .before .before .before .before .before .before .before .args .home .now) (c .before .before .before .before .before .before .before .before .before .before .before .before .before .before .args .i)) (c .before .before .before .before .before .before .before .before .before .before .before .before .before .loop .inv .1) (sym (channel-is (c .before .before .before .before .before .before .before .before .before .before .before .before .before .before .args .config) (c .before .before .before .before .before .before .before .before .before .before .before .before .before .before .args .t3) (c .before .before .before .before .before .before .before .before .before .before .before .before .before .before .args .t4) (c .before .before .before .before .before .before .before .before .before .before .before .before .before .before .args .i) (c .before .before .before .before .before .before .before .before .before .before .before .before .before .loop .v) (c .before .before .before .before .before .before .before .before .before .before .before .before .before .before .args .store .now) (c .before .before .before .before .before .before .before .before .before .before .before .before .before .before .args .wire .now) (c .before .before .before .before .before .before .before .before .before .before .before .before .before .before .args .home .now) (sym (names-pass (c .before .before .before .before .before .before .before .before .before .before .before .before .before .before .args .config) (c .before .before .before .before .before .before .before .before .before .before .before .before .before .before .args .t3) (c .before .before .before .before .before .before .before .before .before .before .before .before .before .before .args .t4) (c .before .before .before .before .before .before .before .before .before .before .before .before .before .before .args .i) (c .before .before .before .before .before .before .before .before .before .before .before .before .before .loop .v) (c .before .before .before .before .before .before .before .bound-place .result) (c .before .before .before .before .before .held-place .result) (c .before .before .before .are-names-sound .result) (c .before .before .before .before .before .before .before .before .before .before .before .before .before .before .pre .0) (c .before .before .before .before .before .before .before .bound-place .ensures .0) (c .before .before .before .before .before .held-place .ensures .0) (c .before .before .before .are-names-sound .ensures)) ∙ not-false (c .before .before .before .are-names-sound .result) (c .before .before .if2 .left))) ∙ sym (c .before .is-input-sound .ensures) ∙ not-false (c .before .is-input-sound .result) (c .if3 .left)))
 
-returns-2 : tie.Need-returns-2 Inv-loop μ-loop
-returns-2 c =
-    sym (every-passed (c .before .before .before .args .config .vcs) (c .before .before .loop .v) (channelSound
-    (c .before .before .before .args .config) (c .before .before .before .args .inputs) (c .before .before .before .args .outputs)
-    (c .before .before .before .args .store .now) (c .before .before .before .args .wire .now) (c .before .before .before .args .home .now)
-    (c .before .before .before .args .i)) (c .before .before .loop .inv .0) (search needs) (c .before .before .loop .inv .1))
+returns-3 : tie.Need-returns-3 Inv-loop μ-loop
+returns-3 c =
+    sym (every-passed (c .before .before .before .args .config .vcs) (c .before .before .loop .v) (channelSound (c .before .before .before .args .config) (c .before .before .before .args .t3) (c .before .before .before .args .t4) (c .before .before .before .args .store .now) (c .before .before .before .args .wire .now) (c .before .before .before .args .home .now) (c .before .before .before .args .i)) (c .before .before .loop .inv .0) (search needs) (c .before .before .loop .inv .1))
 
 pub is-port-sound-spec : {M : Type 1} → statement M
 is-port-sound-spec =
@@ -69,9 +111,25 @@ is-port-sound-spec =
     Inv-loop
     μ-loop
     loop-holds
-    is-channel-sound-requires
+    cast-x
+    mul-x
+    cast-x-2
+    add-x
+    mul-input
+    array-copy-out-input
+    mul-output
+    array-copy-out-output
+    bound-place-requires
+    mul-there
+    array-copy-out-there
+    held-place-requires
+    mul-back
+    array-copy-out-back
+    are-names-sound-requires
     returns
+    is-input-sound-requires
+    returns-2
     add-v
     loop-less
     loop-again
-    returns-2)
+    returns-3)

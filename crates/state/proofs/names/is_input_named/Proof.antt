@@ -1,9 +1,8 @@
 -- `state::names::is_input_named` meets its contract.
 -- Assumes nothing.
-use native.Mathlib.Omega.{arith}
-use mathlib.Core.Path.{_≡_, _∙_}
+use mathlib.Core.Path.{_∙_}
 use borrow.Author.Needs.{needs}
-use Rattle.state.proofs.Naming.{channel-fits, input-beyond-port, input-beyond-vc, input-there}
+use Rattle.state.proofs.Naming.{input-beyond-port, input-beyond-vc, input-there}
 use Rattle.state.proofs.names.is_input_named.Statement.{statement}
 use Rattle.state.proofs.names.is_input_named.Tie as tie
 
@@ -18,83 +17,18 @@ returns c = search needs
 
 returns-2 : tie.Need-returns-2
 returns-2 c =
-    input-beyond-port (c .before .before .before .before .before .before .args .config)
-    (c .before .before .before .before .before .before .args .t5) (c .before .before .before .before .before .before .args .i)
-    (c .before .before .before .before .before .before .args .v) (c .before .before .before .before .before .before .args .binding)
-    (c .before .before .before .before .binding .given .0 .0) (c .before .before .before .before .binding .given .1) (c .if1 .taken)
+    input-beyond-port (c .before .before .before .before .before .before .args .config) (c .before .before .before .before .before .before .args .i) (c .before .before .before .before .before .before .args .v) (c .before .before .before .before .before .before .args .binding) (c .before .before .before .before .before .before .args .holder) (c .before .before .before .before .binding .given .0 .0) (c .before .before .before .before .binding .given .1) (c .if1 .taken)
 
 returns-3 : tie.Need-returns-3
 returns-3 c =
-    input-beyond-vc (c .before .before .before .before .before .before .before .before .before .args .config)
-    (c .before .before .before .before .before .before .before .before .before .args .t5)
-    (c .before .before .before .before .before .before .before .before .before .args .i)
-    (c .before .before .before .before .before .before .before .before .before .args .v)
-    (c .before .before .before .before .before .before .before .before .before .args .binding)
-    (c .before .before .before .before .before .before .before .binding .given .0 .0)
-    (c .before .before .before .before .before .before .before .binding .given .1) (c .before .before .before .if1 .left) (c .if2 .taken)
-
-cast-y : tie.Need-cast-y
-cast-y c = search needs
-
-cast-y-2 : tie.Need-cast-y-2
-cast-y-2 c = search needs
-
-mul-y : tie.Need-mul-y
-mul-y c =
-    let l = channel-fits (c .before .before .before .before .before .before .before .before .before .before .before .args .config .ports)
-    (c .before .before .before .before .before .before .before .before .before .before .before .args .config .vcs)
-    (c .before .before .before .before .before .before .before .before .before .binding .given .0 .0 .output)
-    (c .before .before .before .before .before .before .before .before .before .binding .given .0 .0 .vc)
-    (c .before .before .before .before .before .if1 .left) (c .before .before .if2 .left)
-    (c .before .before .before .before .before .before .before .before .before .before .before .pre .0)
-    (c .before .before .before .before .before .before .before .before .before .before .before .pre .1) in record { fits = omega arith }
-
-cast-y-3 : tie.Need-cast-y-3
-cast-y-3 c = search needs
-
-add-y : tie.Need-add-y
-add-y c =
-    let l = channel-fits (c .before .before .before .before .before .before .before .before .before .before .before .before .args .config .ports)
-    (c .before .before .before .before .before .before .before .before .before .before .before .before .args .config .vcs)
-    (c .before .before .before .before .before .before .before .before .before .before .binding .given .0 .0 .output)
-    (c .before .before .before .before .before .before .before .before .before .before .binding .given .0 .0 .vc)
-    (c .before .before .before .before .before .before .if1 .left) (c .before .before .before .if2 .left)
-    (c .before .before .before .before .before .before .before .before .before .before .before .before .pre .0)
-    (c .before .before .before .before .before .before .before .before .before .before .before .before .pre .1) in record { fits = omega arith }
-
-mul-output : tie.Need-mul-output
-mul-output c =
-    let l = channel-fits (c .before .before .before .before .before .before .before .before .before .before .before .before .args .config .ports)
-    (c .before .before .before .before .before .before .before .before .before .before .before .before .args .config .vcs)
-    (c .before .before .before .before .before .before .before .before .before .before .binding .given .0 .0 .output)
-    (c .before .before .before .before .before .before .before .before .before .before .binding .given .0 .0 .vc)
-    (c .before .before .before .before .before .before .if1 .left) (c .before .before .before .if2 .left)
-    (c .before .before .before .before .before .before .before .before .before .before .before .before .pre .0)
-    (c .before .before .before .before .before .before .before .before .before .before .before .before .pre .1) in record { fits = omega arith }
-
-array-copy-out-output : tie.Need-array-copy-out-output
-array-copy-out-output c =
-    let l = channel-fits (c .before .before .before .before .before .before .before .before .before .before .before .before .args .config .ports)
-    (c .before .before .before .before .before .before .before .before .before .before .before .before .args .config .vcs)
-    (c .before .before .before .before .before .before .before .before .before .before .binding .given .0 .0 .output)
-    (c .before .before .before .before .before .before .before .before .before .before .binding .given .0 .0 .vc)
-    (c .before .before .before .before .before .before .if1 .left) (c .before .before .before .if2 .left)
-    (c .before .before .before .before .before .before .before .before .before .before .before .before .pre .0)
-    (c .before .before .before .before .before .before .before .before .before .before .before .before .pre .1) in l
+    input-beyond-vc (c .before .before .before .before .before .before .before .before .before .args .config) (c .before .before .before .before .before .before .before .before .before .args .i) (c .before .before .before .before .before .before .before .before .before .args .v) (c .before .before .before .before .before .before .before .before .before .args .binding) (c .before .before .before .before .before .before .before .before .before .args .holder) (c .before .before .before .before .before .before .before .binding .given .0 .0) (c .before .before .before .before .before .before .before .binding .given .1) (c .before .before .before .if1 .left) (c .if2 .taken)
 
 is-held-by-requires : tie.Need-is-held-by-requires
 is-held-by-requires c κs = search needs
 
 returns-4 : tie.Need-returns-4
 returns-4 c =
-    c .is-held-by .ensures ∙ input-there (c .before .before .before .before .before .before .before .before .before .before .before .before .before
-    .before .args .config) (c .before .before .before .before .before .before .before .before .before .before .before .before .before .before .args
-    .t5) (c .before .before .before .before .before .before .before .before .before .before .before .before .before .before .args .i)
-    (c .before .before .before .before .before .before .before .before .before .before .before .before .before .before .args .v)
-    (c .before .before .before .before .before .before .before .before .before .before .before .before .before .before .args .binding)
-    (c .before .before .before .before .before .before .before .before .before .before .before .before .binding .given .0 .0)
-    (c .before .before .before .before .before .before .before .before .before .before .before .before .binding .given .1)
-    (c .before .before .before .before .before .before .before .before .if1 .left) (c .before .before .before .before .before .if2 .left)
+    c .is-held-by .ensures ∙ input-there (c .before .before .before .before .before .before .before .before .before .before .args .config) (c .before .before .before .before .before .before .before .before .before .before .args .i) (c .before .before .before .before .before .before .before .before .before .before .args .v) (c .before .before .before .before .before .before .before .before .before .before .args .binding) (c .before .before .before .before .before .before .before .before .before .before .args .holder) (c .before .before .before .before .before .before .before .before .binding .given .0 .0) (c .before .before .before .before .before .before .before .before .binding .given .1) (c .before .before .before .before .if1 .left) (c .before .if2 .left)
 
 pub is-input-named-spec : {M : Type 1} → statement M
 is-input-named-spec =
@@ -105,12 +39,5 @@ is-input-named-spec =
     returns
     returns-2
     returns-3
-    cast-y
-    cast-y-2
-    mul-y
-    cast-y-3
-    add-y
-    mul-output
-    array-copy-out-output
     is-held-by-requires
     returns-4)
