@@ -50,19 +50,16 @@ module _ (c : Config) (store wire home : List ℕ) (i v : ℕ) (input : InputVc)
   unfolding inputSound
   input-credits-fail e = and-no (creditsWhole c wire home i v input) _ e
 
-  pub input-queue-fails : creditsWhole c wire home i v input ≡ true → all (legalFlit c) (queueOf c store i v (input .queued)) ≡ false
-      → false ≡ inputSound c store wire home i v input
-  unfolding inputSound
-  input-queue-fails e f = and-no (all (legalFlit c) (queueOf c store i v (input .queued))) _ f ∙ and-yes (creditsWhole c wire home i v input) _ e
-
-  pub input-is : (start : Bool) → creditsWhole c wire home i v input ≡ true → all (legalFlit c) (queueOf c store i v (input .queued)) ≡ true
+  pub input-is : (start : Bool) → creditsWhole c wire home i v input ≡ true
       → start ≡ startsInside (queueOf c store i v (input .queued)) (input .binding)
-      → endsAs (input .inside) (reading start (queueOf c store i v (input .queued) ++ flat (wireOf c wire i v)))
+      → (all (legalFlit c) (queueOf c store i v (input .queued))
+      && endsAs (input .inside) (reading start (queueOf c store i v (input .queued) ++ flat (wireOf c wire i v))))
       ≡ inputSound c store wire home i v input
   unfolding inputSound reads
-  input-is start e f s =
-      ap (λ b. endsAs (input .inside) (reading b (queueOf c store i v (input .queued) ++ flat (wireOf c wire i v)))) s
-      ∙ and-yes (all (legalFlit c) (queueOf c store i v (input .queued))) _ f ∙ and-yes (creditsWhole c wire home i v input) _ e
+  input-is start e s =
+      ap (λ b. all (legalFlit c) (queueOf c store i v (input .queued))
+      && endsAs (input .inside) (reading b (queueOf c store i v (input .queued) ++ flat (wireOf c wire i v)))) s
+      ∙ and-yes (creditsWhole c wire home i v input) _ e
 
 -- one channel's names
 module _ (c : Config) (i v : ℕ) (input : InputVc) (output : OutputVc) (holder : Holder) (binding : Binding) where

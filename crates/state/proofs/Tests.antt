@@ -1,7 +1,7 @@
 -- Laws of tests that computed so far pass.
 -- Assumes nothing.
 use mathlib.Core.Path.{_≡_, refl, sym, ap, ap₂, subst, _∙_}
-use mathlib.Core.Bool.{Bool, true, false, _&&_}
+use mathlib.Core.Bool.{Bool, true, false, _&&_, and-false}
 use Prim.Native.Nat.{ℕ, _+_, _≤_, _<_}
 use native.Mathlib.Nat.{le-antisymm, lt-of-lt-of-le}
 use native.Mathlib.Numerals.{add-one}
@@ -42,3 +42,7 @@ and-no a b e = sym (ap (λ t. t && b) e)
 
 pub and-yes : (a b : Bool) → a ≡ true → b ≡ (a && b)
 and-yes a b e = sym (ap (λ t. t && b) e)
+
+-- the second of two tests fails
+pub and-none : (a b : Bool) → b ≡ false → false ≡ (a && b)
+and-none a b e = sym (ap (λ t. a && t) e ∙ and-false a)

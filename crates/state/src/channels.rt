@@ -53,9 +53,6 @@ fn is_input_sound(
     }
     let base = 16 * ((i as usize) * (config.vcs as usize) + (v as usize));
     let queued = input.queued as usize;
-    if !packets::is_queue_legal(config, base, queued, store) {
-        return false;
-    }
     let binding = input.binding;
     let start = packets::starts_inside(base, queued, binding, store);
     packets::reads(

@@ -6,29 +6,12 @@ use base::Config;
 use base::Flit;
 use base::starts;
 ghost use mathlib.Core.Path.{_≡_};
+ghost use mathlib.Core.Bool.{_&&_};
 ghost use mathlib.Core.List.{_++_};
 ghost use Prim.Native.Nat.{_+_, _≤_, _<_};
 ghost use lib.ListN.{length};
 ghost use Rattle.state.specs.Views.{queueAt, wireOf, flat};
 ghost use Rattle.state.specs.Sound.{all, legalFlit, reading, endsAs, startsInside};
-
-// "queued flits are legal (destinations too)"
-pub(crate) fn is_queue_legal(config: Config, base: usize, queued: usize, store: &[u64; 512]) -> bool
-    requires { ⌜ (config .ports ≤ 8) × (base + 16 ≤ 512) × (queued ≤ 16) × (length (now store) ≡ 512) ⌝ }
-    ensures { λ r. ⌜ r ≡ all (legalFlit config) (queueAt (now (store .entry)) base queued) ⌝ }
-{
-    let mut k: usize = 0;
-    while k < queued {
-        let flit = Flit {
-            word: store[base + k],
-        };
-        if !flits::is_legal(config, flit) {
-            return false;
-        }
-        k += 1;
-    }
-    true
-}
 
 // Whether the reading starts inside a packet: never where nothing is bound; else unless the front is H or S for the bound output.
 pub(crate) fn starts_inside(
@@ -55,7 +38,7 @@ pub(crate) fn starts_inside(
     destination != to.output
 }
 
-// Whether they read as packets from `start`, inside one or between two, to `end`.
+// "queued flits are legal (destinations too)", and they read as packets from `start`, inside one or between two, to `end`.
 pub(crate) fn reads(
     config: Config,
     i: usize,
@@ -67,8 +50,8 @@ pub(crate) fn reads(
     store: &[u64; 512],
     wire: &[u64; 64],
 ) -> bool
-    requires { ⌜ (config .forward ≤ 8) × (i < 8) × (base + 16 ≤ 512) × (queued ≤ 16) × (length (now store) ≡ 512) ⌝ }
-    ensures { λ r. ⌜ r ≡ endsAs end (reading start (queueAt (now (store .entry)) base queued ++ flat (wireOf config (now (wire .entry)) i v))) ⌝ }
+    requires { ⌜ (config .forward ≤ 8) × (i < 8) × (base + 16 ≤ 512) × (queued ≤ 16) × (length (now store) ≡ 512) × (config .ports ≤ 8) ⌝ }
+    ensures { λ r. ⌜ r ≡ (all (legalFlit config) (queueAt (now (store .entry)) base queued) && endsAs end (reading start (queueAt (now (store .entry)) base queued ++ flat (wireOf config (now (wire .entry)) i v)))) ⌝ }
 {
     let forward = config.forward as usize;
     let mut inside = start;
@@ -77,6 +60,9 @@ pub(crate) fn reads(
         let flit = Flit {
             word: store[base + k],
         };
+        if !flits::is_legal(config, flit) {
+            return false;
+        }
         let kind = flit.kind();
         if !flits::may_come(inside, kind) {
             return false;

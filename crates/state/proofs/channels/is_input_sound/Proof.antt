@@ -5,7 +5,7 @@ use mathlib.Core.Path.{_≡_, sym, ap, ap₂, _∙_}
 use borrow.Author.Tests.{not-true, not-false}
 use borrow.Author.Needs.{needs}
 use Rattle.state.proofs.Naming.{channel-fits}
-use Rattle.state.proofs.Clauses.{queued-fits, base-fits, input-credits-fail, input-queue-fails, input-is}
+use Rattle.state.proofs.Clauses.{queued-fits, base-fits, input-credits-fail, input-is}
 use Rattle.state.proofs.channels.is_input_sound.Statement.{statement}
 use Rattle.state.proofs.channels.is_input_sound.Tie as tie
 
@@ -42,80 +42,55 @@ mul-base-2 c =
 cast-queued : tie.Need-cast-queued
 cast-queued c = search needs
 
-is-queue-legal-requires : tie.Need-is-queue-legal-requires
-is-queue-legal-requires c κs = (
-  c .before .before .before .before .pre .0 .ports,
-  (base-fits (c .before .before .before .before .args .config)
-      (c .before .before .before .before .args .i) (c .before .before .before .before .args .v) (c .before .before .before .before .pre .0)
+starts-inside-requires : tie.Need-starts-inside-requires
+starts-inside-requires c κs = (
+  (base-fits (c .before .before .before .before .args .config) (c .before .before .before .before .args .i)
+      (c .before .before .before .before .args .v) (c .before .before .before .before .pre .0)
       (c .before .before .before .before .pre .1) (c .before .before .before .before .pre .2)),
   (queued-fits
       (c .before .before .before .before .args .config) (c .before .before .before .before .args .wire .now)
-      (c .before .before .before .before .args .home .now) (c .before .before .before .before .args .i) (c .before .before .before .before .args .v)
-      (c .before .before .before .before .args .input) (sym (c .before .before .before .are-credits-whole .ensures) ∙ not-false
+      (c .before .before .before .before .args .home .now) (c .before .before .before .before .args .i)
+      (c .before .before .before .before .args .v) (c .before .before .before .before .args .input) (sym
+      (c .before .before .before .are-credits-whole .ensures) ∙ not-false
       (c .before .before .before .are-credits-whole .result) (c .before .before .if1 .left))
       (c .before .before .before .before .pre .0 .depth)),
   c .before .before .before .before .pre .3,
 )
 
-returns-2 : tie.Need-returns-2
-returns-2 c =
-    input-queue-fails (c .before .before .before .before .before .before .args .config)
-    (c .before .before .before .before .before .before .args .store .now) (c .before .before .before .before .before .before .args .wire .now)
-    (c .before .before .before .before .before .before .args .home .now) (c .before .before .before .before .before .before .args .i)
-    (c .before .before .before .before .before .before .args .v) (c .before .before .before .before .before .before .args .input) (sym
-    (c .before .before .before .before .before .are-credits-whole .ensures) ∙ not-false
-    (c .before .before .before .before .before .are-credits-whole .result) (c .before .before .before .before .if1 .left)) (sym
-    (c .before .is-queue-legal .ensures) ∙ not-true (c .before .is-queue-legal .result) (c .if2 .taken))
-
-starts-inside-requires : tie.Need-starts-inside-requires
-starts-inside-requires c κs = (
-  (base-fits (c .before .before .before .before .before .before .args .config) (c .before .before .before .before .before .before .args .i)
-      (c .before .before .before .before .before .before .args .v) (c .before .before .before .before .before .before .pre .0)
-      (c .before .before .before .before .before .before .pre .1) (c .before .before .before .before .before .before .pre .2)),
-  (queued-fits
-      (c .before .before .before .before .before .before .args .config) (c .before .before .before .before .before .before .args .wire .now)
-      (c .before .before .before .before .before .before .args .home .now) (c .before .before .before .before .before .before .args .i)
-      (c .before .before .before .before .before .before .args .v) (c .before .before .before .before .before .before .args .input) (sym
-      (c .before .before .before .before .before .are-credits-whole .ensures) ∙ not-false
-      (c .before .before .before .before .before .are-credits-whole .result) (c .before .before .before .before .if1 .left))
-      (c .before .before .before .before .before .before .pre .0 .depth)),
-  c .before .before .before .before .before .before .pre .3,
-)
-
 reads-requires : tie.Need-reads-requires
 reads-requires c κs =
-    let b = c .before .before .before .before .before .before .before .pre .0 .ports in
-    let l = c .before .before .before .before .before .before .before .pre .1 in (
-      c .before .before .before .before .before .before .before .pre .0 .forward,
+    let b = c .before .before .before .before .before .pre .0 .ports in
+    let l = c .before .before .before .before .before .pre .1 in (
+      c .before .before .before .before .before .pre .0 .forward,
       omega arith,
       (base-fits
-          (c .before .before .before .before .before .before .before .args .config) (c .before .before .before .before .before .before .before .args .i)
-          (c .before .before .before .before .before .before .before .args .v) (c .before .before .before .before .before .before .before .pre .0)
-          (c .before .before .before .before .before .before .before .pre .1) (c .before .before .before .before .before .before .before .pre .2)),
-      (queued-fits (c .before .before .before .before .before .before .before .args .config)
-          (c .before .before .before .before .before .before .before .args .wire .now)
-          (c .before .before .before .before .before .before .before .args .home .now)
-          (c .before .before .before .before .before .before .before .args .i) (c .before .before .before .before .before .before .before .args .v)
-          (c .before .before .before .before .before .before .before .args .input) (sym
-          (c .before .before .before .before .before .before .are-credits-whole .ensures) ∙ not-false
-          (c .before .before .before .before .before .before .are-credits-whole .result) (c .before .before .before .before .before .if1 .left))
-          (c .before .before .before .before .before .before .before .pre .0 .depth)),
-      c .before .before .before .before .before .before .before .pre .3,
+          (c .before .before .before .before .before .args .config) (c .before .before .before .before .before .args .i)
+          (c .before .before .before .before .before .args .v) (c .before .before .before .before .before .pre .0)
+          (c .before .before .before .before .before .pre .1) (c .before .before .before .before .before .pre .2)),
+      (queued-fits (c .before .before .before .before .before .args .config)
+          (c .before .before .before .before .before .args .wire .now)
+          (c .before .before .before .before .before .args .home .now)
+          (c .before .before .before .before .before .args .i) (c .before .before .before .before .before .args .v)
+          (c .before .before .before .before .before .args .input) (sym
+          (c .before .before .before .before .are-credits-whole .ensures) ∙ not-false
+          (c .before .before .before .before .are-credits-whole .result) (c .before .before .before .if1 .left))
+          (c .before .before .before .before .before .pre .0 .depth)),
+      c .before .before .before .before .before .pre .3,
+      b,
     )
 
-returns-3 : tie.Need-returns-3
-returns-3 c =
-    c .reads .ensures ∙ input-is (c .before .before .before .before .before .before .before .before .args .config)
-    (c .before .before .before .before .before .before .before .before .args .store .now)
-    (c .before .before .before .before .before .before .before .before .args .wire .now)
-    (c .before .before .before .before .before .before .before .before .args .home .now)
-    (c .before .before .before .before .before .before .before .before .args .i)
-    (c .before .before .before .before .before .before .before .before .args .v)
-    (c .before .before .before .before .before .before .before .before .args .input) (c .before .starts-inside .result) (sym
-    (c .before .before .before .before .before .before .before .are-credits-whole .ensures) ∙ not-false
-    (c .before .before .before .before .before .before .before .are-credits-whole .result)
-    (c .before .before .before .before .before .before .if1 .left)) (sym (c .before .before .before .is-queue-legal .ensures) ∙ not-false
-    (c .before .before .before .is-queue-legal .result) (c .before .before .if2 .left)) (c .before .starts-inside .ensures)
+returns-2 : tie.Need-returns-2
+returns-2 c =
+    c .reads .ensures ∙ input-is (c .before .before .before .before .before .before .args .config)
+    (c .before .before .before .before .before .before .args .store .now)
+    (c .before .before .before .before .before .before .args .wire .now)
+    (c .before .before .before .before .before .before .args .home .now)
+    (c .before .before .before .before .before .before .args .i)
+    (c .before .before .before .before .before .before .args .v)
+    (c .before .before .before .before .before .before .args .input) (c .before .starts-inside .result) (sym
+    (c .before .before .before .before .before .are-credits-whole .ensures) ∙ not-false
+    (c .before .before .before .before .before .are-credits-whole .result)
+    (c .before .before .before .before .if1 .left)) (c .before .starts-inside .ensures)
 
 pub is-input-sound-spec : {M : Type 1} → statement M
 is-input-sound-spec =
@@ -128,8 +103,6 @@ is-input-sound-spec =
     add-base
     mul-base-2
     cast-queued
-    is-queue-legal-requires
-    returns-2
     starts-inside-requires
     reads-requires
-    returns-3)
+    returns-2)
