@@ -13,3 +13,4 @@ pub mod Entry
 pub mod RunIs
 pub mod Demand3
 pub mod Times
+pub mod Example

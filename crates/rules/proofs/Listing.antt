@@ -35,7 +35,7 @@ use Rattle.rules.specs.Numbers.{runFull, rowWrong, creditPastRoom, outOf
 use Rattle.rules.specs.Step.{takenIn, sentOut, routerAfter, replyOf, stepOf}
 
 -- "configuration 3,1,2,2,1,1,1"
-abbrev config : Config
+abbrev pub config : Config
 config = record { ports = 3; vcs = 1; depth = 2; downstream = 2; forward = 1; back = 1; arbiter = 1 }
 
 abbrev nothing : List ℕ
@@ -54,7 +54,7 @@ cycle a b c = a ++ b ++ c ++ replicate 40 0
 
 -- "Cycle 0: port 0 S to 1, 11 hex. Cycle 1: port 0 H to 1, 21; port 2 S to 1, 31. Cycle 2: port 0 T, 22. Cycle 3 empty. Cycles 4 and 5:
 -- credit at port 1, VC 0."
-abbrev partOf : ℕ → List ℕ
+abbrev pub partOf : ℕ → List ℕ
 partOf zero = cycle (brought single 1 0x11) nothing nothing
 partOf (suc zero) = cycle (brought head 1 0x21) nothing (brought single 1 0x31)
 partOf (suc (suc zero)) = cycle (brought tail 0 0x22) nothing nothing
