@@ -25,11 +25,11 @@ use Rattle.rules.specs.declared.Verdict.the-variants.{Accepted}
 use Rattle.rules.specs.Free.{look, sizesOf, channelOf, freeOf}
 use Rattle.rules.specs.Step.{stepOf}
 use Rattle.rules.proofs.Channels.{channel-room}
+use Rattle.rules.proofs.ChosenViews.{view-there}
 use Rattle.rules.proofs.Facts.{credits-sum, sound-legal, sound-lengths}
 use Rattle.rules.proofs.LeftPackets.{queued-few}
 use Rattle.history.specs.Run.{Ran, entryOf, recorded, runOf}
 use Rattle.history.specs.Demand3.{InputDemand, Demand3, queue, onWire}
-use Rattle.history.proofs.Choice.{is-there, view-is}
 use Rattle.history.proofs.RunIs.{Runs, legal-delayed, accepted-runs, run-runs}
 
 -- the lists and sums of both crates
@@ -90,7 +90,7 @@ module _ (s : Router) (sound : Sound s) (h : History Flit) (t : ℕ) where
         cycles = d .cycles;
         inputs = λ i v p q.
             input-demand i v p q (subst (λ (ch : ChannelView). model.InputDemand look (sizesOf c) (channelOf ch) h t i v)
-            (view-is s i v (is-there c i v p q)) (d .inputs i v p q));
+            (view-there s i v p q) (d .inputs i v p q));
         outputs = d .outputs;
       }
 

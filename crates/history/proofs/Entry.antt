@@ -31,13 +31,16 @@ use Rattle.trace.specs.Bytes.{AreBytes}
 use Rattle.rules.specs.declared.Verdict.the-variants.{Accepted}
 use Rattle.rules.specs.declared.Stepped.{Stepped}
 use Rattle.rules.specs.Allocation.{allocated}
+use Rattle.rules.specs.Chosen.{chosen}
 use Rattle.rules.specs.Free.{sizesOf, channelOf, freeOf, eventOf}
 use Rattle.rules.specs.Intake.{reaching, creditsReached, creditsReturned, landed, offersTaken}
 use Rattle.rules.specs.Ports.{named}
 use Rattle.rules.specs.Rows.{creditAt, brings, vcAt, flitAt}
 use Rattle.rules.specs.Step.{takenIn, replyOf, stepOf}
 use Rattle.rules.proofs.Accepted.{readied, accepted-before, accepted-steps, readied-sound}
-use Rattle.rules.proofs.Choices.{leavesFrom, leaves-from}
+use Rattle.rules.proofs.Choices.{leaves-from}
+use Rattle.rules.proofs.ChosenLeaves.{leaves-alike}
+use Rattle.rules.proofs.ChosenViews.{view-there}
 use Rattle.rules.proofs.Departed.{reportOf, reported-exits, exits-reported}
 use Rattle.rules.proofs.Exits.{Exit, exit, exits-differ}
 use Rattle.rules.proofs.Facts.{sound-legal, home-at}
@@ -46,9 +49,8 @@ use Rattle.rules.proofs.Left.{noOutput}
 use Rattle.rules.proofs.Named.{named-there}
 use Rattle.rules.proofs.Reported.{reported-at}
 use Rattle.history.specs.Run.{offerIn, departureIn, departuresIn, reachedIn, entryOf}
-use Rattle.history.proofs.Choice.{choiceOf, is-there, view-is}
-use Rattle.history.proofs.Counted.{departure-is}
-use Rattle.history.proofs.LegalLeaves.{leaves-goes}
+use Rattle.history.proofs.Choice.{choiceOf}
+use Rattle.history.proofs.LegalLeaves.{leaves-exits, departure-is}
 use Rattle.history.proofs.Written.{exit-written}
 
 -- whether it left VC v of input i
@@ -113,7 +115,7 @@ module _ (s : Router) (part : List ℕ) (bytes : AreBytes part) (accepted : step
       each-ext (c .vcs) (λ v. replicate (model.reaching (freeOf s .channel i v)) (record { input = i; vc = v }))
       (λ v. replicate (toVc v (homePlace (s .home) 0 i)) (record { input = i; vc = v })) (λ v g.
       ap (λ (n : ℕ). replicate n (record { input = i; vc = v })) (ap (λ (ch : ChannelView). model.reaching (channelOf ch))
-      (view-is s i v (is-there c i v h g))
+      (view-there s i v h g)
       ∙ home-out c i v (s .home) (legal .back .0)))
       ∙ reached-named (c .vcs) i (homePlace (s .home) 0 i) (λ v e. named-there (homePlace (s .home) 0 i) (c .vcs) v
       (home-at s before 0 i (legal .back .0) h) e)
@@ -145,13 +147,13 @@ module _ (s : Router) (part : List ℕ) (bytes : AreBytes part) (accepted : step
             test false t = refl
 
     departures-same : departure (freeOf s) (choiceOf s part) i v ≡ keep (from i v) (departuresIn c (stepOf s part .reply))
-    unfolding allocated takenIn offersTaken landed creditsReturned creditsReached
+    unfolding chosen allocated takenIn offersTaken landed creditsReturned creditsReached
     departures-same =
         go (choiceOf s part .leaves i v) refl ∙ sym (keep-each (from i v) (c .ports) (λ o. departureIn o (departureOf (leftAt o))))
       where
         go : (l : Bool) → choiceOf s part .leaves i v ≡ l → departure (freeOf s) (choiceOf s part) i v ≡ each (c .ports) found
         go true q =
-            let g = leaves-goes s part bytes accepted i v q in
+            let g = leaves-exits s part bytes accepted i v q in
             let o = g .output in
             let e = g .deed in
             let only = each-one (c .ports) found o (g .below) (λ p l ne. none-found p (λ f r a b.
@@ -166,9 +168,8 @@ module _ (s : Router) (part : List ℕ) (bytes : AreBytes part) (accepted : step
         go false q =
             ap (λ (l : Bool). leaving i v l (boundNow (freeOf s) (choiceOf s part) i v) (queueNow (freeOf s .channel i v))) q
             ∙ sym (each-none (c .ports) found (λ o l. none-found o (λ e r a b.
-            let here = is-there c i v port vc in
             let leaves = leaves-from mid (channel c i v) (record { port = o; deed = e; below = l; acts = r; there = ap₂ (channel c) a b }) in
-            true≢false (sym (ap (λ (t : Bool). cond t (leavesFrom mid (channel c i v)) false) here ∙ leaves) ∙ q))))
+            true≢false (sym (leaves-alike s part bytes accepted i v port vc ∙ leaves) ∙ q))))
 
   -- the whole entry
   pub entry-is : entry (sizesOf c) (freeOf s) (eventOf c part) (choiceOf s part) ≡ entryOf c (s .cycle) part (stepOf s part .reply)

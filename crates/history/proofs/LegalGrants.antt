@@ -20,31 +20,28 @@ use Rattle.model.specs.Legal.{Asks, Free}
 use Rattle.state.specs.declared.OutVc.{OutVc}
 use Rattle.state.specs.declared.Binding.{Binding}
 use Rattle.state.specs.declared.Binding.the-variants.{Unbound, Bound}
-use Rattle.state.specs.declared.InputVc.{InputVc}
 use Rattle.state.specs.declared.Router.{Router}
 use Rattle.state.specs.Channels.{ChannelView, boundTo, isThere}
 use Rattle.state.specs.Fresh.{freshInput}
 use Rattle.state.specs.Sound.{Sound, frontIsFor}
 use Rattle.state.specs.Store.{firstSlot}
-use Rattle.state.specs.Views.{channel, inputAt, outputAt, queueAt, queueOf}
+use Rattle.state.specs.Views.{channel, inputAt, outputAt, queueAt}
 use Rattle.trace.specs.Bytes.{AreBytes}
 use Rattle.rules.specs.declared.Verdict.the-variants.{Accepted}
-use Rattle.rules.specs.Allocation.{Grant, grantOf, allocated}
+use Rattle.rules.specs.Allocation.{Grant, grantOf}
 use Rattle.rules.specs.Free.{look, nameOf, freeOf}
 use Rattle.rules.specs.Intake.{creditsReached, creditsReturned, landed, offersTaken}
 use Rattle.rules.specs.Step.{takenIn, stepOf}
-use Rattle.rules.proofs.Accepted.{accepted-none, accepted-before, taken-sound}
+use Rattle.rules.proofs.Accepted.{accepted-before}
 use Rattle.rules.proofs.Acts.{Actor, Untouched}
-use Rattle.rules.proofs.AllocatedSound.{inputs-alike}
 use Rattle.rules.proofs.Bound.{asking, granted-or-not}
 use Rattle.rules.proofs.Channels.{channel-apart}
 use Rattle.rules.proofs.Choices.{grantTo, grant-to, no-grant-to}
+use Rattle.rules.proofs.ChosenViews.{view-there, view-beyond, bound-came, queue-came}
 use Rattle.rules.proofs.Grants.{Granted, grant-is}
-use Rattle.rules.proofs.IntakeViews.{binding-after}
 use Rattle.rules.proofs.Naming.{nobody-not, names-agree}
 use Rattle.rules.proofs.Slips.{granted-was-free}
-use Rattle.history.proofs.Choice.{choiceOf, there-is, view-is, view-beyond, grant-there}
-use Rattle.history.proofs.Now.{queue-now}
+use Rattle.history.proofs.Choice.{choiceOf, there-is, grant-there}
 
 -- a front for output o asks there
 front-asks : (o : ℕ) (q : List Flit) → frontIsFor o q ≡ true → Asks look q o
@@ -54,7 +51,7 @@ front-asks o (f ∷ q) e =
     (p .0, eqb-true (destinationOf f) o (p .1))
 
 -- a binding that has the free router's name b
-pub bound-named : (x : Binding) (b : free.OutVc) → nameOf (boundTo x) ≡ some b → x ≡ Bound (record { output = b .output; vc = b .vc })
+bound-named : (x : Binding) (b : free.OutVc) → nameOf (boundTo x) ≡ some b → x ≡ Bound (record { output = b .output; vc = b .vc })
 bound-named Unbound b q = absurd (Option·none-ne-some b q)
 bound-named (Bound a) b q =
     ap (λ (n : free.OutVc). Bound (record { output = n .output; vc = n .vc })) (Option·some-injective (record { output = a .output; vc = a .vc }) b q)
@@ -72,7 +69,8 @@ module _ (s : Router) (part : List ℕ) (bytes : AreBytes part) (accepted : step
 
   -- a grant of the choice: the output that gives it, and what it gives
   pub record Gives (i v : ℕ) (b : free.OutVc) : Type 0 where
-    pub here : isThere c i v ≡ true
+    pub port : i < c .ports
+    pub below : v < c .vcs
     pub deed : Grant
     pub acts : grantOf came (b .output) ≡ some deed
     pub there : deed .requester ≡ channel c i v
@@ -80,22 +78,23 @@ module _ (s : Router) (part : List ℕ) (bytes : AreBytes part) (accepted : step
 
   pub grant-gives : (i v : ℕ) (b : free.OutVc) → choiceOf s part .grant i v ≡ some b → Gives i v b
   unfolding takenIn offersTaken landed creditsReturned creditsReached
-  grant-gives i v b q = let r = grant-there s part i v b q in go (r .0) (r .1) (granted-or-not came (channel c i v))
+  grant-gives i v b q = let r = grant-there s part bytes accepted i v b q in go (r .port) (r .vc) (r .is) (granted-or-not came (channel c i v))
     where
-      go : isThere c i v ≡ true → nameOf (grantTo came (channel c i v)) ≡ some b
+      go : i < c .ports → v < c .vcs → nameOf (grantTo came (channel c i v)) ≡ some b
           → Actor (grantOf came) (asking came) (c .ports) (channel c i v) ⊎ Untouched (grantOf came) (asking came) (c .ports) (channel c i v)
           → Gives i v b
-      go h e (inl a) =
+      go h g e (inl a) =
           let same : record { output = a .port; vc = a .deed .vc } ≡ b =
           Option·some-injective (record { output = a .port; vc = a .deed .vc }) b (ap nameOf (sym (grant-to came (channel c i v) a)) ∙ e) in
           record {
-            here = h;
+            port = h;
+            below = g;
             deed = a .deed;
             acts = ap (λ (x : free.OutVc). grantOf came (x .output)) (sym same) ∙ a .acts;
             there = a .there;
             vc = ap (λ (x : free.OutVc). x .vc) same;
           }
-      go h e (inr off) = absurd (Option·none-ne-some b (ap nameOf (sym (no-grant-to came (channel c i v) off)) ∙ e))
+      go h g e (inr off) = absurd (Option·none-ne-some b (ap nameOf (sym (no-grant-to came (channel c i v) off)) ∙ e))
 
   module _ (i v : ℕ) (b : free.OutVc) (q : choiceOf s part .grant i v ≡ some b) where
     it : Gives i v b
@@ -106,20 +105,17 @@ module _ (s : Router) (part : List ℕ) (bytes : AreBytes part) (accepted : step
 
     -- it was unbound
     pub binds-unbound : freeOf s .bound i v ≡ none
-    unfolding freeOf takenIn offersTaken landed creditsReturned creditsReached
+    unfolding takenIn offersTaken landed creditsReturned creditsReached
     binds-unbound =
-        ap (λ (ch : ChannelView). nameOf (ch .bound)) (view-is s i v (it .here))
-        ∙ ap (λ (x : Binding). nameOf (boundTo x)) (sym (binding-after s part sound (accepted-none s part bytes accepted) bytes (channel c i v))
-        ∙ ap (λ (x : ℕ). getD (came .inputs) x (freshInput 0) .binding) (sym (it .there)) ∙ granted .unbound)
+        bound-came s part bytes accepted i v (it .port) (it .below)
+        ∙ ap (λ (x : Binding). nameOf (boundTo x))
+        (ap (λ (x : ℕ). getD (came .inputs) x (freshInput 0) .binding) (sym (it .there)) ∙ granted .unbound)
 
     -- its front asks at that output
     pub binds-front : Asks look (queueNow (freeOf s .channel i v)) (b .output)
-    unfolding allocated
     binds-front =
         front-asks (b .output) (queueNow (freeOf s .channel i v))
-        (ap (frontIsFor (b .output)) (queue-now s part bytes accepted i v (it .here)
-        ∙ ap (queueOf c (came .store) i v)
-        (inputs-alike came (taken-sound s part bytes accepted) (λ (y : InputVc). y .queued) (λ o w y. refl) (channel c i v)))
+        (ap (frontIsFor (b .output)) (queue-came s part bytes accepted i v (it .port) (it .below))
         ∙ ap (λ (x : ℕ). frontIsFor (b .output) (queueAt (came .store) (firstSlot x) (getD (came .inputs) x (freshInput 0) .queued))) (sym (it .there))
         ∙ granted .front)
 
@@ -136,7 +132,7 @@ module _ (s : Router) (part : List ℕ) (bytes : AreBytes part) (accepted : step
         go true e =
             let l = there-is c j u e in
             let to = bound-named (inputAt c (s .inputs) j u .binding) b
-            (ap (λ (ch : ChannelView). nameOf (ch .bound)) (sym (view-is s j u e)) ∙ p) in
+            (ap (λ (ch : ChannelView). nameOf (ch .bound)) (sym (view-there s j u (l .0) (l .1))) ∙ p) in
             let held = names-agree c (s .inputs) (s .outputs) (sound .names) .bound j u (l .0) (l .1) _ to in
             nobody-not (outputAt c (s .outputs) (b .output) (b .vc) .holder) (record { input = j; vc = u })
             (ap (λ (w : ℕ). outputAt c (s .outputs) (b .output) w .holder) (sym (it .vc))
@@ -150,5 +146,5 @@ module _ (s : Router) (part : List ℕ) (bytes : AreBytes part) (accepted : step
       let x = grant-gives i v a p in
       let y = grant-gives j u b q in
       let deed : x .deed ≡ y .deed = Option·some-injective (x .deed) (y .deed) (sym (x .acts) ∙ ap (grantOf came) same ∙ y .acts) in
-      channel-apart c i v j u (there-is c i v (x .here) .1) (there-is c j u (y .here) .1)
+      channel-apart c i v j u (x .below) (y .below)
       (sym (x .there) ∙ ap (λ (g : Grant). g .requester) deed ∙ y .there)

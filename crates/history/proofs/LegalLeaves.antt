@@ -2,9 +2,8 @@
 -- credit, at most one for each input and each output.
 -- Assumes nothing.
 use mathlib.Core.Path.{_≡_, refl, sym, ap, ap₂, subst, _∙_}
-use mathlib.Core.Logic.{_⊎_, inl, inr}
-use mathlib.Core.Bool.{true, false≢true}
-use mathlib.Core.List.{List, _∷_}
+use mathlib.Core.Bool.{Bool, true}
+use mathlib.Core.List.{List, [], _∷_}
 use mathlib.Core.Option.{some, Option·some-injective}
 use Prim.Native.Nat.{ℕ, zero, suc, _<_}
 use native.Mathlib.Omega.{arith}
@@ -13,31 +12,33 @@ use Rattle.base.specs.declared.config.Config.{Config}
 use Rattle.base.specs.declared.flit.Flit.{Flit}
 use Rattle.model.specs.Channel.{queueNow}
 use Rattle.model.specs.Router as free
-use Rattle.model.specs.Phases.{boundNow, outCreditNow}
+use Rattle.model.specs.Phases.{boundNow, outCreditNow, leaving, departure}
 use Rattle.state.specs.declared.OutVc.{OutVc}
 use Rattle.state.specs.declared.Binding.{Binding}
 use Rattle.state.specs.declared.Binding.the-variants.{Bound}
+use Rattle.state.specs.declared.OutputVc.{OutputVc}
 use Rattle.state.specs.declared.Router.{Router}
-use Rattle.state.specs.Channels.{boundTo, isThere}
+use Rattle.state.specs.Channels.{boundTo}
 use Rattle.state.specs.Sound.{Sound}
 use Rattle.state.specs.Views.{channel, inputAt, outputAt, queueOf}
 use Rattle.trace.specs.Bytes.{AreBytes}
 use Rattle.rules.specs.declared.Verdict.the-variants.{Accepted}
 use Rattle.rules.specs.Allocation.{allocated}
+use Rattle.rules.specs.Chosen as second
 use Rattle.rules.specs.Departures.{leavingOf}
 use Rattle.rules.specs.Free.{nameOf, freeOf, eventOf}
 use Rattle.rules.specs.Intake.{creditsReached, creditsReturned, landed, offersTaken}
 use Rattle.rules.specs.Step.{takenIn, stepOf}
-use Rattle.rules.proofs.Accepted.{readied, readied-sound}
-use Rattle.rules.proofs.Acts.{Untouched, touched-or-not}
-use Rattle.rules.proofs.Channels.{channel-apart}
-use Rattle.rules.proofs.Choices.{leavesFrom, none-leaves}
-use Rattle.rules.proofs.Exits.{Exit, Exits, exit, exit-is, exits-differ}
-use Rattle.rules.proofs.Left.{fromPlace}
-use Rattle.rules.proofs.LeftNames.{Leaves, exit-named}
+use Rattle.rules.proofs.Accepted.{readied, taken-sound, readied-sound}
+use Rattle.rules.proofs.AllocatedSound.{outputs-alike}
+use Rattle.rules.proofs.ChosenDepartures.{queue-now}
+use Rattle.rules.proofs.ChosenLeaves.{leaves-goes}
+use Rattle.rules.proofs.ChosenViews.{credit-came}
+use Rattle.rules.proofs.ChosenWinners.{bound-alike}
+use Rattle.rules.proofs.Exits.{Exit, Exits, exit, exit-is, winner-exits, exits-differ}
+use Rattle.rules.proofs.LeftNames.{exit-named}
 use Rattle.rules.proofs.LeftPackets.{exit-front}
-use Rattle.history.proofs.Choice.{choiceOf, there-is, is-there, leaves-there}
-use Rattle.history.proofs.Now.{queue-now, bound-is-now, credit-now}
+use Rattle.history.proofs.Choice.{choiceOf}
 
 module _ (s : Router) (part : List ℕ) (bytes : AreBytes part) (accepted : stepOf s part .verdict ≡ Accepted) where
   abbrev c : Config
@@ -51,8 +52,9 @@ module _ (s : Router) (part : List ℕ) (bytes : AreBytes part) (accepted : step
   sound = readied-sound s part bytes accepted
 
   -- a departure of the choice: the output by which it leaves, and what the rules let leave there
-  pub record Goes (i v : ℕ) : Type 0 where
-    pub here : isThere c i v ≡ true
+  pub record Exiting (i v : ℕ) : Type 0 where
+    pub port : i < c .ports
+    pub vcThere : v < c .vcs
     pub output : ℕ
     pub deed : Exit
     pub below : output < c .ports
@@ -60,30 +62,34 @@ module _ (s : Router) (part : List ℕ) (bytes : AreBytes part) (accepted : step
     pub input : deed .input ≡ i
     pub vc : deed .vc ≡ v
 
-  pub leaves-goes : (i v : ℕ) → choiceOf s part .leaves i v ≡ true → Goes i v
-  unfolding allocated takenIn offersTaken landed creditsReturned creditsReached
-  leaves-goes i v q = let r = leaves-there s part i v q in go (r .0) (r .1) (touched-or-not (exit mid) (fromPlace mid) (c .ports) (channel c i v))
-    where
-      go : isThere c i v ≡ true → leavesFrom mid (channel c i v) ≡ true
-          → Leaves mid sound (channel c i v) ⊎ Untouched (exit mid) (fromPlace mid) (c .ports) (channel c i v) → Goes i v
-      go h e (inl a) =
-          let x = exit-is mid (a .port) (a .deed) (a .acts) in
-          let same = channel-apart c (a .deed .input) (a .deed .vc) i v (x .wins .vc-below) (there-is c i v h .1) (a .there) in
-          record { here = h; output = a .port; deed = a .deed; below = a .below; acts = a .acts; input = same .0; vc = same .1 }
-      go h e (inr off) = absurd (false≢true (sym (none-leaves mid (channel c i v) off) ∙ e))
+  pub leaves-exits : (i v : ℕ) → choiceOf s part .leaves i v ≡ true → Exiting i v
+  unfolding second.chosen allocated takenIn offersTaken landed creditsReturned creditsReached
+  leaves-exits i v q =
+      let g = leaves-goes s part bytes accepted i v q in
+      let x = winner-exits mid (g .to .output) (record { input = i; vc = v }) (g .won) in
+      record {
+        port = g .port;
+        vcThere = g .vc;
+        output = g .to .output;
+        deed = x .0;
+        below = exit-named mid sound (g .to .output) (x .0) (x .1) .0;
+        acts = x .1;
+        input = x .2;
+        vc = x .3;
+      }
 
   module _ (i v : ℕ) (q : choiceOf s part .leaves i v ≡ true) where
-    abbrev it : Goes i v
-    it = leaves-goes i v q
+    abbrev it : Exiting i v
+    it = leaves-exits i v q
 
     is : Exits mid (it .output) (it .deed)
     is = exit-is mid (it .output) (it .deed) (it .acts)
 
     -- it is bound to the output VC that it leaves by
     pub leaves-bound : boundNow (freeOf s) (choiceOf s part) i v ≡ some (record { output = it .output; vc = it .deed .by })
-    unfolding allocated takenIn offersTaken landed creditsReturned creditsReached
+    unfolding second.chosen second.boundNow allocated takenIn offersTaken landed creditsReturned creditsReached
     leaves-bound =
-        bound-is-now s part bytes accepted i v (it .here)
+        bound-alike s part bytes accepted i v (it .port) (it .vcThere)
         ∙ ap (λ (b : Binding). nameOf (boundTo b))
         (ap₂ (λ (j u : ℕ). inputAt c (mid .inputs) j u .binding) (sym (it .input)) (sym (it .vc)) ∙ is .bound)
 
@@ -92,9 +98,8 @@ module _ (s : Router) (part : List ℕ) (bytes : AreBytes part) (accepted : step
         ≡ it .deed .flit ∷ queueOf c (leavingOf mid .store) i v (inputAt c (leavingOf mid .inputs) i v .queued)
     unfolding allocated takenIn offersTaken landed creditsReturned creditsReached
     leaves-front =
-        let l = there-is c i v (it .here) in
-        queue-now s part bytes accepted i v (it .here)
-        ∙ exit-front mid sound i v (l .0) (l .1) (record {
+        queue-now s part bytes accepted i v (it .port) (it .vcThere)
+        ∙ exit-front mid sound i v (it .port) (it .vcThere) (record {
           port = it .output;
           deed = it .deed;
           below = it .below;
@@ -114,9 +119,12 @@ module _ (s : Router) (part : List ℕ) (bytes : AreBytes part) (accepted : step
         let w = is .wins in
         let one : Bound (w .to) ≡ Bound (record { output = it .output; vc = it .deed .by }) = sym (w .bound) ∙ is .bound in
         let to : w .to ≡ record { output = it .output; vc = it .deed .by } = cc in
-        let there = is-there c (it .output) (it .deed .by) (it .below) (exit-named mid sound (it .output) (it .deed) (it .acts) .1) in
+        let paid =
+        credit-came s part bytes accepted (it .output) (it .deed .by) (it .below) (exit-named mid sound (it .output) (it .deed) (it .acts) .1)
+        ∙ sym (outputs-alike (takenIn part s) (taken-sound s part bytes accepted) (λ (y : OutputVc). y .credit) (λ i v y. refl)
+        (channel c (it .output) (it .deed .by))) in
         subst (λ (x : free.OutVc). 0 < outCreditNow (freeOf s) (eventOf c part) (x .output) (x .vc)) by
-        (subst (λ (n : ℕ). 0 < n) (sym (credit-now s part bytes accepted (it .output) (it .deed .by) there))
+        (subst (λ (n : ℕ). 0 < n) (sym paid)
         (some-credit (outputAt c (mid .outputs) (it .output) (it .deed .by) .credit)
         (λ e. w .credit (ap (λ (x : OutVc). outputAt c (mid .outputs) (it .output) (x .vc) .credit) to ∙ e))))
       where
@@ -124,11 +132,25 @@ module _ (s : Router) (part : List ℕ) (bytes : AreBytes part) (accepted : step
         some-credit zero f = absurd (f refl)
         some-credit (suc n) f = omega arith
 
+  -- a flit that leaves is one departure
+  pub departure-is : (i v : ℕ) (q : choiceOf s part .leaves i v ≡ true)
+      → departure (freeOf s) (choiceOf s part) i v
+      ≡ record {
+        output = leaves-exits i v q .output;
+        outVc = leaves-exits i v q .deed .by;
+        input = i;
+        vc = v;
+        flit = leaves-exits i v q .deed .flit;
+      } ∷ []
+  departure-is i v q =
+      ap (λ (l : Bool). leaving i v l (boundNow (freeOf s) (choiceOf s part) i v) (queueNow (freeOf s .channel i v))) q
+      ∙ ap₂ (leaving i v true) (leaves-bound i v q) (leaves-front i v q)
+
   -- two departures from one input are one
   pub leaves-input-once : (i v u : ℕ) → choiceOf s part .leaves i v ≡ true → choiceOf s part .leaves i u ≡ true → v ≡ u
   leaves-input-once i v u p q =
-      let x = leaves-goes i v p in
-      let y = leaves-goes i u q in
+      let x = leaves-exits i v p in
+      let y = leaves-exits i u q in
       let o = exits-differ mid (x .output) (y .output) (x .deed) (y .deed) (x .acts) (y .acts) (x .input ∙ sym (y .input)) in
       let deed : x .deed ≡ y .deed = Option·some-injective (x .deed) (y .deed) (sym (x .acts) ∙ ap (exit mid) o ∙ y .acts) in
       sym (x .vc) ∙ ap (λ (e : Exit). e .vc) deed ∙ y .vc
@@ -138,8 +160,8 @@ module _ (s : Router) (part : List ℕ) (bytes : AreBytes part) (accepted : step
       → boundNow (freeOf s) (choiceOf s part) i v ≡ some a → boundNow (freeOf s) (choiceOf s part) j u ≡ some b → a .output ≡ b .output
       → (i ≡ j) × (v ≡ u)
   leaves-output-once i v j u a b p q f g same =
-      let x = leaves-goes i v p in
-      let y = leaves-goes j u q in
+      let x = leaves-exits i v p in
+      let y = leaves-exits j u q in
       let at : record { output = x .output; vc = x .deed .by } ≡ a = Option·some-injective _ a (sym (leaves-bound i v p) ∙ f) in
       let bt : record { output = y .output; vc = y .deed .by } ≡ b = Option·some-injective _ b (sym (leaves-bound j u q) ∙ g) in
       let o : x .output ≡ y .output = ap (λ (z : free.OutVc). z .output) at ∙ same ∙ ap (λ (z : free.OutVc). z .output) (sym bt) in

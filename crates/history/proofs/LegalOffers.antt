@@ -16,7 +16,7 @@ use Rattle.model.specs.Channel.{takenNow}
 use Rattle.model.specs.Cycle.{Brought}
 use Rattle.model.specs.Line.{out}
 use Rattle.state.specs.declared.Router.{Router}
-use Rattle.state.specs.Channels.{ChannelView, isThere, outCreditOf}
+use Rattle.state.specs.Channels.{ChannelView, outCreditOf}
 use Rattle.state.specs.Sound.{Sound, outputCreditsFit}
 use Rattle.state.specs.Views.{inputAt, outputAt, homeOf}
 use Rattle.trace.specs.Bytes.{AreBytes}
@@ -28,13 +28,13 @@ use Rattle.rules.specs.Rows.{creditAt, brings, kindAt, vcAt, destinationAt, fli
 use Rattle.rules.specs.Step.{stepOf}
 use Rattle.rules.proofs.Accepted.{accepted-none, accepted-before}
 use Rattle.rules.proofs.Channels.{channel-at}
+use Rattle.rules.proofs.ChosenViews.{is-there, view-there}
 use Rattle.rules.proofs.CreditsReached.{credit-reaches}
 use Rattle.rules.proofs.Facts.{sound-legal, inputs-room, home-at}
 use Rattle.rules.proofs.IntakeChannel.{home-out}
 use Rattle.rules.proofs.Named.{named-there}
 use Rattle.rules.proofs.OfferedFlits.{offered-kind, offered-destination}
 use Rattle.rules.proofs.Permitted.{Permitted, Offered, none-permits}
-use Rattle.history.proofs.Choice.{is-there, view-is}
 
 -- what port i brings, if it is there and its row brings a flit
 pub record Brings (c : Config) (part : List ℕ) (i : ℕ) (b : Brought Flit) : Type 0 where
@@ -102,9 +102,6 @@ module _ (s : Router) (part : List ℕ) (bytes : AreBytes part) (accepted : step
         (ltb-true (destinationAt part i) (c .ports)
         (ap (λ (t : Bool). cond t (ltb (destinationAt part i) (c .ports)) (eqb (destinationAt part i) 0)) (sym e ∙ starts-is) ∙ row .destination))
 
-    here : isThere c i (b .vc) ≡ true
-    here = is-there c i (b .vc) (it .port) offer-vc
-
     -- not 4
     pub offer-kinds : look .starts (b .flit) ≡ not (freeOf s .opened i (b .vc))
     unfolding freeOf
@@ -112,13 +109,13 @@ module _ (s : Router) (part : List ℕ) (bytes : AreBytes part) (accepted : step
         starts-is
         ∙ turned (inputAt c (s .inputs) i (vcAt part i) .inside) (startsKind (kindAt part i)) (permitted .turns i (it .port) (it .brought))
         ∙ ap (λ (x : Brought Flit). not (inputAt c (s .inputs) i (x .vc) .inside)) (it .is)
-        ∙ ap (λ (ch : ChannelView). not (ch .opened)) (sym (view-is s i (b .vc) here))
+        ∙ ap (λ (ch : ChannelView). not (ch .opened)) (sym (view-there s i (b .vc) (it .port) offer-vc))
 
     -- not 5
     pub offer-paid : takenNow (freeOf s .channel i (b .vc)) < c .depth
     unfolding freeOf
     offer-paid =
-        subst (λ (ch : ChannelView). takenNow (channelOf ch) < c .depth) (sym (view-is s i (b .vc) here))
+        subst (λ (ch : ChannelView). takenNow (channelOf ch) < c .depth) (sym (view-there s i (b .vc) (it .port) offer-vc))
         (let legal = sound-legal s sound in
         let paid : 1 ≤ inputAt c (s .inputs) i (b .vc) .credit + out 0 (homeOf c (s .home) i (b .vc)) =
         subst (λ (n : ℕ). 1 ≤ n)

@@ -1,13 +1,9 @@
 pub mod Choice
 pub mod Fresh
-pub mod Now
 pub mod LegalOffers
 pub mod LegalGrants
 pub mod LegalLeaves
 pub mod LegalStep
-pub mod CycleViews
-pub mod Counted
-pub mod FreeStep
 pub mod Written
 pub mod Entry
 pub mod RunIs

@@ -24,11 +24,11 @@ use Rattle.rules.specs.declared.Verdict.{Verdict}
 use Rattle.rules.specs.declared.Verdict.the-variants.{Accepted, Refused}
 use Rattle.rules.specs.Free.{look, sizesOf, freeOf, eventOf}
 use Rattle.rules.specs.Step.{stepOf}
+use Rattle.rules.proofs.ChosenStep.{config-stays, cycle-steps, step-chosen}
 use Rattle.rules.proofs.StepSound.{accepted-after}
 use Rattle.history.specs.Run.{entryOf, Ran, recorded, cycled, runFrom, runOf}
 use Rattle.history.proofs.Choice.{choiceOf}
 use Rattle.history.proofs.Entry.{entry-is}
-use Rattle.history.proofs.FreeStep.{config-stays, cycle-counts, free-step}
 use Rattle.history.proofs.Fresh.{fresh-free}
 use Rattle.history.proofs.LegalStep.{legal-step}
 
@@ -45,7 +45,7 @@ run-accepts : (s : Router) (h : History Flit) (part : List ℕ) → AreBytes par
     → Run look (sizesOf (s .config)) (freeOf (stepOf s part .router)) (entryOf (s .config) (length h) part (stepOf s part .reply) ∷ h)
 run-accepts s h part bytes accepted count run =
     subst (λ (r : free.Router Flit). Run look (sizesOf (s .config)) r (entryOf (s .config) (length h) part (stepOf s part .reply) ∷ h))
-    (sym (free-step s part bytes accepted))
+    (sym (step-chosen s part bytes accepted))
     (subst (λ (e : Entry Flit). Run look (sizesOf (s .config)) (step look (sizesOf (s .config)) (freeOf s) (eventOf (s .config) part) (choiceOf s part)) (e ∷ h))
     (entry-is s part bytes accepted ∙ ap (λ (n : ℕ). entryOf (s .config) n part (stepOf s part .reply)) count)
     (accept run (eventOf (s .config) part) (choiceOf s part) (legal-step s part bytes accepted)))
@@ -56,7 +56,7 @@ module _ (c : Config) (r : Ran) (part : List ℕ) (bytes : AreBytes part) (runs 
   accepted-runs e =
       record {
         config = config-stays (r .router) part bytes e ∙ runs .config;
-        count = cycle-counts (r .router) part bytes e ∙ ap suc (runs .count);
+        count = cycle-steps (r .router) part bytes e ∙ ap suc (runs .count);
         sound = accepted-after (r .router) part bytes e;
         run = subst (λ (d : Config).
             Run look (sizesOf d) (freeOf (stepOf (r .router) part .router))

@@ -18,8 +18,8 @@ use Rattle.state.specs.Channels.{isThere, outCreditOf}
 use Rattle.state.specs.Views.{outputAt}
 use Rattle.trace.specs.Bytes.{AreBytes}
 use Rattle.rules.specs.Free.{look, sizesOf, freeOf}
+use Rattle.rules.proofs.ChosenViews.{is-there}
 use Rattle.history.specs.Run.{runOf}
-use Rattle.history.proofs.Choice.{is-there}
 use Rattle.history.proofs.RunIs.{legal-delayed, run-runs, run-is}
 
 module _ (c : Config) (legal : illegalField c ≡ none) (parts : List (List ℕ)) (bytes : All AreBytes parts) where

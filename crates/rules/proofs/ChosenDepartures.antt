@@ -105,7 +105,7 @@ module _ (s : Router) (part : List ℕ) (bytes : AreBytes part) (accepted : step
           (named-is (inputAt c (mid .inputs) i v .binding) o w (sym (bound-alike s part bytes accepted i v port vc) ∙ q)) in
           (port, vc, named .0, named .1, named .2)
 
-  queue-now : (i v : ℕ) → i < c .ports → v < c .vcs
+  pub queue-now : (i v : ℕ) → i < c .ports → v < c .vcs
       → queueNow (f .channel i v) ≡ queueOf c (mid .store) i v (inputAt c (mid .inputs) i v .queued)
   unfolding allocated takenIn offersTaken landed creditsReturned creditsReached
   queue-now i v port vc =

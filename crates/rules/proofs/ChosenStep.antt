@@ -90,11 +90,11 @@ module _ (s : Router) (part : List ℕ) (bytes : AreBytes part) (accepted : step
   before : Sound s
   before = accepted-before s part bytes accepted
 
-  config-stays : later .config ≡ c
+  pub config-stays : later .config ≡ c
   unfolding routerAfter sentOut allocated takenIn offersTaken landed creditsReturned creditsReached
   config-stays = ap (λ (y : Stepped). y .router .config) (accepted-steps s part bytes accepted)
 
-  cycle-steps : later .cycle ≡ suc (s .cycle)
+  pub cycle-steps : later .cycle ≡ suc (s .cycle)
   unfolding routerAfter sentOut allocated takenIn offersTaken landed creditsReturned creditsReached
   cycle-steps = ap (λ (y : Stepped). y .router .cycle) (accepted-steps s part bytes accepted) ∙ add-one (s .cycle)
 

@@ -70,8 +70,7 @@ module _ (s : Router) (part : List ℕ) (bytes : AreBytes part) (accepted : step
         → see (inputAt c (mid .inputs) i v) ≡ see (inputAt c (came .inputs) i v)
     alike see same = inputs-alike came (taken-sound s part bytes accepted) see same x
 
-    -- the queue after phase 3 is what phases 6 and 7 find
-    pub queue-mid : queueOf c (mid .store) i v (inputAt c (mid .inputs) i v .queued)
+    queue-mid : queueOf c (mid .store) i v (inputAt c (mid .inputs) i v .queued)
         ≡ channelView s i v .queue ++ out [] (channelView s i v .wire)
     unfolding allocated
     queue-mid =
@@ -79,8 +78,7 @@ module _ (s : Router) (part : List ℕ) (bytes : AreBytes part) (accepted : step
         ∙ queue-after s part before (accepted-none s part bytes accepted) bytes i v port vc
         ∙ ap (λ (l : List Flit). channelView s i v .queue ++ l) (sym (wire-out c i v (s .wire) (sound-legal s before .forward .0)))
 
-    -- so is what it is bound to after phase 5
-    pub bound-mid : boundTo (inputAt c (mid .inputs) i v .binding) ≡ nowBound (grantTo came x) (channelView s i v .bound)
+    bound-mid : boundTo (inputAt c (mid .inputs) i v .binding) ≡ nowBound (grantTo came x) (channelView s i v .bound)
     unfolding takenIn offersTaken landed creditsReturned creditsReached
     bound-mid =
         bound-now came (taken-sound s part bytes accepted) i v port vc
@@ -112,15 +110,7 @@ module _ (s : Router) (part : List ℕ) (bytes : AreBytes part) (accepted : step
         ap (λ (y : Stepped). channelView (y .router) i v) (accepted-steps s part bytes accepted)
         ∙ (λ t. record { taken = taken t; wire = wire t; queue = queue t; home = home t; opened = opened t; bound = bound t })
 
-  -- an output VC's credit after phase 5: one more where a credit comes from downstream
-  pub output-credit-mid : (o w : ℕ) → o < c .ports → w < c .vcs
-      → outputAt c (mid .outputs) o w .credit ≡ outputAt c (s .outputs) o w .credit + toVc w (creditAt part o)
-  unfolding allocated takenIn offersTaken landed creditsReturned creditsReached
-  output-credit-mid o w port vc =
-      outputs-alike came (taken-sound s part bytes accepted) (λ (y : OutputVc). y .credit) (λ i v y. refl) (channel c o w)
-      ∙ output-credit-after s part before (accepted-none s part bytes accepted) bytes o w port vc
-
-  -- and after the cycle: one less where a flit leaves by it
+  -- an output VC's credit: one more where a credit comes from downstream, one less where a flit leaves by it
   pub output-credit-steps : (o w : ℕ) → o < c .ports → w < c .vcs
       → outputAt c (stepOf s part .router .outputs) o w .credit
       ≡ outputAt c (s .outputs) o w .credit + toVc w (creditAt part o) - one (passesBy mid (channel c o w))
@@ -128,4 +118,6 @@ module _ (s : Router) (part : List ℕ) (bytes : AreBytes part) (accepted : step
   output-credit-steps o w port vc =
       ap (λ (y : Stepped). outputAt c (y .router .outputs) o w .credit) (accepted-steps s part bytes accepted)
       ∙ output-credit-left mid (readied-sound s part bytes accepted) o w
-      ∙ ap (λ (n : ℕ). n - one (passesBy mid (channel c o w))) (output-credit-mid o w port vc)
+      ∙ ap (λ (n : ℕ). n - one (passesBy mid (channel c o w)))
+      (outputs-alike came (taken-sound s part bytes accepted) (λ (y : OutputVc). y .credit) (λ i v y. refl) (channel c o w)
+      ∙ output-credit-after s part before (accepted-none s part bytes accepted) bytes o w port vc)
