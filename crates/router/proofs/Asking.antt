@@ -26,6 +26,7 @@ use Rattle.state.specs.Sound.{isUnbound, frontIsFor}
 use Rattle.state.specs.Store.{firstSlot, frontOf}
 use Rattle.state.specs.Views.{slotFlit, queueAt, places}
 use Rattle.state.proofs.Slots.{front-there}
+use Rattle.rules.proofs.Lines.{places-ext}
 use Rattle.rules.specs.Allocation.{asks}
 
 -- whether an input VC with this binding asks at output o
@@ -93,12 +94,6 @@ module _ {A : Type 0} where
           let l : i < n = lt-of-le-ne (omega arith) (eqb-false i n e) in
           List·getD-append (places n f) (f n ∷ []) d i (omega (arith, places-length n f)) ∙ below l
 
-  pub places-same : (n : ℕ) (f g : ℕ → A) → ((i : ℕ) → i < n → f i ≡ g i) → places n f ≡ places n g
-  unfolding places
-  places-same zero f g same = refl
-  places-same (suc n) f g same =
-      ap₂ (λ (l : List A) (x : A). l ++ (x ∷ [])) (places-same n f g (λ i h. same i (omega arith))) (same n (omega arith))
-
   -- one place changed
   pub places-set : (n : ℕ) (f g : ℕ → A) (o : ℕ) (d : A) → ((i : ℕ) → i < n → (i ≡ o → ⊥) → f i ≡ g i) → o < n
       → set (places n f) o (g o) ≡ places n g
@@ -151,7 +146,7 @@ module _ (inputs : List InputVc) (store : List ℕ) (x r : ℕ)
   -- one that asks nowhere
   pub askers-same : (sets : List ℕ) → sets ≡ askers inputs store x → 8 ≤ r → sets ≡ askers inputs store (x + 1)
   askers-same sets e l =
-      e ∙ places-same 8 (λ (o : ℕ). wordOf (asks inputs store o) x) (λ (o : ℕ). wordOf (asks inputs store o) (x + 1))
+      e ∙ places-ext 8 (λ (o : ℕ). wordOf (asks inputs store o) x) (λ (o : ℕ). wordOf (asks inputs store o) (x + 1))
       (λ o h. word-without (asks inputs store o) x (asks-is o h ∙ ne-eqb r o (λ q. absurd (omega arith))))
 
   -- one that asks at output r
