@@ -4,6 +4,7 @@ pub mod Exactness
 pub mod Examples
 pub mod Laying
 pub mod Lengths
+pub mod Counting
 pub mod Outcomes
 pub mod Ports
 pub mod Ranges

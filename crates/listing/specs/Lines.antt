@@ -109,3 +109,11 @@ flitLine cycle reply o = lineOf (departureOf (getD (reply .outputs) o (record { 
 -- "per accepted cycle, first `C ..` for each credit .., by input; then `F ..` for each flit out, by output"
 unfoldable pub cycleLines : ℕ → Reply → List Line
 cycleLines cycle reply = byPort (creditLine cycle reply) mostPorts ++ byPort (flitLine cycle reply) mostPorts
+
+-- "(accepted cycles, F lines)": how many of some lines are F lines
+unfoldable pub flitLines : List Line → ℕ
+flitLines [] = 0
+flitLines (credit cycle input vc ∷ ls) = flitLines ls
+flitLines (flit cycle output d ∷ ls) = suc (flitLines ls)
+flitLines (finish cycles flits ∷ ls) = flitLines ls
+flitLines (refusal number cycle place ∷ ls) = flitLines ls

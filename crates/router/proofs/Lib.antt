@@ -21,3 +21,13 @@ pub mod Phases
 pub mod SoundFits
 pub mod WholeCycle
 pub mod StepLaws
+pub mod Writes
+pub mod Going
+pub mod Cycling
+pub mod Taken
+pub mod FlitCount
+pub mod Rooms
+pub mod Beginning
+pub mod NightTests
+pub mod Onward
+pub mod RunLaws

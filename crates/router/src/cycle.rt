@@ -1,8 +1,9 @@
-// One cycle of a router handed in: tested, judged, and acted on if no rule refuses it.
+// One cycle: judged, and acted on if no rule refuses it; and the public step, which tests the router that it is handed first.
 use crate::acting;
 use crate::acting::Parts;
 use crate::intake;
 use crate::judge;
+use base::Config;
 use base::NOT_SOUND;
 use base::Reply;
 use rules::Refusal;
@@ -11,7 +12,71 @@ use rules::Verdict;
 use state::Arbiters;
 use state::Router;
 ghost use mathlib.Core.Path.{_≡_};
+ghost use Rattle.rules.specs.declared.Stepped.{Stepped as Answer};
 ghost use Rattle.rules.specs.Step.{stepOf};
+ghost use Rattle.state.specs.Sound.{Sound};
+ghost use Rattle.router.specs.Whole.{routerOf};
+
+// A cycle's verdict and reply, with the cycle count and the parts after it.
+pub struct Inner {
+    pub verdict: Verdict,
+    pub cycle: u64,
+    pub parts: Parts,
+    pub reply: Reply,
+}
+
+// A cycle of a router that is known to be sound.
+pub(crate) fn inner_step(
+    config: Config,
+    cycle: u64,
+    before: Parts,
+    part: &[u8],
+    store: &mut [u64; 512],
+    wire: &mut [u64; 64],
+    home: &mut [u8; 64],
+) -> Inner
+    requires { ⌜ Sound (routerOf config cycle before (now store) (now wire) (now home)) ⌝ }
+    ensures { λ r. ⌜ _≡_ {A = Answer} (record { verdict = r .verdict; router = routerOf config (r .cycle) (r .parts) (now (store .exit)) (now (wire .exit)) (now (home .exit)); reply = r .reply })
+        (stepOf (routerOf config cycle before (now (store .entry)) (now (wire .entry)) (now (home .entry))) (now (part .entry))) ⌝ }
+{
+    let inputs = before.inputs;
+    let outputs = before.outputs;
+    let paid = intake::pay_senders(config, inputs, home);
+    let verdict = judge::judge(config, cycle, inputs, paid, outputs, part);
+    if let Verdict::Refused(refusal) = verdict {
+        return Inner {
+            verdict: Verdict::Refused(refusal),
+            cycle,
+            parts: before,
+            reply: Reply::empty(),
+        };
+    }
+    let vcs = before.vcs;
+    let ins = before.ins;
+    let outs = before.outs;
+    let acted = acting::act(
+        config,
+        Parts {
+            inputs: paid,
+            outputs,
+            vcs,
+            ins,
+            outs,
+        },
+        part,
+        store,
+        wire,
+        home,
+    );
+    let parts = acted.parts;
+    let reply = acted.reply;
+    Inner {
+        verdict: Verdict::Accepted,
+        cycle: cycle + 1,
+        parts,
+        reply,
+    }
+}
 
 pub fn step(router: Router, part: &[u8]) -> Stepped
     ensures { λ r. ⌜ r ≡ stepOf router (now (part .entry)) ⌝ }
@@ -27,28 +92,20 @@ pub fn step(router: Router, part: &[u8]) -> Stepped
         };
     }
     let config = router.config;
-    let before = router.inputs;
-    let outputs = router.outputs;
-    let mut home = router.home;
-    let paid = intake::pay_senders(config, before, &home);
-    let verdict = judge::judge(config, router.cycle, before, paid, outputs, part);
-    if let Verdict::Refused(refusal) = verdict {
-        return Stepped {
-            verdict: Verdict::Refused(refusal),
-            router,
-            reply: Reply::empty(),
-        };
-    }
     let mut store = router.store;
     let mut wire = router.wire;
+    let mut home = router.home;
+    let inputs = router.inputs;
+    let outputs = router.outputs;
     let arbiters = router.arbiters;
     let vcs = arbiters.vcs;
     let ins = arbiters.inputs;
     let outs = arbiters.outputs;
-    let acted = acting::act(
+    let done = inner_step(
         config,
+        router.cycle,
         Parts {
-            inputs: paid,
+            inputs,
             outputs,
             vcs,
             ins,
@@ -59,18 +116,19 @@ pub fn step(router: Router, part: &[u8]) -> Stepped
         &mut wire,
         &mut home,
     );
-    let after = acted.parts;
+    let verdict = done.verdict;
+    let after = done.parts;
     let inputs_after = after.inputs;
     let outputs_after = after.outputs;
     let vcs_after = after.vcs;
     let ins_after = after.ins;
     let outs_after = after.outs;
-    let reply = acted.reply;
+    let reply = done.reply;
     Stepped {
-        verdict: Verdict::Accepted,
+        verdict,
         router: Router {
             config,
-            cycle: router.cycle + 1,
+            cycle: done.cycle,
             inputs: inputs_after,
             outputs: outputs_after,
             store,

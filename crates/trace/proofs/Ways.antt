@@ -31,7 +31,7 @@ abbrev LeadsOn : ℕ → Outcome → Type 0
 LeadsOn c o = c + cyclesIn (o .read) ≤ cycleLimit → goodPlace (o .place) (c + cyclesIn (o .read)) ≡ true
 
 -- before the end block the rule of 8 is the one on its form
-form-right : (p : Place) (c : ℕ) (l : List ℕ) → p .ended ≡ false → blockWrong p c l ≡ false → formWrong p c l ≡ false
+pub form-right : (p : Place) (c : ℕ) (l : List ℕ) → p .ended ≡ false → blockWrong p c l ≡ false → formWrong p c l ≡ false
 unfolding blockWrong
 form-right p c l e f = ap (λ (b : Bool). cond b (bytesFollow l) (formWrong p c l)) (sym e) ∙ f
 

@@ -11,3 +11,4 @@ pub use judging::Answer;
 pub use judging::Found;
 pub use judging::judge;
 pub use place::Place;
+pub use place::is_good;

@@ -36,7 +36,7 @@ fn may_hold(blocks: u32, cycles: u64) -> bool
 }
 
 // Whether some file leads here with so many cycles accepted.
-pub(crate) fn is_good(place: Place, cycles: u64) -> bool
+pub fn is_good(place: Place, cycles: u64) -> bool
     ensures { λ r. ⌜ r ≡ goodPlace place cycles ⌝ }
 {
     if !place.configured {

@@ -1,0 +1,107 @@
+-- Block after block of a part: when a call stops, when it goes on, and that its place only moves on.
+-- Assumes nothing.
+use mathlib.Core.Path.{_≡_, refl, sym, ap, ap₂, _∙_}
+use mathlib.Core.Bool.{Bool, true, false, cond, _||_}
+use mathlib.Core.List.{List, [], _∷_}
+use mathlib.Core.Option.{Option, some, none}
+use Prim.Native.Nat.{ℕ, zero, suc, _+_, _-_, _≤_, _<_}
+use native.Mathlib.Nat.{le-refl, le-trans}
+use native.Mathlib.Omega.{arith}
+use lib.ListN.{length, take, drop}
+use Rattle.trace.specs.Judged.{Outcome, Read, aConfiguration, someCycles, theEnd, noMore, judged}
+use Rattle.listing.specs.Lines.{Line}
+use Rattle.rules.specs.declared.Verdict.{Verdict}
+use Rattle.rules.specs.declared.Verdict.the-variants.{Accepted, Refused}
+use Rattle.rules.specs.Step.{stepOf}
+use Rattle.router.specs.Running.{Writing, wrote, onNight, endedBy, byVerdict, cycled, partAt, cyclesFrom, byOutcome, blockTaken, blockAt, lacksBlockRoom, Call, goesOn}
+
+module _ (part : List ℕ) (n : ℕ) (c : Call) where
+  abbrev next : Call
+  next = record { used = c .used + length (blockAt part (c .used)); writing = blockTaken (blockAt part (c .used)) (c .writing) }
+
+  pub goes-none : n ≡ 0 → goesOn part n c ≡ c
+  unfolding goesOn
+  goes-none e = rw e
+
+  pub goes-over : c .writing .night .over ≡ true → goesOn part n c ≡ c
+  unfolding goesOn
+  goes-over e = go n
+    where
+      go : (m : ℕ) → goesOn part m c ≡ c
+      go zero = refl
+      go (suc m) = rw e
+
+  pub goes-full : c .writing .night .over ≡ false → lacksBlockRoom (c .writing .buffer) (c .writing .at) ≡ true → goesOn part n c ≡ c
+  unfolding goesOn
+  goes-full e f = go n
+    where
+      go : (m : ℕ) → goesOn part m c ≡ c
+      go zero = refl
+      go (suc m) = rw (e, f)
+
+pub goes-more : (part : List ℕ) (n : ℕ) (c : Call) → 0 < n → c .writing .night .over ≡ false → lacksBlockRoom (c .writing .buffer) (c .writing .at) ≡ false
+    → goesOn part (n - 1) (next part n c) ≡ goesOn part n c
+unfolding goesOn
+goes-more part (suc n) c l e f = let g : suc n - 1 ≡ n = omega arith in rw (e, f, g)
+
+-- as many bytes as a piece has are that piece
+same-take : (n : ℕ) (l : List ℕ) → take (length (take n l)) l ≡ take n l
+same-take zero l = refl
+same-take (suc n) [] = refl
+same-take (suc n) (x ∷ l) = ap (λ (m : List ℕ). x ∷ m) (same-take n l)
+
+pub piece-is : (part : List ℕ) (from end : ℕ) → end ≡ from + length (blockAt part from) → take (end - from) (drop from part) ≡ blockAt part from
+piece-is part from end e =
+    let f : end - from ≡ length (blockAt part from) = omega (arith, e) in ap (λ (n : ℕ). take n (drop from part)) f ∙ same-take 512 (drop from part)
+
+-- the place only moves on
+wrote-on : (lines : List Line) (w : Writing) → w .at ≤ wrote lines w .at
+unfolding wrote
+wrote-on lines w = omega arith
+
+ended-on : (line : Line) (w : Writing) → w .at ≤ endedBy line w .at
+unfolding endedBy
+ended-on line w = wrote-on (line ∷ []) _
+
+cycled-on : (part : List ℕ) (w : Writing) → w .at ≤ cycled part w .at
+unfolding cycled
+cycled-on part w = go (stepOf (w .night .router) part .verdict)
+  where
+    go : (v : Verdict) → w .at ≤ byVerdict v (stepOf (w .night .router) part) w .at
+    go Accepted = wrote-on _ _
+    go (Refused r) = ended-on _ w
+
+cycles-on : (block : List ℕ) (n k : ℕ) (w : Writing) → w .at ≤ cyclesFrom block k n w .at
+unfolding cyclesFrom
+cycles-on block zero k w = le-refl _
+cycles-on block (suc n) k w =
+    either (w .night .over) (le-trans (cycled-on (partAt block k) w) (cycles-on block n (k + 1) (cycled (partAt block k) w)))
+  where
+    either : (o : Bool) → w .at ≤ cyclesFrom block (k + 1) n (cycled (partAt block k) w) .at
+        → w .at ≤ cond o w (cyclesFrom block (k + 1) n (cycled (partAt block k) w)) .at
+    either true h = le-refl _
+    either false h = h
+
+pub block-on : (block : List ℕ) (w : Writing) → w .at ≤ blockTaken block w .at
+unfolding blockTaken
+block-on block w = go (judged (w .night .place) (w .night .router .cycle) block)
+  where
+    go : (o : Outcome) → w .at ≤ byOutcome (o .read) o block w .at
+    go o = which (o .read)
+      where
+        which : (r : Option Read) → w .at ≤ byOutcome r o block w .at
+        which none = ended-on _ w
+        which (some (aConfiguration c)) = le-refl _
+        which (some (someCycles n)) = cycles-on block n 0 _
+        which (some theEnd) = le-refl _
+        which (some noMore) = ended-on _ _
+
+pub goes-on : (part : List ℕ) (n : ℕ) (c : Call) → c .writing .at ≤ goesOn part n c .writing .at
+unfolding goesOn
+goes-on part zero c = le-refl _
+goes-on part (suc n) c =
+    either (c .writing .night .over || lacksBlockRoom (c .writing .buffer) (c .writing .at)) (le-trans (block-on (blockAt part (c .used)) (c .writing)) (goes-on part n (next part n c)))
+  where
+    either : (o : Bool) → c .writing .at ≤ goesOn part n (next part n c) .writing .at → c .writing .at ≤ cond o c (goesOn part n (next part n c)) .writing .at
+    either true h = le-refl _
+    either false h = h

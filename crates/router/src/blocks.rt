@@ -1,0 +1,85 @@
+// The blocks of a part of a trace, one after another, as long as there is room for their lines.
+use crate::running;
+use crate::running::Went;
+use base::Config;
+use base::ROOM;
+ghost use mathlib.Core.Path.{_≡_};
+ghost use mathlib.Core.Bool.{not};
+ghost use Prim.Native.Nat.{_+_, _-_, _/_, _≤_, _<_};
+ghost use lib.ListN.{length};
+ghost use Rattle.router.specs.Running.{lacksBlockRoom, blockAt, Call, goesOn};
+ghost use Rattle.router.specs.Inside.{Ongoing, writingOf};
+
+// How far a call has come: the run, and the bytes of the part that were used.
+pub struct Through {
+    pub went: Went,
+    pub used: usize,
+}
+
+// The blocks in so many bytes: the last may be shorter, and no bytes are one empty block.
+pub(crate) fn blocks_in(bytes: usize) -> usize
+    requires { ⌜ bytes < 9223372036854775808 ⌝ }
+    ensures { λ r. ⌜ r ≡ 1 + (bytes - 1) / 512 ⌝ }
+{
+    if bytes == 0 {
+        return 1;
+    }
+    1 + (bytes - 1) / 512
+}
+
+pub(crate) fn has_room(buf: &[u8], at: usize) -> bool
+    ensures { λ r. ⌜ r ≡ not (lacksBlockRoom (now (buf .entry)) at) ⌝ }
+    ensures short { λ r. ⌜ length (now (buf .entry)) < 18446744073709551616 ⌝ }
+{
+    if buf.len() < at {
+        return false;
+    }
+    8 * ROOM <= buf.len() - at
+}
+
+// Where the block from `from` on ends: 512 bytes on, or with the part.
+pub(crate) fn block_end(part: &[u8], from: usize) -> usize
+    requires { ⌜ from ≤ length (now part) ⌝ }
+    ensures after { λ r. ⌜ r ≡ from + length (blockAt (now (part .entry)) from) ⌝ }
+    ensures inside { λ r. ⌜ r ≤ length (now (part .entry)) ⌝ }
+    ensures short { λ r. ⌜ r ≤ from + 512 ⌝ }
+{
+    if part.len() - from < 512 {
+        return part.len();
+    }
+    from + 512
+}
+
+// At most so many blocks from `first` on.
+pub(crate) fn blocks(
+    config: Config,
+    before: Went,
+    part: &[u8],
+    first: usize,
+    count: usize,
+    store: &mut [u64; 512],
+    wire: &mut [u64; 64],
+    home: &mut [u8; 64],
+    out: &mut [u8],
+) -> Through
+    requires { ⌜ Ongoing (writingOf config before (now store) (now wire) (now home) (now out)) × (first ≤ length (now part)) ⌝ }
+    ensures { λ r. ⌜ _≡_ {A = Call} (record { used = r .used; writing = writingOf config (r .went) (now (store .exit)) (now (wire .exit)) (now (home .exit)) (now (out .exit)) })
+        (goesOn (now (part .entry)) count (record { used = first; writing = writingOf config before (now (store .entry)) (now (wire .entry)) (now (home .entry)) (now (out .entry)) })) ⌝ }
+{
+    let mut went = before;
+    let mut from = first;
+    let mut left = count;
+    while 0 < left {
+        if went.over {
+            return Through { went, used: from };
+        }
+        if !has_room(out, went.at) {
+            return Through { went, used: from };
+        }
+        let end = block_end(part, from);
+        went = running::block(config, went, &part[from..end], store, wire, home, out);
+        from = end;
+        left -= 1;
+    }
+    Through { went, used: from }
+}
