@@ -123,7 +123,7 @@ pub fn step(router: Router, part: &[u8]) -> Stepped
     let vcs_after = after.vcs;
     let ins_after = after.ins;
     let outs_after = after.outs;
-    let reply = done.reply;
+    let said = done.reply;
     Stepped {
         verdict,
         router: Router {
@@ -140,6 +140,6 @@ pub fn step(router: Router, part: &[u8]) -> Stepped
                 outputs: outs_after,
             },
         },
-        reply,
+        reply: said,
     }
 }
