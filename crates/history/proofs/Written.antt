@@ -63,7 +63,7 @@ module _ (s : Router) (sound : Sound s) (o : ℕ) (e : Exit) (below : o < s .con
   abbrev own : Leaves s sound (channel c i v)
   own = record { port = o; deed = e; below = below; acts = acts; there = refl }
 
-  front-legal : legalFlit c (e .flit) ≡ true
+  pub front-legal : legalFlit c (e .flit) ≡ true
   unfolding queuesLegal all
   front-legal =
       both (legalFlit c (e .flit)) _ (ap (all (legalFlit c)) (sym (exit-front s sound i v port vc own))

@@ -1,0 +1,247 @@
+-- The reply of an accepted cycle is within the writer's ranges: its lines are never refused with 12, they have at most 376 bytes, and F lines
+-- at most as many as ports. Only that the cycle is accepted is asked: then the router was sound, and the run not full.
+-- Assumes nothing.
+use mathlib.Core.Path.{_≡_, refl, sym, ap, ap₂, subst, _∙_}
+use mathlib.Core.Bool.{Bool, true, false, _&&_}
+use mathlib.Core.List.{List, [], _∷_, _++_}
+use mathlib.Core.Option.{Option, some, none, Option·none-ne-some}
+use Prim.Native.Nat.{ℕ, zero, suc, _+_, _^_, _≤_, _<_, zero-le}
+use native.Mathlib.Omega.{arith}
+use lib.Dec.{leb, ltb}
+use lib.ListN.{length, getD}
+use borrow.Author.Tests.{leb-true, le-leb, ltb-true, ltb-false}
+use Rattle.base.specs.declared.config.Config.{Config}
+use Rattle.base.specs.declared.flit.Flit.{Flit}
+use Rattle.base.specs.declared.reply.Departure.{Departure}
+use Rattle.base.specs.declared.reply.Left.{Left}
+use Rattle.base.specs.declared.reply.Left.the-variants as left
+use Rattle.base.specs.declared.reply.Reached.{Reached}
+use Rattle.base.specs.declared.reply.Reached.the-variants as reached
+use Rattle.base.specs.declared.reply.Reply.{Reply}
+use Rattle.base.specs.declared.reply.Sender.{Sender}
+use Rattle.base.specs.Flit.{kindOf, head, single}
+use Rattle.base.specs.Numbers.{room}
+use Rattle.base.specs.Sizes.{field, inRange, cycleLimit}
+use Rattle.base.proofs.Configurations.{Legal}
+use Rattle.base.proofs.Search.{both}
+use Rattle.listing.specs.Lines.{Line, credit, flit, finish, refusal, valuesOf, allInRange, printable, text, byPort, creditLine, flitLine, cycleLines}
+use Rattle.listing.proofs.Lengths.{cycle-length}
+use Rattle.listing.proofs.Ports.{printable-append, no-credit, one-credit, no-flit, one-flit, cycle-printable}
+use Rattle.listing.proofs.Ranges.{FlitIn}
+use Rattle.state.specs.declared.Router.{Router}
+use Rattle.state.specs.Sound.{Sound, legalFlit}
+use Rattle.state.specs.Views.{homePlace}
+use Rattle.trace.specs.Bytes.{AreBytes}
+use Rattle.rules.specs.declared.Stepped.{Stepped}
+use Rattle.rules.specs.declared.Verdict.the-variants.{Accepted}
+use Rattle.rules.specs.Allocation.{allocated}
+use Rattle.rules.specs.Intake.{reaching, reported, creditsReached, creditsReturned, landed, offersTaken}
+use Rattle.rules.specs.Ports.{named}
+use Rattle.rules.specs.Step.{takenIn, replyOf, stepOf}
+use Rattle.rules.proofs.Accepted.{none-early, readied, accepted-none, accepted-before, accepted-steps, readied-sound}
+use Rattle.rules.proofs.Departed.{LeavesBy, reported-exits}
+use Rattle.rules.proofs.Exits.{exit-is}
+use Rattle.rules.proofs.Facts.{sound-legal, home-at}
+use Rattle.rules.proofs.Left.{noOutput}
+use Rattle.rules.proofs.LeftNames.{exit-named}
+use Rattle.rules.proofs.Named.{named-there}
+use Rattle.rules.proofs.Reported.{reported-at, reported-past}
+use Rattle.history.specs.FlitLines.{flitLines}
+use Rattle.history.proofs.Written.{front-legal}
+
+-- a value between its bounds is in its range
+inside : (x least most : ℕ) → least ≤ x → x ≤ most → inRange (field x least most) ≡ true
+unfolding inRange
+inside x least most low high = ap₂ _&&_ (le-leb least x low) (le-leb x most high)
+
+-- a line whose values are in their ranges prints
+credit-prints : (cycle i v : ℕ) → cycle < cycleLimit → i < 8 → v < 4 → printable (credit cycle i v ∷ []) ≡ true
+unfolding printable valuesOf allInRange
+credit-prints cycle i v early port vc =
+    rw (inside cycle 0 999999999 zero-le (omega arith), inside i 0 7 zero-le (omega arith), inside v 0 3 zero-le (omega arith))
+
+flit-prints : (cycle o : ℕ) (d : Departure) → FlitIn cycle o d → printable (flit cycle o d ∷ []) ≡ true
+unfolding printable valuesOf allInRange
+flit-prints cycle o d is =
+    let when = inside cycle 0 999999999 zero-le (omega arith) in
+    let output = inside o 0 7 zero-le (omega arith) in
+    let by = inside (d .«out_vc») 0 3 zero-le (omega arith) in
+    let input = inside (d .input) 0 7 zero-le (omega arith) in
+    let vc = inside (d .vc) 0 3 zero-le (omega arith) in
+    let kind = inside (d .kind) 1 4 (is .kind-least) (is .kind-most) in
+    λ t. (when t && (output t && (by t && (input t && (vc t && (kind t && true)))))) && true
+
+-- the F lines of two runs of lines
+flits-append : (ks ls : List Line) → flitLines (ks ++ ls) ≡ flitLines ks + flitLines ls
+unfolding flitLines
+flits-append [] ls = omega arith
+flits-append (credit cycle i v ∷ ks) ls = flits-append ks ls
+flits-append (flit cycle o d ∷ ks) ls = let e = flits-append ks ls in omega arith
+flits-append (finish cycles flits ∷ ks) ls = flits-append ks ls
+flits-append (refusal number cycle place ∷ ks) ls = flits-append ks ls
+
+module _ (f : ℕ → List Line) where
+  -- where each port's lines print, all do
+  ports-print : (n : ℕ) → ((i : ℕ) → i < n → printable (f i) ≡ true) → printable (byPort f n) ≡ true
+  unfolding byPort printable
+  ports-print zero each = refl
+  ports-print (suc n) each =
+      printable-append (byPort f n) (f n) ∙ ap₂ _&&_ (ports-print n (λ i h. each i (omega arith))) (each n (omega arith))
+
+  -- ports with at most one F line each
+  ports-each : (n : ℕ) → ((i : ℕ) → flitLines (f i) ≤ 1) → flitLines (byPort f n) ≤ n
+  unfolding byPort flitLines
+  ports-each zero one = zero-le
+  ports-each (suc n) one = let before = ports-each n one in omega (arith, flits-append (byPort f n) (f n), one n)
+
+  -- of which those from p on have none
+  ports-few : (n p : ℕ) → ((i : ℕ) → flitLines (f i) ≤ 1) → ((i : ℕ) → p ≤ i → flitLines (f i) ≡ 0) → flitLines (byPort f n) ≤ p
+  unfolding byPort flitLines
+  ports-few zero p one past = zero-le
+  ports-few (suc n) p one past = go (ltb n p) refl (ports-few n p one past)
+    where
+      go : (b : Bool) → ltb n p ≡ b → flitLines (byPort f n) ≤ p → flitLines (byPort f n ++ f n) ≤ p
+      go true e before = omega (arith, flits-append (byPort f n) (f n), one n, ports-each n one, ltb-true n p e)
+      go false e before = omega (arith, flits-append (byPort f n) (f n), past n (ltb-false n p e))
+
+-- what is reported as reached was named
+reaching-named : (m : Option ℕ) (v : ℕ) → reaching m .reached ≡ reached.Vc v → m ≡ some v
+reaching-named none v e = let z : _≡_ {A = ℕ} 0 1 = cc in absurd (omega arith)
+reaching-named (some u) v e = let q : u ≡ v = cc in ap some q
+
+-- the kind of a legal flit
+legal-kind : (c : Config) (f : Flit) → legalFlit c f ≡ true → (1 ≤ kindOf f) × (kindOf f ≤ 4)
+unfolding legalFlit
+legal-kind c f e =
+    let p = both _ (ltb (f .word) (2 ^ 38)) e in
+    let q = both (leb head (kindOf f) && leb (kindOf f) single) _ (p .0) in
+    let r = both (leb head (kindOf f)) (leb (kindOf f) single) (q .0) in
+    (leb-true head (kindOf f) (r .0), leb-true (kindOf f) single (r .1))
+
+module _ (s : Router) (part : List ℕ) (bytes : AreBytes part) (accepted : stepOf s part .verdict ≡ Accepted) where
+  abbrev c : Config
+  c = s .config
+
+  -- the router before phase 6
+  abbrev mid : Router
+  mid = readied part s
+
+  abbrev reply : Reply
+  reply = stepOf s part .reply
+
+  before : Sound s
+  before = accepted-before s part bytes accepted
+
+  legal : Legal c
+  legal = sound-legal s before
+
+  early : s .cycle < cycleLimit
+  early = none-early s part (accepted-none s part bytes accepted)
+
+  -- a credit is reported at a port that there is, for a VC that there is
+  reached-there : (i v : ℕ) → i < 8 → getD (reply .senders) i (reaching none) .reached ≡ reached.Vc v → v < c .vcs
+  unfolding replyOf
+  reached-there i v h e = go (ltb i (c .ports)) refl
+    where
+      said : getD (reported c (s .home)) i (reaching none) .reached ≡ reached.Vc v
+      said = ap (λ (x : Stepped). getD (x .reply .senders) i (reaching none) .reached) (sym (accepted-steps s part bytes accepted)) ∙ e
+
+      go : (b : Bool) → ltb i (c .ports) ≡ b → v < c .vcs
+      go true t =
+          let port = ltb-true i (c .ports) t in
+          named-there (homePlace (s .home) 0 i) (c .vcs) v (home-at s before 0 i (legal .back .0) port)
+          (reaching-named (named (homePlace (s .home) 0 i)) v
+          (ap (λ (x : Sender). x .reached) (sym (reported-at c (s .home) i port (legal .ports .1))) ∙ said))
+      go false t =
+          let none-named = reaching-named none v
+          (ap (λ (x : Sender). x .reached) (sym (reported-past c (s .home) i (ltb-false i (c .ports) t) h)) ∙ said) in
+          absurd (Option·none-ne-some v none-named)
+
+  -- a flit is reported at an output that there is
+  left-there : (o : ℕ) (d : Departure) → LeavesBy reply o d → o < c .ports
+  unfolding allocated takenIn offersTaken landed creditsReturned creditsReached
+  left-there o d l =
+      let a = reported-exits s part bytes accepted o d l in
+      exit-named mid (readied-sound s part bytes accepted) o (a .0) (a .1) .0
+
+  -- and in its ranges
+  left-in : (o : ℕ) (d : Departure) → LeavesBy reply o d → FlitIn (s .cycle) o d
+  unfolding allocated takenIn offersTaken landed creditsReturned creditsReached
+  left-in o d l =
+      let a = reported-exits s part bytes accepted o d l in
+      let sound = readied-sound s part bytes accepted in
+      let named = exit-named mid sound o (a .0) (a .1) in
+      let wins = exit-is mid o (a .0) (a .1) .wins in
+      let kind = legal-kind c (a .0 .flit) (front-legal mid sound o (a .0) (named .0) (a .1)) in
+      let ports = legal .ports .1 in
+      let vcs = legal .vcs .1 in
+      subst (FlitIn (s .cycle) o) (a .2) (record {
+        cycle-in = early;
+        output-in = omega arith;
+        out-vc-in = omega arith;
+        input-in = omega arith;
+        vc-in = omega arith;
+        kind-least = kind .0;
+        kind-most = kind .1;
+      })
+
+  credit-lines-print : (i : ℕ) → i < 8 → printable (creditLine (s .cycle) reply i) ≡ true
+  unfolding printable
+  credit-lines-print i h = go (getD (reply .senders) i (reaching none) .reached) refl
+    where
+      go : (r : Reached) → getD (reply .senders) i (reaching none) .reached ≡ r → printable (creditLine (s .cycle) reply i) ≡ true
+      go reached.Nothing e = ap printable (no-credit (s .cycle) reply i e)
+      go (reached.Vc v) e =
+          let there = reached-there i v h e in
+          let vcs = legal .vcs .1 in
+          ap printable (one-credit (s .cycle) reply i v e) ∙ credit-prints (s .cycle) i v early h (omega arith)
+
+  flit-lines-print : (o : ℕ) → o < 8 → printable (flitLine (s .cycle) reply o) ≡ true
+  unfolding printable
+  flit-lines-print o h = go (getD (reply .outputs) o noOutput .left) refl
+    where
+      go : (r : Left) → getD (reply .outputs) o noOutput .left ≡ r → printable (flitLine (s .cycle) reply o) ≡ true
+      go left.Nothing e = ap printable (no-flit (s .cycle) reply o e)
+      go (left.Flit d) e = ap printable (one-flit (s .cycle) reply o d e) ∙ flit-prints (s .cycle) o d (left-in o d e)
+
+  -- "Range: kind 1..4; cycle below 10^9 in C and F lines, ..; ports 0..7, VCs 0..3": of every line of an accepted cycle
+  pub reply-printable : printable (cycleLines (s .cycle) reply) ≡ true
+  reply-printable =
+      cycle-printable (s .cycle) reply
+      ∙ ap₂ _&&_ (ports-print (creditLine (s .cycle) reply) 8 credit-lines-print) (ports-print (flitLine (s .cycle) reply) 8 flit-lines-print)
+
+  -- "Longest cycle: .. 376 bytes."
+  pub reply-fits : length (text (cycleLines (s .cycle) reply)) ≤ room
+  reply-fits = cycle-length (s .cycle) reply reply-printable
+
+  -- a credit has no F line
+  credit-counts : (i : ℕ) → flitLines (creditLine (s .cycle) reply i) ≡ 0
+  unfolding flitLines
+  credit-counts i = go (getD (reply .senders) i (reaching none) .reached) refl
+    where
+      go : (r : Reached) → getD (reply .senders) i (reaching none) .reached ≡ r → flitLines (creditLine (s .cycle) reply i) ≡ 0
+      go reached.Nothing e = ap flitLines (no-credit (s .cycle) reply i e)
+      go (reached.Vc v) e = ap flitLines (one-credit (s .cycle) reply i v e)
+
+  -- an output has at most one, and only if there is that output
+  flit-counts : (o : ℕ) → (flitLines (flitLine (s .cycle) reply o) ≤ 1) × (c .ports ≤ o → flitLines (flitLine (s .cycle) reply o) ≡ 0)
+  unfolding flitLines
+  flit-counts o = go (getD (reply .outputs) o noOutput .left) refl
+    where
+      go : (r : Left) → getD (reply .outputs) o noOutput .left ≡ r
+          → (flitLines (flitLine (s .cycle) reply o) ≤ 1) × (c .ports ≤ o → flitLines (flitLine (s .cycle) reply o) ≡ 0)
+      go left.Nothing e =
+          let n = ap flitLines (no-flit (s .cycle) reply o e) in
+          (omega arith, λ past. n)
+      go (left.Flit d) e =
+          let n = ap flitLines (one-flit (s .cycle) reply o d e) in
+          let there = left-there o d e in
+          (omega arith, λ past. absurd (omega arith))
+
+  -- at most one flit leaves each output, so k accepted cycles have at most k·P F lines
+  pub flits-at-most-ports : flitLines (cycleLines (s .cycle) reply) ≤ c .ports
+  unfolding cycleLines
+  flits-at-most-ports =
+      let credits = ports-few (creditLine (s .cycle) reply) 8 0 (λ i. let n = credit-counts i in omega arith) (λ i h. credit-counts i) in
+      let flits = ports-few (flitLine (s .cycle) reply) 8 (c .ports) (λ o. flit-counts o .0) (λ o. flit-counts o .1) in
+      omega (arith, flits-append (byPort (creditLine (s .cycle) reply) 8) (byPort (flitLine (s .cycle) reply) 8))
