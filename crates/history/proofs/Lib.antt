@@ -10,4 +10,5 @@ pub mod RunIs
 pub mod Demand3
 pub mod Times
 pub mod Example
+pub mod Contention
 pub mod Printable
