@@ -1,24 +1,28 @@
 -- Inputs contend for output 1, under either arbiter, on a router of 3 ports with 2 VCs, D = E = F = B = 2: 11 parts, of which one is refused
 -- with 5 and one with 6 in the middle. What is expected is worked out by hand from document 01's phases; the run computes the same.
 -- Assumes nothing.
-use mathlib.Core.Path.{_≡_, refl}
-use mathlib.Core.Bool.{true, xor}
+use mathlib.Core.Path.{_≡_, refl, ap₂}
+use mathlib.Core.Bool.{Bool, true, false, cond, xor, _&&_, false≢true}
 use mathlib.Core.List.{List, [], _∷_, _++_, map}
 use Prim.Native.Nat.{ℕ, suc}
+use lib.Dec.{eqb}
 use lib.ListN.{length, replicate}
+use borrow.Author.Tests.{eqb-true}
 use Rattle.base.specs.Bits.{bit, wordOf, withBit}
 use Rattle.base.specs.declared.config.Config.{Config}
 use Rattle.base.specs.declared.flit.Flit.{Flit}
 use Rattle.base.specs.Flit.{head, tail, single, flitOf, kindOf, destinationOf, payloadOf, startsKind, endsKind}
 use Rattle.base.specs.Search.{firstFrom, every, orElse}
-use Rattle.base.specs.Sizes.{inRange, firstIllegal, illegalField}
+use Rattle.base.proofs.Search as search
+use Rattle.base.specs.Sizes.{Field, inRange, firstIllegal, illegalField}
 use Rattle.arbiter.specs.RoundRobin.{nextInTurn, pointerAfter}
 use Rattle.arbiter.specs.Matrix.{beats, beatsEveryOther, champion, raised, defeated, listOf, freshRow, freshRows, totalOrder, within, blankFrom}
 use Rattle.arbiter.specs.Arbiter as arbiter
-use Rattle.listing.specs.Lines.{Line, credit, flit}
+use Rattle.listing.specs.Lines.{Line, credit, flit, finish, refusal, letterOfLine, valuesOf}
 use Rattle.model.specs.Router.{InVc}
 use Rattle.model.specs.History.{Departure, Entry, gather}
-use Rattle.state.specs.declared.Binding.the-variants.{Bound}
+use Rattle.state.specs.declared.Binding.{Binding}
+use Rattle.state.specs.declared.Binding.the-variants.{Unbound, Bound}
 use Rattle.state.specs.declared.InputVc.{InputVc}
 use Rattle.state.specs.declared.Router.{Router}
 use Rattle.state.specs.Fresh.{freshRouter}
@@ -32,7 +36,7 @@ use Rattle.rules.specs.Rows.{rowZero, noOffer, legalOffer, rowLegal}
 use Rattle.rules.specs.Intake.{advanced, sendersPaid, reported, creditsReached, outputsPaid, creditsReturned, landings, landed, offers, offersTaken}
 use Rattle.rules.specs.Allocation.{asks, freeVc, grantOf, bindings, wideMoved, narrowMoved, allocated, isReady, inputPick, request, outputPick, switched, winner}
 use Rattle.rules.specs.Departures.{departures, leavingOf}
-use Rattle.rules.specs.Numbers.{refusing, runFull, rowWrong, creditPastRoom, outOfTurn, noSenderCredit, firstOf, judged}
+use Rattle.rules.specs.Numbers.{numberOf, portOf, refusing, runFull, rowWrong, creditPastRoom, outOfTurn, noSenderCredit, firstOf, judged}
 use Rattle.rules.specs.Step.{takenIn, sentOut, routerAfter, replyOf, stepOf}
 use Rattle.history.specs.Run.{entryOf, Ran, runFrom, runOf}
 use Rattle.history.specs.Demand3.{storedCredits, buffered, onWire, goingHome}
@@ -162,10 +166,50 @@ byMatrix =
       two-one = 0 ∷ 1 ∷ 1 ∷ 0 ∷ [];
     }
 
-pub contention-round-robin : seenIn (config 1) ≡ byRoundRobin
-unfolding xor firstFrom every orElse inRange firstIllegal illegalField flitOf kindOf destinationOf payloadOf startsKind endsKind nextInTurn pointerAfter bit wordOf withBit beats beatsEveryOther champion raised defeated listOf freshRow freshRows totalOrder within blankFrom arbiter.known arbiter.usable arbiter.choice arbiter.moved arbiter.after arbiter.fresh arbiter.sound queueAt places wireOf homeOf flat total isNone all configurationLegal cyclesFit creditsWhole creditsAddUp legalFlit wirePlaceLegal wireLegal homeLegal queuesLegal outputCreditsFit namesAgree arbitersSound reading reads packetsRead channelsUnused slotsEmpty lineUnused arbitersUnused shaped clauses sound frontOf pushed movedUp popped bigEndian overPorts rowZero noOffer legalOffer rowLegal advanced sendersPaid reported creditsReached outputsPaid creditsReturned landings landed offers offersTaken asks freeVc grantOf bindings wideMoved narrowMoved allocated isReady inputPick request outputPick switched winner departures leavingOf runFull rowWrong creditPastRoom outOfTurn noSenderCredit firstOf judged takenIn sentOut routerAfter replyOf stepOf freshRouter entryOf runFrom runOf
-contention-round-robin = refl
+-- All numbers of what is seen, compared by one test: where a definition is wrong, a test that fails costs far less than two records that differ.
+abbrev bindingNumbers : Binding → List ℕ
+bindingNumbers Unbound = 0 ∷ 0 ∷ 0 ∷ []
+bindingNumbers (Bound b) = 1 ∷ b .output ∷ b .vc ∷ []
 
-pub contention-matrix : seenIn (config 2) ≡ byMatrix
-unfolding xor firstFrom every orElse inRange firstIllegal illegalField flitOf kindOf destinationOf payloadOf startsKind endsKind nextInTurn pointerAfter bit wordOf withBit beats beatsEveryOther champion raised defeated listOf freshRow freshRows totalOrder within blankFrom arbiter.known arbiter.usable arbiter.choice arbiter.moved arbiter.after arbiter.fresh arbiter.sound queueAt places wireOf homeOf flat total isNone all configurationLegal cyclesFit creditsWhole creditsAddUp legalFlit wirePlaceLegal wireLegal homeLegal queuesLegal outputCreditsFit namesAgree arbitersSound reading reads packetsRead channelsUnused slotsEmpty lineUnused arbitersUnused shaped clauses sound frontOf pushed movedUp popped bigEndian overPorts rowZero noOffer legalOffer rowLegal advanced sendersPaid reported creditsReached outputsPaid creditsReturned landings landed offers offersTaken asks freeVc grantOf bindings wideMoved narrowMoved allocated isReady inputPick request outputPick switched winner departures leavingOf runFull rowWrong creditPastRoom outOfTurn noSenderCredit firstOf judged takenIn sentOut routerAfter replyOf stepOf freshRouter entryOf runFrom runOf
-contention-matrix = refl
+abbrev payloads : Line → List ℕ
+payloads (credit cycle i v) = []
+payloads (flit cycle o d) = d .payload ∷ []
+payloads (finish cycles flits) = []
+payloads (refusal number cycle place) = []
+
+abbrev lineNumbers : List Line → List ℕ
+lineNumbers [] = []
+lineNumbers (l ∷ ls) = letterOfLine l ∷ (map (λ (f : Field). f .value) (valuesOf l) ++ (payloads l ++ lineNumbers ls))
+
+abbrev numbersOf : Seen → List ℕ
+numbersOf x =
+    x .cycles ∷ numberOf (x .unpaid) ∷ portOf (x .unpaid) ∷ numberOf (x .overpaid) ∷ portOf (x .overpaid)
+    ∷ (bindingNumbers (x .waiting .binding)
+    ++ (x .waiting .credit ∷ cond (x .waiting .inside) 1 0 ∷ x .waiting .queued ∷ (x .zero-zero ++ (x .two-one ++ lineNumbers (x .lines)))))
+
+abbrev same : List ℕ → List ℕ → Bool
+same [] [] = true
+same [] (y ∷ ys) = false
+same (x ∷ xs) [] = false
+same (x ∷ xs) (y ∷ ys) = eqb x y && same xs ys
+
+same-is : (xs ys : List ℕ) → same xs ys ≡ true → xs ≡ ys
+same-is [] [] e = refl
+same-is [] (y ∷ ys) e = absurd (false≢true e)
+same-is (x ∷ xs) [] e = absurd (false≢true e)
+same-is (x ∷ xs) (y ∷ ys) e =
+    let p = search.both (eqb x y) (same xs ys) e in
+    ap₂ (λ (z : ℕ) (zs : List ℕ). z ∷ zs) (eqb-true x y (p .0)) (same-is xs ys (p .1))
+
+abbrev agrees : ℕ → Seen → Bool
+agrees code expected = same (numbersOf (seenIn (config code))) (numbersOf expected)
+
+computed : (agrees 1 byRoundRobin && agrees 2 byMatrix) ≡ true
+unfolding xor firstFrom every orElse inRange firstIllegal illegalField flitOf kindOf destinationOf payloadOf startsKind endsKind nextInTurn pointerAfter bit wordOf withBit beats beatsEveryOther champion raised defeated listOf freshRow freshRows totalOrder within blankFrom arbiter.known arbiter.usable arbiter.choice arbiter.moved arbiter.after arbiter.fresh arbiter.sound queueAt places wireOf homeOf flat total isNone all configurationLegal cyclesFit creditsWhole creditsAddUp legalFlit wirePlaceLegal wireLegal homeLegal queuesLegal outputCreditsFit namesAgree arbitersSound reading reads packetsRead channelsUnused slotsEmpty lineUnused arbitersUnused shaped clauses sound frontOf pushed movedUp popped bigEndian overPorts rowZero noOffer legalOffer rowLegal advanced sendersPaid reported creditsReached outputsPaid creditsReturned landings landed offers offersTaken asks freeVc grantOf bindings wideMoved narrowMoved allocated isReady inputPick request outputPick switched winner departures leavingOf runFull rowWrong creditPastRoom outOfTurn noSenderCredit firstOf judged takenIn sentOut routerAfter replyOf stepOf freshRouter entryOf runFrom runOf valuesOf
+computed = refl
+
+pub contention-round-robin : numbersOf (seenIn (config 1)) ≡ numbersOf byRoundRobin
+contention-round-robin = same-is _ _ (search.both (agrees 1 byRoundRobin) (agrees 2 byMatrix) computed .0)
+
+pub contention-matrix : numbersOf (seenIn (config 2)) ≡ numbersOf byMatrix
+contention-matrix = same-is _ _ (search.both (agrees 1 byRoundRobin) (agrees 2 byMatrix) computed .1)
