@@ -24,7 +24,8 @@ use Rattle.base.specs.Numbers.{room}
 use Rattle.base.specs.Sizes.{field, inRange, cycleLimit}
 use Rattle.base.proofs.Configurations.{Legal}
 use Rattle.base.proofs.Search.{both}
-use Rattle.listing.specs.Lines.{Line, credit, flit, finish, refusal, valuesOf, allInRange, printable, text, byPort, creditLine, flitLine, cycleLines}
+use Rattle.listing.specs.Lines.{Line, credit, flit, valuesOf, allInRange, printable, text, byPort, creditLine, flitLine, cycleLines, flitLines}
+use Rattle.listing.proofs.Counting.{flit-lines-append, flit-none, flit-most, flits-most, cycle-flit-lines}
 use Rattle.listing.proofs.Lengths.{cycle-length}
 use Rattle.listing.proofs.Ports.{printable-append, no-credit, one-credit, no-flit, one-flit, cycle-printable}
 use Rattle.listing.proofs.Ranges.{FlitIn}
@@ -46,7 +47,6 @@ use Rattle.rules.proofs.Left.{noOutput}
 use Rattle.rules.proofs.LeftNames.{exit-named}
 use Rattle.rules.proofs.Named.{named-there}
 use Rattle.rules.proofs.Reported.{reported-at, reported-past}
-use Rattle.history.specs.FlitLines.{flitLines}
 use Rattle.history.proofs.Written.{front-legal}
 
 -- a value between its bounds is in its range
@@ -71,15 +71,6 @@ flit-prints cycle o d is =
     let kind = inside (d .kind) 1 4 (is .kind-least) (is .kind-most) in
     λ t. (when t && (output t && (by t && (input t && (vc t && (kind t && true)))))) && true
 
--- the F lines of two runs of lines
-flits-append : (ks ls : List Line) → flitLines (ks ++ ls) ≡ flitLines ks + flitLines ls
-unfolding flitLines
-flits-append [] ls = omega arith
-flits-append (credit cycle i v ∷ ks) ls = flits-append ks ls
-flits-append (flit cycle o d ∷ ks) ls = let e = flits-append ks ls in omega arith
-flits-append (finish cycles flits ∷ ks) ls = flits-append ks ls
-flits-append (refusal number cycle place ∷ ks) ls = flits-append ks ls
-
 module _ (f : ℕ → List Line) where
   -- where each port's lines print, all do
   ports-print : (n : ℕ) → ((i : ℕ) → i < n → printable (f i) ≡ true) → printable (byPort f n) ≡ true
@@ -87,22 +78,6 @@ module _ (f : ℕ → List Line) where
   ports-print zero each = refl
   ports-print (suc n) each =
       printable-append (byPort f n) (f n) ∙ ap₂ _&&_ (ports-print n (λ i h. each i (omega arith))) (each n (omega arith))
-
-  -- ports with at most one F line each
-  ports-each : (n : ℕ) → ((i : ℕ) → flitLines (f i) ≤ 1) → flitLines (byPort f n) ≤ n
-  unfolding byPort flitLines
-  ports-each zero one = zero-le
-  ports-each (suc n) one = let before = ports-each n one in omega (arith, flits-append (byPort f n) (f n), one n)
-
-  -- of which those from p on have none
-  ports-few : (n p : ℕ) → ((i : ℕ) → flitLines (f i) ≤ 1) → ((i : ℕ) → p ≤ i → flitLines (f i) ≡ 0) → flitLines (byPort f n) ≤ p
-  unfolding byPort flitLines
-  ports-few zero p one past = zero-le
-  ports-few (suc n) p one past = go (ltb n p) refl (ports-few n p one past)
-    where
-      go : (b : Bool) → ltb n p ≡ b → flitLines (byPort f n) ≤ p → flitLines (byPort f n ++ f n) ≤ p
-      go true e before = omega (arith, flits-append (byPort f n) (f n), one n, ports-each n one, ltb-true n p e)
-      go false e before = omega (arith, flits-append (byPort f n) (f n), past n (ltb-false n p e))
 
 -- what is reported as reached was named
 reaching-named : (m : Option ℕ) (v : ℕ) → reaching m .reached ≡ reached.Vc v → m ≡ some v
@@ -214,34 +189,27 @@ module _ (s : Router) (part : List ℕ) (bytes : AreBytes part) (accepted : step
   pub reply-fits : length (text (cycleLines (s .cycle) reply)) ≤ room
   reply-fits = cycle-length (s .cycle) reply reply-printable
 
-  -- a credit has no F line
-  credit-counts : (i : ℕ) → flitLines (creditLine (s .cycle) reply i) ≡ 0
-  unfolding flitLines
-  credit-counts i = go (getD (reply .senders) i (reaching none) .reached) refl
+  -- an output that there is not has no F line
+  past-none : (o : ℕ) → c .ports ≤ o → flitLines (flitLine (s .cycle) reply o) ≡ 0
+  past-none o past = go (getD (reply .outputs) o noOutput .left) refl
     where
-      go : (r : Reached) → getD (reply .senders) i (reaching none) .reached ≡ r → flitLines (creditLine (s .cycle) reply i) ≡ 0
-      go reached.Nothing e = ap flitLines (no-credit (s .cycle) reply i e)
-      go (reached.Vc v) e = ap flitLines (one-credit (s .cycle) reply i v e)
+      go : (r : Left) → getD (reply .outputs) o noOutput .left ≡ r → flitLines (flitLine (s .cycle) reply o) ≡ 0
+      go left.Nothing e = flit-none (s .cycle) reply o e
+      go (left.Flit d) e = let there = left-there o d e in absurd (omega (arith, there, past))
 
-  -- an output has at most one, and only if there is that output
-  flit-counts : (o : ℕ) → (flitLines (flitLine (s .cycle) reply o) ≤ 1) × (c .ports ≤ o → flitLines (flitLine (s .cycle) reply o) ≡ 0)
-  unfolding flitLines
-  flit-counts o = go (getD (reply .outputs) o noOutput .left) refl
+  flits-few : (n : ℕ) → flitLines (byPort (flitLine (s .cycle) reply) n) ≤ c .ports
+  unfolding byPort flitLines
+  flits-few zero = zero-le
+  flits-few (suc n) = go (ltb n (c .ports)) refl (flits-few n)
     where
-      go : (r : Left) → getD (reply .outputs) o noOutput .left ≡ r
-          → (flitLines (flitLine (s .cycle) reply o) ≤ 1) × (c .ports ≤ o → flitLines (flitLine (s .cycle) reply o) ≡ 0)
-      go left.Nothing e =
-          let n = ap flitLines (no-flit (s .cycle) reply o e) in
-          (omega arith, λ past. n)
-      go (left.Flit d) e =
-          let n = ap flitLines (one-flit (s .cycle) reply o d e) in
-          let there = left-there o d e in
-          (omega arith, λ past. absurd (omega arith))
+      more : flitLines (byPort (flitLine (s .cycle) reply) n ++ flitLine (s .cycle) reply n) ≡ flitLines (byPort (flitLine (s .cycle) reply) n) + flitLines (flitLine (s .cycle) reply n)
+      more = flit-lines-append (byPort (flitLine (s .cycle) reply) n) (flitLine (s .cycle) reply n)
+
+      go : (b : Bool) → ltb n (c .ports) ≡ b → flitLines (byPort (flitLine (s .cycle) reply) n) ≤ c .ports
+          → flitLines (byPort (flitLine (s .cycle) reply) n ++ flitLine (s .cycle) reply n) ≤ c .ports
+      go true e before = omega (arith, more, flit-most (s .cycle) reply n, flits-most (s .cycle) reply n, ltb-true n (c .ports) e)
+      go false e before = omega (arith, more, past-none n (ltb-false n (c .ports) e))
 
   -- at most one flit leaves each output, so k accepted cycles have at most k·P F lines
   pub flits-at-most-ports : flitLines (cycleLines (s .cycle) reply) ≤ c .ports
-  unfolding cycleLines
-  flits-at-most-ports =
-      let credits = ports-few (creditLine (s .cycle) reply) 8 0 (λ i. let n = credit-counts i in omega arith) (λ i h. credit-counts i) in
-      let flits = ports-few (flitLine (s .cycle) reply) 8 (c .ports) (λ o. flit-counts o .0) (λ o. flit-counts o .1) in
-      omega (arith, flits-append (byPort (creditLine (s .cycle) reply) 8) (byPort (flitLine (s .cycle) reply) 8))
+  flits-at-most-ports = subst (λ (n : ℕ). n ≤ c .ports) (sym (cycle-flit-lines (s .cycle) reply)) (flits-few 8)

@@ -1,3 +1,2 @@
 pub mod Run
 pub mod Demand3
-pub mod FlitLines
