@@ -1,0 +1,17 @@
+-- `edges::building::turns` meets its contract.
+-- Assumes nothing.
+use mathlib.Core.Path.{ap}
+use borrow.Author.Needs.{needs}
+use Rattle.base.specs.Sizes.{illegalField, firstIllegal, inRange}
+use Rattle.state.specs.declared.building.Built.{Built}
+use Rattle.state.specs.Fresh.{builtOf}
+use Rattle.state.proofs.SoundStates.{turns, config}
+use Rattle.edges.proofs.building.turns.Statement.{statement}
+use Rattle.edges.proofs.building.turns.Tie as tie
+
+returns : tie.Need-returns
+unfolding turns config builtOf illegalField firstIllegal inRange
+returns c = ap (λ (b : Built). b .router) (c .before .fresh .ensures)
+
+pub turns-spec : {M : Type 1} → statement M
+turns-spec = tie.close (tie.spec (λ c κs. search needs) returns)

@@ -1,0 +1,21 @@
+// What no trace reaches, run on the public functions: each check is a proof obligation, and is run too.
+mod arbiters;
+mod broken;
+mod building;
+mod channels;
+mod configurations;
+mod cycles;
+mod refusing;
+mod replies;
+mod routers;
+mod same;
+
+fn main() {
+    configurations::depths();
+    configurations::constructions();
+    cycles::last_cycle();
+    cycles::run_full();
+    cycles::part_lengths();
+    cycles::refused_offers();
+    broken::refused();
+}
