@@ -5,3 +5,4 @@ pub mod Unsound
 pub mod Refusals
 pub mod Depths
 pub mod Limits
+pub mod Answering

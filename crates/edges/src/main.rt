@@ -1,4 +1,5 @@
 // What no trace reaches, run on the public functions: each check is a proof obligation, and is run too.
+mod answers;
 mod arbiters;
 mod broken;
 mod building;
@@ -9,6 +10,7 @@ mod refusing;
 mod replies;
 mod routers;
 mod same;
+mod writer;
 
 fn main() {
     configurations::depths();
@@ -18,4 +20,8 @@ fn main() {
     cycles::part_lengths();
     cycles::refused_offers();
     broken::refused();
+    writer::ends();
+    writer::refusals();
+    writer::credits();
+    writer::rooms();
 }
