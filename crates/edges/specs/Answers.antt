@@ -5,6 +5,7 @@ use mathlib.Core.List.{List}
 use Prim.Native.Nat.{ℕ, _-_, _≤_}
 use lib.ListN.{length, take, drop, replicate, set}
 use Rattle.base.specs.declared.reply.Reached.the-variants.{Vc}
+use Rattle.base.specs.declared.reply.Left.the-variants.{Flit}
 use Rattle.base.specs.declared.reply.Reply.{Reply}
 use Rattle.base.specs.Numbers.{done, noRoom, outOfRange}
 use Rattle.base.specs.Reply.{emptyReply}
@@ -33,3 +34,11 @@ pub record Answers (o : Outcome) (number : ℕ) (line : List ℕ) : Type 0 where
 -- a reply of one credit, of this VC, at the sender of input 7
 abbrev pub oneCredit : ℕ → Reply
 oneCredit vc = record { senders = set (emptyReply .senders) 7 (record { reached = Vc vc }); outputs = emptyReply .outputs }
+
+-- a credit at each input, and at each output a flit with the longest words
+abbrev pub fullReply : Reply
+fullReply =
+    record {
+      senders = replicate 8 (record { reached = Vc 3 });
+      outputs = replicate 8 (record { left = Flit (record { «out_vc» = 3; input = 7; vc = 3; kind = 1; payload = 0xffffffff }) });
+    }

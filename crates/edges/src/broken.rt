@@ -141,7 +141,7 @@ fn state(clause: u8) -> Router
     router
 }
 
-// 2, port 0, whatever the cycle brings.
+// Each is refused with 2, port 0.
 pub(crate) fn refused() {
     let part = [0u8; 64];
     let mut clause: u8 = 0;

@@ -23,5 +23,6 @@ fn main() {
     writer::ends();
     writer::refusals();
     writer::credits();
+    writer::longest();
     writer::rooms();
 }

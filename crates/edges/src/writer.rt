@@ -2,6 +2,9 @@
 use crate::answers::answered;
 use crate::answers::bytes_of;
 use crate::answers::number_of;
+use base::Departure;
+use base::Left;
+use base::Output;
 use base::Reached;
 use base::Reply;
 use base::Sender;
@@ -11,7 +14,7 @@ ghost use mathlib.Core.List.{[], _∷_};
 ghost use lib.ListN.{replicate};
 ghost use Rattle.listing.specs.Lines.{finish as Line·finish, refusal as Line·refusal, cycleLines};
 ghost use Rattle.listing.specs.Writing.{written};
-ghost use Rattle.edges.specs.Answers.{Answers, oneCredit};
+ghost use Rattle.edges.specs.Answers.{Answers, oneCredit, fullReply};
 
 fn end_line(cycles: u64, flits: u64, number: u8, line: &[u8])
     requires { ⌜ Answers (written (replicate 376 0) 0 (Line·finish cycles flits ∷ [])) number (now line) ⌝ }
@@ -78,6 +81,34 @@ pub(crate) fn credits() {
     cycle_line(999_999_999, 3, 0, b"C 999999999 7 3\n");
     cycle_line(1_000_000_000, 3, 12, &none[..0]);
     cycle_line(0, 4, 12, &none[..0]);
+}
+
+// A credit at each input, and at each output a flit with the longest words.
+fn full() -> Reply
+    ensures { λ r. ⌜ r ≡ fullReply ⌝ }
+{
+    Reply {
+        senders: [Sender {
+            reached: Reached::Vc(3),
+        }; 8],
+        outputs: [Output {
+            left: Left::Flit(Departure {
+                out_vc: 3,
+                input: 7,
+                vc: 3,
+                kind: 1,
+                payload: 0xffff_ffff,
+            }),
+        }; 8],
+    }
+}
+
+// "Longest cycle: 8·31 + 8·16 = 376 bytes." They fill the room to the last byte.
+pub(crate) fn longest() {
+    let mut buf = [0u8; 376];
+    let written = listing::write_cycle(&mut buf, 0, 999_999_999, full());
+    expect(number_of(written) == 0);
+    expect(bytes_of(written) == 376);
 }
 
 fn room_at(at: usize, number: u8, bytes: usize)
