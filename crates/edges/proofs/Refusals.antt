@@ -3,7 +3,6 @@
 use mathlib.Core.Path.{_≡_, ap, _∙_}
 use mathlib.Core.List.{List}
 use Prim.Native.Nat.{ℕ}
-use Rattle.base.specs.declared.reply.Reply.{Reply}
 use Rattle.base.specs.Reply.{emptyReply}
 use Rattle.state.specs.declared.Router.{Router}
 use Rattle.rules.specs.declared.Stepped.{Stepped}

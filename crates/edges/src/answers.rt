@@ -7,7 +7,6 @@ use check::expect;
 use check::same;
 use listing::Written;
 ghost use mathlib.Core.Path.{_≡_};
-ghost use Prim.Native.Nat.{_≤_};
 ghost use lib.ListN.{length, replicate};
 ghost use Rattle.listing.specs.Writing.{outcomeOf};
 ghost use Rattle.edges.specs.Same.{Tells};

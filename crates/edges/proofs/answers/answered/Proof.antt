@@ -1,12 +1,12 @@
 -- `edges::answers::answered` meets its contract.
 -- Assumes nothing.
-use mathlib.Core.Path.{_≡_, sym, _∙_}
+use mathlib.Core.Path.{sym, _∙_}
 use Prim.Native.Nat.{_≤_}
 use lib.ListN.{length}
 use lib.Seq.{length-take-le}
 use borrow.Author.Tests.{eq-eqb}
 use borrow.Author.Needs.{needs}
-use Rattle.edges.proofs.Answering.{Told, told}
+use Rattle.edges.proofs.Answering.{told}
 use Rattle.edges.proofs.answers.answered.Statement.{statement}
 use Rattle.edges.proofs.answers.answered.Tie as tie
 

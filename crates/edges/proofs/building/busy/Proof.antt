@@ -3,7 +3,6 @@
 use mathlib.Core.Path.{ap}
 use borrow.Author.Needs.{needs}
 use Rattle.base.specs.Flit.{flitOf}
-use Rattle.state.specs.declared.Router.{Router}
 use Rattle.state.proofs.SoundStates.{withInput, withOutput, withSlot, withWire, withHome, turns, unbound, bound, held, head, single, body, on}
 use Rattle.edges.specs.States.{busy, busyFrom}
 use Rattle.edges.proofs.building.busy.Statement.{statement}

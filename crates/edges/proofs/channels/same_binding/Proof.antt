@@ -1,6 +1,6 @@
 -- `edges::channels::same_binding` meets its contract.
 -- Assumes nothing.
-use mathlib.Core.Path.{_≡_, sym, ap, _∙_}
+use mathlib.Core.Path.{sym, ap, _∙_}
 use borrow.Author.Needs.{needs}
 use Rattle.state.specs.Sound.{isUnbound}
 use Rattle.edges.proofs.Telling.{equal, apart, apart'}

@@ -1,6 +1,6 @@
 -- `edges::configurations::refused_construction` meets its contract.
 -- Assumes nothing.
-use mathlib.Core.Path.{_≡_, sym, ap, _∙_}
+use mathlib.Core.Path.{sym, ap, _∙_}
 use mathlib.Core.Bool.{not}
 use borrow.Author.Needs.{needs}
 use Rattle.base.specs.Sizes.{illegalField}

@@ -1,9 +1,9 @@
 -- `edges::replies::are_unreached` meets its contract: what is passed reports nothing.
 -- Assumes nothing.
-use mathlib.Core.Path.{_≡_, refl, subst}
+use mathlib.Core.Path.{_≡_, refl}
 use Prim.Native.Nat.{_≤_, _-_}
 use native.Mathlib.Omega.{arith}
-use lib.ListN.{length, take, getD, replicate}
+use lib.ListN.{length, take, replicate}
 use borrow.Author.Needs.{needs}
 use Rattle.edges.specs.Same.{Tells, unreached}
 use Rattle.edges.proofs.Telling.{equal, grown-all, whole}
