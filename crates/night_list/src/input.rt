@@ -1,0 +1,44 @@
+// Reading standard input.
+ghost use Rattle.io.specs.Counts.{Counts};
+
+// How often a read that answers less than nothing is tried again: a signal may have interrupted it, and the answer does not say so.
+const TRIES: u32 = 100;
+
+// The bytes at the start of a buffer that were read, and whether the input could not be read on.
+pub struct Filled {
+    pub bytes: usize,
+    pub failed: bool,
+}
+
+// Reads until the buffer is full or the input ends.
+pub(crate) fn fill(buf: &mut [u8]) -> Filled
+    ensures { λ r. ⌜ Counts (r .bytes) (now (buf .exit)) ⌝ }
+{
+    let mut bytes: usize = 0;
+    let mut tries = TRIES;
+    while bytes < buf.len() {
+        let got = libc::read(libc::STDIN_FILENO, &mut buf[bytes..]);
+        if got == 0 {
+            return Filled {
+                bytes,
+                failed: false,
+            };
+        }
+        let more = io::count(got, &buf[bytes..]);
+        if more == 0 {
+            if tries == 0 {
+                return Filled {
+                    bytes,
+                    failed: true,
+                };
+            }
+            tries -= 1;
+            continue;
+        }
+        bytes += more;
+    }
+    Filled {
+        bytes,
+        failed: false,
+    }
+}
