@@ -10,6 +10,7 @@ use std::time::Duration;
 use twin::cli::{BadUsage, Words};
 use twin::compare::compare_lists;
 use twin::generate::{self, fault::Fault};
+use twin::sizes::Config;
 use twin::launch::{self, Start};
 use twin::timing::Timing;
 use twin::{fast, plain, text};
@@ -19,9 +20,10 @@ twin: the second model of the router
 
   twin run [--plain]             read a trace on standard input, write its list; with the
                                  hand-optimised model, or with the plain one
-  twin gen --seed N [--fault NAME | --whole]
+  twin gen --seed N [--fault NAME | --whole | --sizes P,V,D,E,F,B,A --cycles N]
                                  write the trace of a seed; half of the seeds have a fault.
-                                 --fault: this one; --whole: none
+                                 --fault: this one; --whole: none; --sizes: none, of these sizes
+                                 and so many cycles
   twin show                      read a trace on standard input, write it as text. A block that
                                  is damaged beyond words is written as raw bytes, with the rest of it
   twin pack                      read text as show writes it, write the trace; pack undoes show for
@@ -82,11 +84,14 @@ fn act(command: &str, mut words: Words) -> Result<ExitCode, Trouble> {
             let seed = words.needed_number("--seed")?;
             let whole = words.flag("--whole");
             let fault = words.option("--fault")?;
+            let sizes = words.option("--sizes")?;
+            let cycles = words.number("--cycles", 1_000)? as usize;
             words.done()?;
-            let trace = match fault {
-                Some(name) => generate::trace_with_fault(seed, Some(fault_named(&name)?)),
-                None if whole => generate::trace_with_fault(seed, None),
-                None => generate::trace(seed),
+            let trace = match (fault, sizes) {
+                (Some(name), _) => generate::trace_with_fault(seed, Some(fault_named(&name)?)),
+                (None, Some(sizes)) => generate::trace_of(seed, config_named(&sizes)?, cycles),
+                (None, None) if whole => generate::trace_with_fault(seed, None),
+                (None, None) => generate::trace(seed),
             };
             unbuffered_output()?.write_all(&trace)?;
         }
@@ -155,6 +160,15 @@ fn run(plainly: bool) -> io::Result<()> {
     } else {
         fast::run::run(&mut input, &mut output)
     }
+}
+
+/// The seven fields in the order of the configuration body, with commas between.
+fn config_named(sizes: &str) -> Result<Config, BadUsage> {
+    let values: Option<Vec<u8>> = sizes.split(',').map(|word| word.parse().ok()).collect();
+    values
+        .and_then(|values| <[u8; 7]>::try_from(values).ok())
+        .and_then(|values| Config::from_bytes(&values).ok())
+        .ok_or_else(|| BadUsage(format!("--sizes {sizes}: seven legal sizes are wanted")))
 }
 
 fn fault_named(name: &str) -> Result<Fault, BadUsage> {

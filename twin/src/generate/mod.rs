@@ -51,6 +51,13 @@ pub fn trace_with_fault(seed: u64, fault: Option<Fault>) -> Vec<u8> {
     }
 }
 
+/// A whole trace of the given sizes and length.
+pub fn trace_of(seed: u64, config: Config, length: usize) -> Vec<u8> {
+    let random = &mut Random::new(seed);
+    let parts = parts_with(random, config, length, None);
+    blocks_of(random, config, &parts).concat()
+}
+
 /// By the seed: anything legal; P·V no power of two; all small; each field at an end of its range.
 fn draw_config(random: &mut Random, seed: u64) -> Config {
     let mut values = LARGEST.map(|most| random.between(1, most.into()) as u8);

@@ -1,4 +1,4 @@
-// Reading standard input.
+// Reading from a descriptor.
 ghost use Rattle.io.specs.Counts.{Counts};
 
 // How often a read that answers less than nothing is tried again: a signal may have interrupted it, and the answer does not say so.
@@ -11,13 +11,13 @@ pub struct Filled {
 }
 
 // Reads until the buffer is full or the input ends.
-pub(crate) fn fill(buf: &mut [u8]) -> Filled
+pub fn fill(from: i32, buf: &mut [u8]) -> Filled
     ensures { λ r. ⌜ Counts (r .bytes) (now (buf .exit)) ⌝ }
 {
     let mut bytes: usize = 0;
     let mut tries = TRIES;
     while bytes < buf.len() {
-        let got = libc::read(libc::STDIN_FILENO, &mut buf[bytes..]);
+        let got = libc::read(from, &mut buf[bytes..]);
         if got == 0 {
             return Filled {
                 bytes,

@@ -1,17 +1,17 @@
-// Writing standard output.
+// Writing to a descriptor.
 
 // How often a write that answers less than nothing is tried again: a signal may have interrupted it.
 const TRIES: u32 = 100;
 
 // Writes the first bytes of a buffer, or answers false.
-pub(crate) fn put(buf: &[u8], bytes: usize) -> bool {
+pub fn put(to: i32, buf: &[u8], bytes: usize) -> bool {
     if buf.len() < bytes {
         return false;
     }
     let mut done: usize = 0;
     let mut tries = TRIES;
     while done < bytes {
-        let gone = libc::write(libc::STDOUT_FILENO, &buf[done..bytes]);
+        let gone = libc::write(to, &buf[done..bytes]);
         let more = io::count(gone, &buf[done..bytes]);
         if more == 0 {
             if tries == 0 {

@@ -1,0 +1,11 @@
+// The night floor's streams: bytes read until a buffer is full, bytes written, a part handed over to the run entry. What the system answers
+// is in no contract, so these functions promise only that they end and stay inside their buffers.
+mod input;
+mod output;
+mod passing;
+
+pub use input::Filled;
+pub use input::fill;
+pub use output::put;
+pub use passing::Passed;
+pub use passing::pass;
