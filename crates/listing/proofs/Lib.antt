@@ -10,4 +10,5 @@ pub mod Ports
 pub mod Ranges
 pub mod ReadBack
 pub mod Reread
+pub mod Room
 pub mod Stores
