@@ -2,7 +2,7 @@
 -- Assumes nothing.
 use mathlib.Core.Path.{_≡_}
 use mathlib.Core.List.{List}
-use Prim.Native.Nat.{ℕ, _+_, _≤_, _<_}
+use Prim.Native.Nat.{ℕ, _+_, _%_, _≤_, _<_}
 use native.Mathlib.Omega.{arith}
 use lib.Dec.{T, leb, ltb, lit≤, lit<}
 use lib.ListN.{length, set}
@@ -17,6 +17,9 @@ use Rattle.listing.proofs.Stores.{stores, laid-stores, laid-length}
 pub record Roomy (l : List ℕ) (q n : ℕ) : Type 0 where
   pub inside : q + n ≤ length l
   pub small : q + n < 18446744073709551616
+
+pub room-given : {l : List ℕ} {q n : ℕ} → q + n ≤ length l → length l < 18446744073709551616 → Roomy l q n
+room-given {l} {q} {n} h long = record { inside = h; small = omega arith }
 
 -- what is left of k + n places after a part of at most k
 pub room-left : {m : List ℕ} {q n : ℕ} (l : List ℕ) (at k : ℕ) → at + (k + n) ≤ length l → length l < 18446744073709551616 → length m ≡ length l → q ≤ at + k → Roomy m q n
@@ -59,6 +62,10 @@ room-after-hex {l} {m} {p} {q} {n} x laid room =
 -- where a line ends that has a start of at most s bytes, k more, eight digits and a newline
 pub hex-ends : {l m : List ℕ} {q r : ℕ} (at s k x : ℕ) → q ≤ at + s → Laid l (q + k) (hex x) m r → r + 1 ≤ at + (s + k + 9)
 hex-ends {l} {m} {q} {r} at s k x b laid = let eight = hex-length x in omega arith
+
+-- a nibble
+pub nibble : (n : ℕ) → n % 16 < 16
+nibble n = omega arith
 
 -- a digit's byte
 pub digit-fits : {d n : ℕ} → d < n → T (leb n 208) → Fits w8 (48 + d)
