@@ -29,6 +29,10 @@ room-left {m} {q} {n} l at k h long e b = record { inside = omega arith; small =
 pub less : (at k n m : ℕ) → at + n ≤ m → T (leb k n) → at + k ≤ m
 less at k n m h t = let b : k ≤ n = lit≤ t in omega arith
 
+-- k further on
+pub on : {q : ℕ} (at s k : ℕ) → q ≤ at + s → q + k ≤ at + (s + k)
+on {q} at s k h = omega arith
+
 -- the first of them, and one k further on
 pub first-in : {l : List ℕ} {q n : ℕ} → Roomy l q n → T (ltb 0 n) → q < length l
 first-in {l} {q} {n} room t = let b : 0 < n = lit< t in omega arith
@@ -62,6 +66,13 @@ room-after-hex {l} {m} {p} {q} {n} x laid room =
 -- where a line ends that has a start of at most s bytes, k more, eight digits and a newline
 pub hex-ends : {l m : List ℕ} {q r : ℕ} (at s k x : ℕ) → q ≤ at + s → Laid l (q + k) (hex x) m r → r + 1 ≤ at + (s + k + 9)
 hex-ends {l} {m} {q} {r} at s k x b laid = let eight = hex-length x in omega arith
+
+-- a digit as a byte, and as text
+pub tenth-fits : (n : ℕ) → Fits w8 (n % 10)
+tenth-fits n = record { fits = omega arith }
+
+pub tenth-text : (n : ℕ) → Fits w8 (48 + n % 10)
+tenth-text n = record { fits = omega arith }
 
 -- a nibble
 pub nibble : (n : ℕ) → n % 16 < 16
