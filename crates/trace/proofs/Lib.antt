@@ -6,6 +6,7 @@ pub mod Used
 pub mod Places
 pub mod Reading
 pub mod Order
+pub mod Runs
 pub mod Examples
 pub mod Longer
 pub mod Exactness

@@ -10,19 +10,18 @@ use native.Mathlib.Nat.{mul-suc, add-zero}
 use native.Mathlib.Omega.{arith}
 use lib.Dec.{leb, lit≤}
 use borrow.Author.Tests.{leb-true, leb-false}
-use Rattle.base.specs.Search.{every}
 use Rattle.base.specs.Sizes.{cycleLimit, inRange, firstIllegal, illegalField}
 use Rattle.base.specs.Numbers as numbers
 use Rattle.trace.specs.declared.place.Place.{Place}
-use Rattle.trace.specs.Bytes.{AreBytes, bigEndian, zeros}
+use Rattle.trace.specs.Bytes.{AreBytes, bigEndian}
 use Rattle.trace.specs.Blocks.{configOf, bodyEnd}
-use Rattle.trace.specs.Check.{sum, checkOf, checkHolds}
 use Rattle.trace.specs.Place.{start, mayHold, goodPlace}
-use Rattle.trace.specs.Rules.{placeUnsound, blockShort, checkWrong, kindWrong, numberWrong, countWrong, unusedWrong, orderWrong, totalWrong, formWrong, blockWrong, fieldWrong}
+use Rattle.trace.specs.Rules.{placeUnsound, kindWrong, numberWrong, countWrong, orderWrong, totalWrong, fieldWrong}
 use Rattle.trace.specs.Judged.{Outcome, Read, aConfiguration, someCycles, theEnd, accepted, readOf, taken, byField, judged}
 use Rattle.trace.specs.Way.{cyclesIn, Way, begins}
 use Rattle.trace.proofs.Places.{Held, Good, nothing, after, good-is, good-number}
-use Rattle.trace.proofs.Sealed.{sealed, sealed-bytes, known-bytes}
+use Rattle.trace.proofs.Runs.{judged-run}
+use Rattle.trace.proofs.Sealed.{sealed, sealed-holds, sealed-bytes, known-bytes}
 use Rattle.trace.proofs.Ways.{way-good, way-never-2, way-judged}
 use Rattle.trace.proofs.Exactness.{two-exactly}
 use Rattle.trace.proofs.Made.{at, cyclesBlock, cycles-bytes, cycles-judged, endBlock, end-bytes, end-judged}
@@ -44,8 +43,8 @@ unfolding ones
 ones-bytes = known-bytes ones refl
 
 ones-judged : judged start 0 (sealed ones) ≡ accepted (aConfiguration (configOf (sealed ones))) (at 1)
-unfolding ones sealed every bigEndian zeros sum checkOf checkHolds bodyEnd mayHold goodPlace placeUnsound blockShort checkWrong kindWrong numberWrong countWrong unusedWrong orderWrong totalWrong formWrong blockWrong fieldWrong inRange firstIllegal illegalField readOf taken byField judged
-ones-judged = refl
+unfolding ones sealed bigEndian bodyEnd mayHold goodPlace kindWrong numberWrong countWrong orderWrong totalWrong fieldWrong inRange firstIllegal illegalField readOf taken byField
+ones-judged = judged-run start 0 (sealed ones) 495 refl refl (lit≤ tt) (sealed-holds ones (lit≤ tt)) refl refl refl refl
 
 configured : Way (at 1) 0
 configured = go-on start 0 (sealed ones) (aConfiguration (configOf (sealed ones))) (at 1) begins (sealed-bytes ones ones-bytes) ones-judged (lit≤ tt)
