@@ -12,8 +12,14 @@ use state::Holder;
 use state::InputVc;
 use state::OutputVc;
 ghost use mathlib.Core.Path.{_≡_};
-ghost use Prim.Native.Nat.{ℕ, _≤_};
-ghost use lib.ListN.{replicate};
+ghost use mathlib.Core.Bool.{cond};
+ghost use Prim.Native.Nat.{ℕ, _-_, _≤_, _<_};
+ghost use lib.Dec.{eqb};
+ghost use lib.ListN.{getD, set, replicate};
+ghost use Rattle.base.specs.Flit.{kindOf, endsKind};
+ghost use Rattle.state.specs.Store.{frontOf, popped};
+ghost use Rattle.state.specs.Views.{channel};
+ghost use Rattle.rules.specs.Intake.{newest};
 ghost use Rattle.base.specs.declared.reply.Left.the-variants as left;
 ghost use Rattle.rules.specs.Allocation.{vcOf};
 ghost use Rattle.rules.specs.Departures.{inputLeft, outputLeft, departure, Leaving, departures};
@@ -75,6 +81,59 @@ fn departed(out_vc: u8, input: u8, vc: u8, flit: Flit) -> Output
     }
 }
 
+// The channel of an output's winner, by the row picked there and by what that row's input picked; 32 if there is none.
+fn winning(config: Config, rows: [u8; 8], picks: [u8; 8], o: usize) -> usize
+    requires { ⌜ o < 8 ⌝ }
+    ensures { λ r. ⌜ r ≡ cond (eqb (getD rows o 0) 0) 32 (cond (eqb (getD picks (getD rows o 0 - 1) 0) 0) 32 (channel config (getD rows o 0 - 1) (getD picks (getD rows o 0 - 1) 0 - 1))) ⌝ }
+{
+    let row = rows[o];
+    if row == 0 {
+        return 32;
+    }
+    let i = counts::wide(row - 1);
+    if 8 <= i {
+        return 32;
+    }
+    let pick = picks[i];
+    if pick == 0 {
+        return 32;
+    }
+    channel::number(config, i, counts::wide(pick - 1))
+}
+
+// Whether the front flit of channel x is the last of its packet.
+fn ends_packet(x: usize, store: &[u64; 512]) -> bool
+    ensures { λ r. ⌜ r ≡ endsKind (kindOf (frontOf (now (store .entry)) x)) ⌝ }
+{
+    let flit = state::front(x, store);
+    ends(flit.kind())
+}
+
+// "Each winner leaves its queue .. takes the output VC's number, and puts a credit on the way home": what is seen at the output.
+fn let_go(
+    config: Config,
+    rows: [u8; 8],
+    picks: [u8; 8],
+    o: usize,
+    out_vc: u8,
+    x: usize,
+    store: &mut [u64; 512],
+    home: &mut [u8; 64],
+) -> Output
+    requires { ⌜ (1 ≤ config .back) × (config .back ≤ 8) × (o < 8) × (getD rows o 0 - 1 < 8) ⌝ }
+    ensures { λ r. ⌜ (r ≡ departure «out_vc» (getD rows o 0 - 1) (getD picks (getD rows o 0 - 1) 0 - 1) (frontOf (now (store .entry)) x))
+        × (now (store .exit) ≡ popped (now (store .entry)) x)
+        × (now (home .exit) ≡ set (now (home .entry)) (newest (config .back) (getD rows o 0 - 1)) (getD picks (getD rows o 0 - 1) 0)) ⌝ }
+{
+    let flit = state::front(x, store);
+    state::pop(x, store);
+    let input = counts::less_one(rows[o]);
+    let i = counts::wide(input);
+    let pick = picks[i];
+    home[8 * (config.back as usize - 1) + i] = pick;
+    departed(out_vc, input, counts::less_one(pick), flit)
+}
+
 // "Each winner leaves its queue, costs one output credit, takes the output VC's number, and puts a credit on the way home."
 pub(crate) fn leave(
     config: Config,
@@ -98,19 +157,7 @@ pub(crate) fn leave(
     while next < config.ports as usize {
         let o = next;
         next += 1;
-        let row = rows[o];
-        if row == 0 {
-            continue;
-        }
-        let i = counts::wide(row - 1);
-        if 8 <= i {
-            continue;
-        }
-        let pick = picks[i];
-        if pick == 0 {
-            continue;
-        }
-        let x = channel::number(config, i, counts::wide(pick - 1));
+        let x = winning(config, rows, picks, o);
         if 32 <= x {
             continue;
         }
@@ -119,12 +166,9 @@ pub(crate) fn leave(
         let Binding::Bound(to) = binding else {
             continue;
         };
-        let flit = state::front(x, store);
-        let last = ends(flit.kind());
-        state::pop(x, store);
+        let last = ends_packet(x, store);
         inputs[x] = after_leaving(input, last);
-        home[8 * (config.back as usize - 1) + i] = pick;
-        left[o] = departed(to.vc, row - 1, pick - 1, flit);
+        left[o] = let_go(config, rows, picks, o, to.vc, x, store, home);
         let y = channel::number(config, o, counts::wide(to.vc));
         if 32 <= y {
             continue;
