@@ -11,6 +11,7 @@ use borrow.Author.Tests.{eqb-true, eqb-false, ne-eqb, ltb-true, ltb-false}
 use lib.ListN.{length, getD, set, length-set, List·getD-eq-default}
 use lib.Seq.{set-out}
 use Rattle.base.specs.declared.config.Config.{Config}
+use Rattle.base.specs.declared.flit.Flit.{Flit}
 use Rattle.base.specs.declared.reply.Output.{Output}
 use Rattle.base.specs.Flit.{kindOf, endsKind}
 use Rattle.state.specs.declared.InVc.{InVc}
@@ -134,6 +135,15 @@ module _ (c : Config) (rows picks : List ℕ) (o : ℕ) where
       by : (p : Bool) → ltb (getD rows o 0 - 1) (length picks) ≡ p → getD rows o 0 - 1 < length picks
       by true f = ltb-true _ _ f
       by false f = absurd (w .pick (List·getD-eq-default picks 0 (ltb-false _ _ f)))
+
+-- what the code's parts make of a flit that leaves: what is seen at the output, and the credit home
+pub let-go-seen : (row : ℕ) (picks : List ℕ) {r : Output} {w input i v : ℕ} {f g : Flit} → r ≡ departure w input v f → input ≡ row - 1 → i ≡ input
+    → v ≡ getD picks i 0 - 1 → f ≡ g → r ≡ departure w (row - 1) (getD picks (row - 1) 0 - 1) g
+let-go-seen row picks er en ei ev ef = rw (er, ev, ei, en, ef)
+
+pub let-go-home : (row : ℕ) {input i : ℕ} (home picks : List ℕ) (back : ℕ) → input ≡ row - 1 → i ≡ input
+    → set home (newest back i) (getD picks i 0) ≡ set home (newest back (row - 1)) (getD picks (row - 1) 0)
+let-go-home row home picks back en ei = rw (ei, en)
 
 -- what a turn does keeps both arrays' lengths
 left-long : (c : Config) (o : ℕ) (w : Option InVc) (l : Leaving) (n m : ℕ) → length (l .inputs) ≡ n → length (l .outputs) ≡ m

@@ -6,10 +6,10 @@ use Rattle.router.proofs.intake.after_offer.Statement.{statement}
 use Rattle.router.proofs.intake.after_offer.Tie as tie
 
 less-one-requires : tie.Need-less-one-requires
-less-one-requires c κs = search needs
+less-one-requires c κs = tt
 
 ends-requires : tie.Need-ends-requires
-ends-requires c κs = search needs
+ends-requires c κs = tt
 
 returns : tie.Need-returns
 returns c = rw (c .before .less-one .ensures, c .ends .ensures)

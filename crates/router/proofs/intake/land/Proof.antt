@@ -52,7 +52,7 @@ loop-again c =
     )
 
 vc-on-wire-requires : tie.Need-vc-on-wire-requires Inv-loop μ-loop
-vc-on-wire-requires c κs = search needs
+vc-on-wire-requires c κs = tt
 
 number-requires : tie.Need-number-requires Inv-loop μ-loop
 number-requires c κs = search needs
@@ -84,7 +84,7 @@ array-copy-out-input : tie.Need-array-copy-out-input Inv-loop μ-loop
 array-copy-out-input c = c .if3 .left
 
 push-requires : tie.Need-push-requires Inv-loop μ-loop
-push-requires c κs = search needs
+push-requires c κs = tt
 
 with-one-more-queued-requires : tie.Need-with-one-more-queued-requires Inv-loop μ-loop
 with-one-more-queued-requires c κs =

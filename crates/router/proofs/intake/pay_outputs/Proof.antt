@@ -33,7 +33,7 @@ credit-of-requires : tie.Need-credit-of-requires Inv-loop μ-loop
 credit-of-requires c κs = search needs
 
 wide-requires : tie.Need-wide-requires Inv-loop μ-loop
-wide-requires c κs = search needs
+wide-requires c κs = tt
 
 add-o : tie.Need-add-o Inv-loop μ-loop
 add-o c = search needs

@@ -29,7 +29,7 @@ element-copy-out-reached : tie.Need-element-copy-out-reached Inv-loop μ-loop
 element-copy-out-reached c = search needs
 
 reached-requires : tie.Need-reached-requires Inv-loop μ-loop
-reached-requires c κs = search needs
+reached-requires c κs = tt
 
 mul-senders : tie.Need-mul-senders Inv-loop μ-loop
 mul-senders c = search needs

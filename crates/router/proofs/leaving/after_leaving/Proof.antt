@@ -5,7 +5,7 @@ use Rattle.router.proofs.leaving.after_leaving.Statement.{statement}
 use Rattle.router.proofs.leaving.after_leaving.Tie as tie
 
 less-one-requires : tie.Need-less-one-requires
-less-one-requires c κs = search needs
+less-one-requires c κs = tt
 
 returns : tie.Need-returns
 returns c = rw (c .before .less-one .ensures, c .if1 .taken)

@@ -5,7 +5,7 @@ use Rattle.router.proofs.leaving.departed.Statement.{statement}
 use Rattle.router.proofs.leaving.departed.Tie as tie
 
 kind-requires : tie.Need-kind-requires
-kind-requires c κs = search needs
+kind-requires c κs = tt
 
 payload-requires : tie.Need-payload-requires
 payload-requires c κs = search needs

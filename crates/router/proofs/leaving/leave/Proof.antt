@@ -109,10 +109,10 @@ loop-again-2 c =
     (more (c .before .before .before .before .before .before .before .before .args .config .ports) (c .before .before .before .before .before .before .before .loop .next) (turning (c .before .before .before .before .before) .0), again l (not-bound (a .config) (a .rows) (a .picks) (sofar l) (l .loop .next) _ _ _ (w .row) refl (w .pick) refl (w .on) (c .enum-told .given .1)))
 
 ends-packet-requires : tie.Need-ends-packet-requires Inv-loop μ-loop
-ends-packet-requires c κs = search needs
+ends-packet-requires c κs = tt
 
 after-leaving-requires : tie.Need-after-leaving-requires Inv-loop μ-loop
-after-leaving-requires c κs = search needs
+after-leaving-requires c κs = tt
 
 mul-inputs : tie.Need-mul-inputs Inv-loop μ-loop
 mul-inputs c = let h = winner (c .before .before .before .before .before .before .before) .0 in record { fits = omega arith }
@@ -130,7 +130,7 @@ array-set-from-left : tie.Need-array-set-from-left Inv-loop μ-loop
 array-set-from-left c = turning (c .before .before .before .before .before .before .before .before .before .before .before .before) .1
 
 wide-requires : tie.Need-wide-requires Inv-loop μ-loop
-wide-requires c κs = search needs
+wide-requires c κs = tt
 
 number-requires : tie.Need-number-requires Inv-loop μ-loop
 number-requires c κs = let h = turning (c .before .before .before .before .before .before .before .before .before .before .before .before .before) .1 in let w = c .wide .ensures .1 in (omega arith, omega arith)
@@ -153,7 +153,7 @@ array-copy-out-output : tie.Need-array-copy-out-output Inv-loop μ-loop
 array-copy-out-output c = let g = c .if3 .left in omega arith
 
 after-taking-requires : tie.Need-after-taking-requires Inv-loop μ-loop
-after-taking-requires c κs = search needs
+after-taking-requires c κs = tt
 
 mul-outputs : tie.Need-mul-outputs Inv-loop μ-loop
 mul-outputs c = let g = c .before .before .if3 .left in record { fits = omega arith }

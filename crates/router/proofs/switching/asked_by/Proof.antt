@@ -18,7 +18,7 @@ sub-wide : tie.Need-sub-wide
 sub-wide c = search needs
 
 wide-requires : tie.Need-wide-requires
-wide-requires c κs = search needs
+wide-requires c κs = tt
 
 number-requires : tie.Need-number-requires
 number-requires c κs = search needs
@@ -53,7 +53,7 @@ returns-3 c =
     (n .result) (n .ensures) (c .enum-told .given .1)
 
 wide-requires-2 : tie.Need-wide-requires-2
-wide-requires-2 c κs = search needs
+wide-requires-2 c κs = tt
 
 returns-4 : tie.Need-returns-4
 returns-4 c =

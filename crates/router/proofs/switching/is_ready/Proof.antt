@@ -27,10 +27,10 @@ returns-2 c =
     unbound-waits (a .config) (a .t2) (a .input) (c .enum-told .given .1)
 
 wide-requires : tie.Need-wide-requires
-wide-requires c κs = search needs
+wide-requires c κs = tt
 
 wide-requires-2 : tie.Need-wide-requires-2
-wide-requires-2 c κs = search needs
+wide-requires-2 c κs = tt
 
 number-requires : tie.Need-number-requires
 number-requires c κs = search needs

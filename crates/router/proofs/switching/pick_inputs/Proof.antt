@@ -37,7 +37,7 @@ array-copy-out-arbiter : tie.Need-array-copy-out-arbiter Inv-loop μ-loop
 array-copy-out-arbiter c = search needs
 
 pick-requires : tie.Need-pick-requires Inv-loop μ-loop
-pick-requires c κs = search needs
+pick-requires c κs = tt
 
 array-write-picks : tie.Need-array-write-picks Inv-loop μ-loop
 array-write-picks c = search needs

@@ -40,7 +40,7 @@ column-requires : tie.Need-column-requires Inv-loop μ-loop
 column-requires c κs = search needs
 
 pick-requires : tie.Need-pick-requires Inv-loop μ-loop
-pick-requires c κs = search needs
+pick-requires c κs = tt
 
 array-write-picks : tie.Need-array-write-picks Inv-loop μ-loop
 array-write-picks c = search needs

@@ -35,7 +35,7 @@ array-copy-out-input : tie.Need-array-copy-out-input Inv-loop μ-loop
 array-copy-out-input c = search needs
 
 is-ready-requires : tie.Need-is-ready-requires Inv-loop μ-loop
-is-ready-requires c κs = search needs
+is-ready-requires c κs = tt
 
 cast-set : tie.Need-cast-set Inv-loop μ-loop
 cast-set c = search needs
