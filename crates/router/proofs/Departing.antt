@@ -166,10 +166,3 @@ pub leaving-long : (c : Config) (rows picks : List ℕ) (l : Leaving) (n m k : �
 leaving-long c rows picks l n m k e f =
     over-keeps (λ (t : Leaving). (length (t .inputs) ≡ n) × (length (t .outputs) ≡ m)) k (leaveTurn c rows picks) l
     (λ t o h q. left-long c o (win rows picks o) t n m (q .0) (q .1)) (e, f)
-
--- a loop's next turn: it is one of them, and leaves fewer
-pub more : (k n : ℕ) → n < k → n + 1 ≤ k
-more k n h = omega arith
-
-pub fewer : (k n : ℕ) → n < k → k - (n + 1) < k - n
-fewer k n h = omega arith

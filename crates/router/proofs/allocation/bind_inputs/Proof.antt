@@ -13,6 +13,7 @@ use Rattle.rules.specs.Allocation.{boundTo}
 use Rattle.rules.proofs.Folds.{over-none, over-again}
 use Rattle.router.specs.Grants.{inputsBound}
 use Rattle.router.proofs.Binding.{inputTurn, inputs-long, input-none, input-some, input-out, recordAt}
+use Rattle.router.proofs.Numbers.{fewer, more}
 use Rattle.router.proofs.allocation.bind_inputs.Statement.{statement}
 use Rattle.router.proofs.allocation.bind_inputs.Tie as tie
 
@@ -29,20 +30,23 @@ loop-again : tie.Need-loop-again Inv-loop μ-loop
 loop-again c =
     let l = c .before .before .before .before .before .loop in
     let a = c .before .before .before .before .before .before .args in (
-      search needs,
+      more (c .before .before .before .before .before .before .args .config .ports) (c .before .before .before .before .before .loop .next) (c .before .before .before .if1 .taken),
       over-again (l .next) (inputTurn (a .t3)) (a .before) (l .inputs) (l .inputs) (l .inv .1)
           (input-none (recordAt (a .t3) (l .next)) (l .next) (l .inputs) (c .if2 .taken)),
     )
+
+-- the array that it starts with has its length
+given : (c : tie.Start Inv-loop μ-loop) → length (c .args .before) ≡ 32
+given c = search (needs, length-any)
 
 loop-again-2 : tie.Need-loop-again-2 Inv-loop μ-loop
 loop-again-2 c =
     let l = c .before .before .before .before .before .before .before .before .loop in
     let a = c .before .before .before .before .before .before .before .before .before .args in
     let g = recordAt (a .t3) (l .next) in
-    let given : length (a .before) ≡ 32 = search (needs, length-any) in
-    let long : length (l .inputs) ≡ 32 = ap length (l .inv .1) ∙ inputs-long (a .t3) (a .before) (l .next) ∙ given in
+    let long : length (l .inputs) ≡ 32 = ap length (l .inv .1) ∙ inputs-long (a .t3) (a .before) (l .next) ∙ given (c .before .before .before .before .before .before .before .before .before) in
     let far : length (l .inputs) ≤ g .requester - 1 = let t = c .if3 .taken in rw (long, sym (c .before .wide .ensures .0)) t in (
-      search needs,
+      more (c .before .before .before .before .before .before .before .before .before .args .config .ports) (c .before .before .before .before .before .before .before .before .loop .next) (c .before .before .before .before .before .before .if1 .taken),
       over-again (l .next) (inputTurn (a .t3)) (a .before) (l .inputs) (l .inputs) (l .inv .1)
           (input-out g (l .next) (l .inputs) (c .before .before .before .if2 .left) far),
     )
@@ -55,7 +59,7 @@ loop-again-3 c =
     let made = ap (λ (y : InputVc). set (l .inputs) (c .before .before .before .wide .result) y) (c .bound .ensures)
     ∙ ap (λ (x : ℕ). set (l .inputs) x (boundTo (l .next) (g .vc) (getD (l .inputs) x (freshInput 0))))
     (c .before .before .before .wide .ensures .0) in (
-      search needs,
+      more (c .before .before .before .before .before .before .before .before .before .before .before .args .config .ports) (c .before .before .before .before .before .before .before .before .before .before .loop .next) (c .before .before .before .before .before .before .before .before .if1 .taken),
       over-again (l .next) (inputTurn (a .t3)) (a .before) (l .inputs) _ (l .inv .1)
           (made ∙ input-some g (l .next) (l .inputs) (c .before .before .before .before .before .if2 .left)),
     )
@@ -71,26 +75,4 @@ returns c =
 pub bind-inputs-spec : {M : Type 1} → statement M
 bind-inputs-spec =
     tie.close
-    (tie.spec
-    Inv-loop
-    μ-loop
-    loop-holds
-    (λ c. search needs)
-    (λ c. search needs)
-    (λ c. search needs)
-    (λ c. search needs)
-    (λ c. search needs)
-    loop-again
-    (λ c. search needs)
-    (λ c κs. search needs)
-    (λ c. search needs)
-    loop-again-2
-    (λ c. search needs)
-    (λ c. search needs)
-    (λ c. search needs)
-    (λ c κs. search needs)
-    (λ c. search needs)
-    (λ c. search needs)
-    (λ c. search needs)
-    loop-again-3
-    returns)
+    (tie.spec Inv-loop μ-loop loop-holds (λ c. search needs) (λ c. let h0 = c .if1 .taken in let h1 = c .before .before .before .pre in record { fits = omega arith }) (λ c. let h0 = c .if1 .taken in let h1 = c .before .before .before .pre in record { fits = omega arith }) (λ c. let h0 = c .if1 .taken in let h1 = c .before .before .before .pre in omega arith) (λ c. fewer (c .before .before .before .before .before .before .args .config .ports) (c .before .before .before .before .before .loop .next) (c .before .before .before .if1 .taken)) loop-again (λ c. let h0 = c .before .if2 .left in let h1 = c .before .before .before .before .if1 .taken in let h2 = c .before .before .before .before .before .before .before .pre in omega arith) (λ c κs. tt) (λ c. fewer (c .before .before .before .before .before .before .before .before .before .args .config .ports) (c .before .before .before .before .before .before .before .before .loop .next) (c .before .before .before .before .before .before .if1 .taken)) loop-again-2 (λ c. let h0 = c .if3 .left in let h1 = c .before .wide .ensures .1 in let h2 = c .before .before .before .if2 .left in let h3 = c .before .before .before .before .before .before .if1 .taken in let h4 = c .before .before .before .before .before .before .before .before .before .pre in record { fits = omega arith }) (λ c. let h0 = c .if3 .left in let h1 = c .before .wide .ensures .1 in let h2 = c .before .before .before .if2 .left in let h3 = c .before .before .before .before .before .before .if1 .taken in let h4 = c .before .before .before .before .before .before .before .before .before .pre in omega arith) (λ c. search needs) (λ c κs. tt) (λ c. let h0 = c .before .before .if3 .left in let h1 = c .before .before .before .wide .ensures .1 in let h2 = c .before .before .before .before .before .if2 .left in let h3 = c .before .before .before .before .before .before .before .before .if1 .taken in let h4 = c .before .before .before .before .before .before .before .before .before .before .before .pre in record { fits = omega arith }) (λ c. let h0 = c .before .before .if3 .left in let h1 = c .before .before .before .wide .ensures .1 in let h2 = c .before .before .before .before .before .if2 .left in let h3 = c .before .before .before .before .before .before .before .before .if1 .taken in let h4 = c .before .before .before .before .before .before .before .before .before .before .before .pre in omega arith) (λ c. fewer (c .before .before .before .before .before .before .before .before .before .before .before .args .config .ports) (c .before .before .before .before .before .before .before .before .before .before .loop .next) (c .before .before .before .before .before .before .before .before .if1 .taken)) loop-again-3 returns)

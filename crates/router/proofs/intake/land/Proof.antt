@@ -13,6 +13,7 @@ use Rattle.rules.specs.Ports.{overPorts}
 use Rattle.rules.specs.Intake.{Queues, landings}
 use Rattle.rules.proofs.Folds.{over-none, over-again}
 use Rattle.router.proofs.Landing.{landTurn, land-none, land-some, land-out, landed-long, landed-fit}
+use Rattle.router.proofs.Numbers.{fewer, more}
 use Rattle.router.proofs.intake.land.Statement.{statement}
 use Rattle.router.proofs.intake.land.Tie as tie
 
@@ -30,23 +31,23 @@ cast-if1 : tie.Need-cast-if1 Inv-loop μ-loop
 cast-if1 c = search needs
 
 mul-place : tie.Need-mul-place Inv-loop μ-loop
-mul-place c = search needs
+mul-place c = let h0 = c .if1 .taken in let h1 = c .before .before .before .pre .0 in record { fits = omega arith }
 
 element-copy-out-place : tie.Need-element-copy-out-place Inv-loop μ-loop
-element-copy-out-place c = search needs
+element-copy-out-place c = let h0 = c .if1 .taken in let h1 = c .before .before .before .pre .0 in omega arith
 
 add-i : tie.Need-add-i Inv-loop μ-loop
-add-i c = search needs
+add-i c = let h0 = c .if2 .taken in let h1 = c .before .before .if1 .taken in let h2 = c .before .before .before .before .before .pre .0 in record { fits = omega arith }
 
 loop-less : tie.Need-loop-less Inv-loop μ-loop
-loop-less c = search needs
+loop-less c = fewer (c .before .before .before .before .before .args .config .ports) (c .before .before .before .before .loop .i) (c .before .before .if1 .taken)
 
 loop-again : tie.Need-loop-again Inv-loop μ-loop
 loop-again c =
     let l = c .before .before .before .before .loop in
     let a = c .before .before .before .before .before .args in
     let q : Queues = (record { inputs = l .inputs; store = l .store }) in (
-      search needs,
+      more (c .before .before .before .before .before .args .config .ports) (c .before .before .before .before .loop .i) (c .before .before .if1 .taken),
       over-again (l .i) (landTurn (a .config) (a .wire .now)) (record { inputs = a .before; store = a .store .now }) q q (l .inv .1)
           (land-none (a .config) (a .wire .now) q (l .i) (c .if2 .taken)),
     )
@@ -58,10 +59,14 @@ number-requires : tie.Need-number-requires Inv-loop μ-loop
 number-requires c κs = search needs
 
 add-i-2 : tie.Need-add-i-2 Inv-loop μ-loop
-add-i-2 c = search needs
+add-i-2 c = let h0 = c .before .before .if2 .left in let h1 = c .before .before .before .before .if1 .taken in let h2 = c .before .before .before .before .before .before .before .pre .0 in record { fits = omega arith }
 
 loop-less-2 : tie.Need-loop-less-2 Inv-loop μ-loop
-loop-less-2 c = search needs
+loop-less-2 c = fewer (c .before .before .before .before .before .before .before .before .args .config .ports) (c .before .before .before .before .before .before .before .loop .i) (c .before .before .before .before .before .if1 .taken)
+
+-- the array that it starts with has its length
+given : (c : tie.Start Inv-loop μ-loop) → length (c .args .before) ≡ 32
+given c = search (needs, length-any)
 
 loop-again-2 : tie.Need-loop-again-2 Inv-loop μ-loop
 loop-again-2 c =
@@ -69,16 +74,15 @@ loop-again-2 c =
     let a = c .before .before .before .before .before .before .before .before .args in
     let q : Queues = (record { inputs = l .inputs; store = l .store }) in
     let q₀ : Queues = (record { inputs = a .before; store = a .store .now }) in
-    let given : length (a .before) ≡ 32 = search (needs, length-any) in
-    let long : length (l .inputs) ≡ 32 = ap (λ (t : Queues). length (t .inputs)) (l .inv .1) ∙ landed-long (a .config) (a .wire .now) q₀ (l .i) ∙ given in (
-      search needs,
+    let long : length (l .inputs) ≡ 32 = ap (λ (t : Queues). length (t .inputs)) (l .inv .1) ∙ landed-long (a .config) (a .wire .now) q₀ (l .i) ∙ given (c .before .before .before .before .before .before .before .before) in (
+      more (c .before .before .before .before .before .before .before .before .args .config .ports) (c .before .before .before .before .before .before .before .loop .i) (c .before .before .before .before .before .if1 .taken),
       over-again (l .i) (landTurn (a .config) (a .wire .now)) q₀ q q (l .inv .1)
           (land-out (a .config) (a .wire .now) q (l .i) (c .before .number .result) (c .before .before .before .if2 .left)
           (c .before .number .ensures ∙ ap (channel (a .config) (l .i)) (c .before .before .vc-on-wire .ensures .0)) long (c .if3 .taken)),
     )
 
 mul-input : tie.Need-mul-input Inv-loop μ-loop
-mul-input c = search needs
+mul-input c = let h0 = c .if3 .left in let h1 = c .before .before .before .if2 .left in let h2 = c .before .before .before .before .before .if1 .taken in let h3 = c .before .before .before .before .before .before .before .before .pre .0 in record { fits = omega arith }
 
 array-copy-out-input : tie.Need-array-copy-out-input Inv-loop μ-loop
 array-copy-out-input c = c .if3 .left
@@ -94,13 +98,13 @@ with-one-more-queued-requires c κs =
     let e : getD (l .inputs) (c .before .before .before .before .number .result) (freshInput 0) .queued ≤ 16 + l .i = rw (ap (λ (t : Queues). t .inputs) (l .inv .1)) h in omega arith
 
 mul-inputs : tie.Need-mul-inputs Inv-loop μ-loop
-mul-inputs c = search needs
+mul-inputs c = let h0 = c .before .before .before .before .if3 .left in let h1 = c .before .before .before .before .before .before .before .if2 .left in let h2 = c .before .before .before .before .before .before .before .before .before .if1 .taken in let h3 = c .before .before .before .before .before .before .before .before .before .before .before .before .pre .0 in record { fits = omega arith }
 
 array-set-from-inputs : tie.Need-array-set-from-inputs Inv-loop μ-loop
 array-set-from-inputs c = c .before .before .before .before .if3 .left
 
 loop-less-3 : tie.Need-loop-less-3 Inv-loop μ-loop
-loop-less-3 c = search needs
+loop-less-3 c = fewer (c .before .before .before .before .before .before .before .before .before .before .before .before .args .config .ports) (c .before .before .before .before .before .before .before .before .before .before .before .loop .i) (c .before .before .before .before .before .before .before .before .before .if1 .taken)
 
 loop-again-3 : tie.Need-loop-again-3 Inv-loop μ-loop
 loop-again-3 c =
@@ -108,7 +112,7 @@ loop-again-3 c =
     let a = c .before .before .before .before .before .before .before .before .before .before .before .before .args in
     let q : Queues = (record { inputs = l .inputs; store = l .store }) in
     let q₀ : Queues = (record { inputs = a .before; store = a .store .now }) in (
-      search needs,
+      more (c .before .before .before .before .before .before .before .before .before .before .before .before .args .config .ports) (c .before .before .before .before .before .before .before .before .before .before .before .loop .i) (c .before .before .before .before .before .before .before .before .before .if1 .taken),
       over-again (l .i) (landTurn (a .config) (a .wire .now)) q₀ q _ (l .inv .1)
           (rw (c .with-one-more-queued .ensures, c .before .push .ensures)
           (land-some (a .config) (a .wire .now) q (l .i) (c .before .before .before .before .before .number .result) (c .before .before .before .before .before .before .before .if2 .left)
@@ -126,27 +130,4 @@ returns c =
 pub land-spec : {M : Type 1} → statement M
 land-spec =
     tie.close
-    (tie.spec
-    Inv-loop
-    μ-loop
-    loop-holds
-    cast-if1
-    mul-place
-    element-copy-out-place
-    add-i
-    loop-less
-    loop-again
-    vc-on-wire-requires
-    number-requires
-    add-i-2
-    loop-less-2
-    loop-again-2
-    mul-input
-    array-copy-out-input
-    push-requires
-    with-one-more-queued-requires
-    mul-inputs
-    array-set-from-inputs
-    loop-less-3
-    loop-again-3
-    returns)
+    (tie.spec Inv-loop μ-loop loop-holds cast-if1 mul-place element-copy-out-place add-i loop-less loop-again vc-on-wire-requires number-requires add-i-2 loop-less-2 loop-again-2 mul-input array-copy-out-input push-requires with-one-more-queued-requires mul-inputs array-set-from-inputs loop-less-3 loop-again-3 returns)

@@ -14,6 +14,7 @@ use Rattle.rules.specs.Rows.{creditAt}
 use Rattle.rules.specs.Intake.{outputPaid, outputsPaid}
 use Rattle.rules.proofs.Folds.{over-none, over-again}
 use Rattle.router.proofs.Paying.{outputTurn, output-none, output-some, output-out, outputs-fit, outputs-long}
+use Rattle.router.proofs.Numbers.{fewer, more}
 use Rattle.router.proofs.intake.pay_outputs.Statement.{statement}
 use Rattle.router.proofs.intake.pay_outputs.Tie as tie
 
@@ -36,48 +37,51 @@ wide-requires : tie.Need-wide-requires Inv-loop μ-loop
 wide-requires c κs = tt
 
 add-o : tie.Need-add-o Inv-loop μ-loop
-add-o c = search needs
+add-o c = let h0 = c .if2 .taken in let h1 = c .before .wide .ensures .1 in let h2 = c .before .before .before .if1 .taken in let h3 = c .before .before .before .before .before .before .before .pre .0 in record { fits = omega arith }
 
 loop-less : tie.Need-loop-less Inv-loop μ-loop
-loop-less c = search needs
+loop-less c = fewer (c .before .before .before .before .before .before .before .args .config .ports) (c .before .before .before .before .before .loop .o) (c .before .before .before .if1 .taken)
 
 loop-again : tie.Need-loop-again Inv-loop μ-loop
 loop-again c =
     let l = c .before .before .before .before .before .loop in
     let a = c .before .before .before .before .before .before .before .args in (
-      search needs,
+      more (c .before .before .before .before .before .before .before .args .config .ports) (c .before .before .before .before .before .loop .o) (c .before .before .before .if1 .taken),
       over-again (l .o) (outputTurn (a .config) (a .part .now)) (a .before) (l .outputs) (l .outputs) (l .inv .1)
           (output-none (a .config) (a .part .now) (l .outputs) (l .o) (c .before .wide .result) (c .before .wide .ensures .0 ∙ c .before .before .credit-of .ensures) (c .if2 .taken)),
     )
 
 sub-number : tie.Need-sub-number Inv-loop μ-loop
-sub-number c = search needs
+sub-number c = let h0 = c .if2 .left in let h1 = c .before .wide .ensures .1 in let h2 = c .before .before .before .if1 .taken in let h3 = c .before .before .before .before .before .before .before .pre .0 in omega arith
 
 number-requires : tie.Need-number-requires Inv-loop μ-loop
 number-requires c κs = search needs
 
 add-o-2 : tie.Need-add-o-2 Inv-loop μ-loop
-add-o-2 c = search needs
+add-o-2 c = let h0 = c .before .if2 .left in let h1 = c .before .before .wide .ensures .1 in let h2 = c .before .before .before .before .if1 .taken in let h3 = c .before .before .before .before .before .before .before .before .pre .0 in record { fits = omega arith }
 
 loop-less-2 : tie.Need-loop-less-2 Inv-loop μ-loop
-loop-less-2 c = search needs
+loop-less-2 c = fewer (c .before .before .before .before .before .before .before .before .before .args .config .ports) (c .before .before .before .before .before .before .before .loop .o) (c .before .before .before .before .before .if1 .taken)
+
+-- the array that it starts with has its length
+given : (c : tie.Start Inv-loop μ-loop) → length (c .args .before) ≡ 32
+given c = search (needs, length-any)
 
 loop-again-2 : tie.Need-loop-again-2 Inv-loop μ-loop
 loop-again-2 c =
     let l = c .before .before .before .before .before .before .before .loop in
     let a = c .before .before .before .before .before .before .before .before .before .args in
     let w = c .before .before .before .wide in
-    let given : length (a .before) ≡ 32 = search (needs, length-any) in
-    let long : length (l .outputs) ≡ 32 = ap length (l .inv .1) ∙ outputs-long (a .config) (a .part .now) (a .before) (l .o) ∙ given in
+    let long : length (l .outputs) ≡ 32 = ap length (l .inv .1) ∙ outputs-long (a .config) (a .part .now) (a .before) (l .o) ∙ given (c .before .before .before .before .before .before .before .before .before) in
     let e : c .before .number .result ≡ channel (a .config) (l .o) (w .result - 1) = c .before .number .ensures in
     let far : length (l .outputs) ≤ channel (a .config) (l .o) (w .result - 1) = let t = c .if3 .taken in rw (long, sym e) t in (
-      search needs,
+      more (c .before .before .before .before .before .before .before .before .before .args .config .ports) (c .before .before .before .before .before .before .before .loop .o) (c .before .before .before .before .before .if1 .taken),
       over-again (l .o) (outputTurn (a .config) (a .part .now)) (a .before) (l .outputs) (l .outputs) (l .inv .1)
           (output-out (a .config) (a .part .now) (l .outputs) (l .o) (w .result) (w .ensures .0 ∙ c .before .before .before .before .credit-of .ensures) (c .before .before .if2 .left) far),
     )
 
 mul-output : tie.Need-mul-output Inv-loop μ-loop
-mul-output c = search needs
+mul-output c = let h0 = c .if3 .left in let h1 = c .before .before .if2 .left in let h2 = c .before .before .before .wide .ensures .1 in let h3 = c .before .before .before .before .before .if1 .taken in let h4 = c .before .before .before .before .before .before .before .before .before .pre .0 in record { fits = omega arith }
 
 array-copy-out-output : tie.Need-array-copy-out-output Inv-loop μ-loop
 array-copy-out-output c = c .if3 .left
@@ -90,13 +94,13 @@ with-one-more-back-requires c κs =
     let e : getD (l .outputs) (c .before .before .number .result) (freshOutput 0) .credit ≤ 16 + l .o = rw (l .inv .1) h in omega arith
 
 mul-outputs : tie.Need-mul-outputs Inv-loop μ-loop
-mul-outputs c = search needs
+mul-outputs c = let h0 = c .before .before .if3 .left in let h1 = c .before .before .before .before .if2 .left in let h2 = c .before .before .before .before .before .wide .ensures .1 in let h3 = c .before .before .before .before .before .before .before .if1 .taken in let h4 = c .before .before .before .before .before .before .before .before .before .before .before .pre .0 in record { fits = omega arith }
 
 array-set-from-outputs : tie.Need-array-set-from-outputs Inv-loop μ-loop
 array-set-from-outputs c = c .before .before .if3 .left
 
 loop-less-3 : tie.Need-loop-less-3 Inv-loop μ-loop
-loop-less-3 c = search needs
+loop-less-3 c = fewer (c .before .before .before .before .before .before .before .before .before .before .before .args .config .ports) (c .before .before .before .before .before .before .before .before .before .loop .o) (c .before .before .before .before .before .before .before .if1 .taken)
 
 loop-again-3 : tie.Need-loop-again-3 Inv-loop μ-loop
 loop-again-3 c =
@@ -106,7 +110,7 @@ loop-again-3 c =
     let e : c .before .before .before .number .result ≡ channel (a .config) (l .o) (w .result - 1) = c .before .before .before .number .ensures in
     let paid = ap (λ (y : OutputVc). set (l .outputs) (c .before .before .before .number .result) y) (c .with-one-more-back .ensures)
     ∙ ap (λ (x : ℕ). set (l .outputs) x (outputPaid (getD (l .outputs) x (freshOutput 0)))) e in (
-      search needs,
+      more (c .before .before .before .before .before .before .before .before .before .before .before .args .config .ports) (c .before .before .before .before .before .before .before .before .before .loop .o) (c .before .before .before .before .before .before .before .if1 .taken),
       over-again (l .o) (outputTurn (a .config) (a .part .now)) (a .before) (l .outputs) _ (l .inv .1)
           (paid ∙ output-some (a .config) (a .part .now) (l .outputs) (l .o) (w .result) (w .ensures .0 ∙ c .before .before .before .before .before .before .credit-of .ensures) (c .before .before .before .before .if2 .left)),
     )
@@ -121,26 +125,4 @@ returns c =
 pub pay-outputs-spec : {M : Type 1} → statement M
 pay-outputs-spec =
     tie.close
-    (tie.spec
-    Inv-loop
-    μ-loop
-    loop-holds
-    cast-if1
-    credit-of-requires
-    wide-requires
-    add-o
-    loop-less
-    loop-again
-    sub-number
-    number-requires
-    add-o-2
-    loop-less-2
-    loop-again-2
-    mul-output
-    array-copy-out-output
-    with-one-more-back-requires
-    mul-outputs
-    array-set-from-outputs
-    loop-less-3
-    loop-again-3
-    returns)
+    (tie.spec Inv-loop μ-loop loop-holds cast-if1 credit-of-requires wide-requires add-o loop-less loop-again sub-number number-requires add-o-2 loop-less-2 loop-again-2 mul-output array-copy-out-output with-one-more-back-requires mul-outputs array-set-from-outputs loop-less-3 loop-again-3 returns)

@@ -13,6 +13,7 @@ use Rattle.state.proofs.Exact.{length-any}
 use Rattle.rules.specs.Ports.{overPorts}
 use Rattle.rules.proofs.Folds.{over-none, over-again}
 use Rattle.router.proofs.Paying.{senderTurn, sender-none, sender-some, sender-out, senders-fit, senders-long}
+use Rattle.router.proofs.Numbers.{fewer, more}
 use Rattle.router.proofs.intake.pay_senders.Statement.{statement}
 use Rattle.router.proofs.intake.pay_senders.Tie as tie
 
@@ -29,53 +30,56 @@ cast-if1 : tie.Need-cast-if1 Inv-loop μ-loop
 cast-if1 c = search needs
 
 element-copy-out-wide : tie.Need-element-copy-out-wide Inv-loop μ-loop
-element-copy-out-wide c = search needs
+element-copy-out-wide c = let h0 = c .if1 .taken in let h1 = c .before .before .before .pre .0 in omega arith
 
 wide-requires : tie.Need-wide-requires Inv-loop μ-loop
 wide-requires c κs = tt
 
 add-i : tie.Need-add-i Inv-loop μ-loop
-add-i c = search needs
+add-i c = let h0 = c .if2 .taken in let h1 = c .before .wide .ensures .1 in let h2 = c .before .before .before .if1 .taken in let h3 = c .before .before .before .before .before .before .pre .0 in record { fits = omega arith }
 
 loop-less : tie.Need-loop-less Inv-loop μ-loop
-loop-less c = search needs
+loop-less c = fewer (c .before .before .before .before .before .before .args .config .ports) (c .before .before .before .before .before .loop .i) (c .before .before .before .if1 .taken)
 
 loop-again : tie.Need-loop-again Inv-loop μ-loop
 loop-again c =
     let l = c .before .before .before .before .before .loop in
     let a = c .before .before .before .before .before .before .args in (
-      search needs,
+      more (c .before .before .before .before .before .before .args .config .ports) (c .before .before .before .before .before .loop .i) (c .before .before .before .if1 .taken),
       over-again (l .i) (senderTurn (a .config) (a .home .now)) (a .before) (l .inputs) (l .inputs) (l .inv .1)
           (sender-none (a .config) (a .home .now) (l .inputs) (l .i) (c .before .wide .result) (c .before .wide .ensures .0) (c .if2 .taken)),
     )
 
 sub-number : tie.Need-sub-number Inv-loop μ-loop
-sub-number c = search needs
+sub-number c = let h0 = c .if2 .left in let h1 = c .before .wide .ensures .1 in let h2 = c .before .before .before .if1 .taken in let h3 = c .before .before .before .before .before .before .pre .0 in omega arith
 
 number-requires : tie.Need-number-requires Inv-loop μ-loop
 number-requires c κs = search needs
 
 add-i-2 : tie.Need-add-i-2 Inv-loop μ-loop
-add-i-2 c = search needs
+add-i-2 c = let h0 = c .before .if2 .left in let h1 = c .before .before .wide .ensures .1 in let h2 = c .before .before .before .before .if1 .taken in let h3 = c .before .before .before .before .before .before .before .pre .0 in record { fits = omega arith }
 
 loop-less-2 : tie.Need-loop-less-2 Inv-loop μ-loop
-loop-less-2 c = search needs
+loop-less-2 c = fewer (c .before .before .before .before .before .before .before .before .args .config .ports) (c .before .before .before .before .before .before .before .loop .i) (c .before .before .before .before .before .if1 .taken)
+
+-- the array that it starts with has its length
+given : (c : tie.Start Inv-loop μ-loop) → length (c .args .before) ≡ 32
+given c = search (needs, length-any)
 
 loop-again-2 : tie.Need-loop-again-2 Inv-loop μ-loop
 loop-again-2 c =
     let l = c .before .before .before .before .before .before .before .loop in
     let a = c .before .before .before .before .before .before .before .before .args in
-    let given : length (a .before) ≡ 32 = search (needs, length-any) in
-    let long : length (l .inputs) ≡ 32 = ap length (l .inv .1) ∙ senders-long (a .config) (a .home .now) (a .before) (l .i) ∙ given in
+    let long : length (l .inputs) ≡ 32 = ap length (l .inv .1) ∙ senders-long (a .config) (a .home .now) (a .before) (l .i) ∙ given (c .before .before .before .before .before .before .before .before) in
     let e : c .before .number .result ≡ channel (a .config) (l .i) (c .before .before .before .wide .result - 1) = c .before .number .ensures in
     let far : length (l .inputs) ≤ channel (a .config) (l .i) (c .before .before .before .wide .result - 1) = let t = c .if3 .taken in rw (long, sym e) t in (
-      search needs,
+      more (c .before .before .before .before .before .before .before .before .args .config .ports) (c .before .before .before .before .before .before .before .loop .i) (c .before .before .before .before .before .if1 .taken),
       over-again (l .i) (senderTurn (a .config) (a .home .now)) (a .before) (l .inputs) (l .inputs) (l .inv .1)
           (sender-out (a .config) (a .home .now) (l .inputs) (l .i) (c .before .before .before .wide .result) (c .before .before .before .wide .ensures .0) (c .before .before .if2 .left) far),
     )
 
 mul-input : tie.Need-mul-input Inv-loop μ-loop
-mul-input c = search needs
+mul-input c = let h0 = c .if3 .left in let h1 = c .before .before .if2 .left in let h2 = c .before .before .before .wide .ensures .1 in let h3 = c .before .before .before .before .before .if1 .taken in let h4 = c .before .before .before .before .before .before .before .before .pre .0 in record { fits = omega arith }
 
 array-copy-out-input : tie.Need-array-copy-out-input Inv-loop μ-loop
 array-copy-out-input c = c .if3 .left
@@ -88,13 +92,13 @@ with-one-credit-more-requires c κs =
     let e : getD (l .inputs) (c .before .before .number .result) (freshInput 0) .credit ≤ 16 + l .i = rw (l .inv .1) h in omega arith
 
 mul-inputs : tie.Need-mul-inputs Inv-loop μ-loop
-mul-inputs c = search needs
+mul-inputs c = let h0 = c .before .before .if3 .left in let h1 = c .before .before .before .before .if2 .left in let h2 = c .before .before .before .before .before .wide .ensures .1 in let h3 = c .before .before .before .before .before .before .before .if1 .taken in let h4 = c .before .before .before .before .before .before .before .before .before .before .pre .0 in record { fits = omega arith }
 
 array-set-from-inputs : tie.Need-array-set-from-inputs Inv-loop μ-loop
 array-set-from-inputs c = c .before .before .if3 .left
 
 loop-less-3 : tie.Need-loop-less-3 Inv-loop μ-loop
-loop-less-3 c = search needs
+loop-less-3 c = fewer (c .before .before .before .before .before .before .before .before .before .before .args .config .ports) (c .before .before .before .before .before .before .before .before .before .loop .i) (c .before .before .before .before .before .before .before .if1 .taken)
 
 loop-again-3 : tie.Need-loop-again-3 Inv-loop μ-loop
 loop-again-3 c =
@@ -103,7 +107,7 @@ loop-again-3 c =
     let e : c .before .before .before .number .result ≡ channel (a .config) (l .i) (c .before .before .before .before .before .wide .result - 1) = c .before .before .before .number .ensures in
     let paid = ap (λ (y : InputVc). set (l .inputs) (c .before .before .before .number .result) y) (c .with-one-credit-more .ensures)
     ∙ ap (λ (x : ℕ). set (l .inputs) x (senderPaid (getD (l .inputs) x (freshInput 0)))) e in (
-      search needs,
+      more (c .before .before .before .before .before .before .before .before .before .before .args .config .ports) (c .before .before .before .before .before .before .before .before .before .loop .i) (c .before .before .before .before .before .before .before .if1 .taken),
       over-again (l .i) (senderTurn (a .config) (a .home .now)) (a .before) (l .inputs) _ (l .inv .1)
           (paid ∙ sender-some (a .config) (a .home .now) (l .inputs) (l .i) (c .before .before .before .before .before .wide .result) (c .before .before .before .before .before .wide .ensures .0) (c .before .before .before .before .if2 .left)),
     )
@@ -119,26 +123,4 @@ returns c =
 pub pay-senders-spec : {M : Type 1} → statement M
 pay-senders-spec =
     tie.close
-    (tie.spec
-    Inv-loop
-    μ-loop
-    loop-holds
-    cast-if1
-    element-copy-out-wide
-    wide-requires
-    add-i
-    loop-less
-    loop-again
-    sub-number
-    number-requires
-    add-i-2
-    loop-less-2
-    loop-again-2
-    mul-input
-    array-copy-out-input
-    with-one-credit-more-requires
-    mul-inputs
-    array-set-from-inputs
-    loop-less-3
-    loop-again-3
-    returns)
+    (tie.spec Inv-loop μ-loop loop-holds cast-if1 element-copy-out-wide wide-requires add-i loop-less loop-again sub-number number-requires add-i-2 loop-less-2 loop-again-2 mul-input array-copy-out-input with-one-credit-more-requires mul-inputs array-set-from-inputs loop-less-3 loop-again-3 returns)

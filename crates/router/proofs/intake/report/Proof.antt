@@ -10,6 +10,7 @@ use Rattle.rules.specs.Ports.{overPorts}
 use Rattle.rules.specs.Intake.{reaching, reported}
 use Rattle.rules.proofs.Folds.{over-none}
 use Rattle.router.proofs.Paying.{reportTurn, report-again}
+use Rattle.router.proofs.Numbers.{fewer, more}
 use Rattle.router.proofs.intake.report.Statement.{statement}
 use Rattle.router.proofs.intake.report.Tie as tie
 
@@ -26,27 +27,27 @@ cast-if1 : tie.Need-cast-if1 Inv-loop μ-loop
 cast-if1 c = search needs
 
 element-copy-out-reached : tie.Need-element-copy-out-reached Inv-loop μ-loop
-element-copy-out-reached c = search needs
+element-copy-out-reached c = let h0 = c .if1 .taken in let h1 = c .before .before .before .pre in omega arith
 
 reached-requires : tie.Need-reached-requires Inv-loop μ-loop
 reached-requires c κs = tt
 
 mul-senders : tie.Need-mul-senders Inv-loop μ-loop
-mul-senders c = search needs
+mul-senders c = let h0 = c .before .before .if1 .taken in let h1 = c .before .before .before .before .before .pre in record { fits = omega arith }
 
 array-set-from-senders : tie.Need-array-set-from-senders Inv-loop μ-loop
-array-set-from-senders c = search needs
+array-set-from-senders c = let h0 = c .before .before .if1 .taken in let h1 = c .before .before .before .before .before .pre in omega arith
 
 add-i : tie.Need-add-i Inv-loop μ-loop
-add-i c = search needs
+add-i c = let h0 = c .before .before .if1 .taken in let h1 = c .before .before .before .before .before .pre in record { fits = omega arith }
 
 loop-less : tie.Need-loop-less Inv-loop μ-loop
-loop-less c = search needs
+loop-less c = fewer (c .before .before .before .before .before .args .config .ports) (c .before .before .before .before .loop .i) (c .before .before .if1 .taken)
 
 loop-again : tie.Need-loop-again Inv-loop μ-loop
 loop-again c =
     let l = c .before .before .before .before .loop in
-    (search needs, report-again (c .before .before .before .before .before .args .home .now) _ (l .senders) (c .reached .result) (l .i) (l .inv .1) (c .reached .ensures))
+    (more (c .before .before .before .before .before .args .config .ports) (c .before .before .before .before .loop .i) (c .before .before .if1 .taken), report-again (c .before .before .before .before .before .args .home .now) _ (l .senders) (c .reached .result) (l .i) (l .inv .1) (c .reached .ensures))
 
 returns : tie.Need-returns Inv-loop μ-loop
 unfolding reported
@@ -59,16 +60,4 @@ returns c =
 pub report-spec : {M : Type 1} → statement M
 report-spec =
     tie.close
-    (tie.spec
-    Inv-loop
-    μ-loop
-    loop-holds
-    cast-if1
-    element-copy-out-reached
-    reached-requires
-    mul-senders
-    array-set-from-senders
-    add-i
-    loop-less
-    loop-again
-    returns)
+    (tie.spec Inv-loop μ-loop loop-holds cast-if1 element-copy-out-reached reached-requires mul-senders array-set-from-senders add-i loop-less loop-again returns)

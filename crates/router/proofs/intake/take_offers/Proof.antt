@@ -15,6 +15,7 @@ use Rattle.rules.proofs.Folds.{over-none, over-again}
 use Rattle.router.specs.declared.rows.Row.{Row}
 use Rattle.router.specs.Rows.{offerOf}
 use Rattle.router.proofs.Offering.{brought-small, take-none, take-some, take-out, taken-long}
+use Rattle.router.proofs.Numbers.{fewer, more}
 use Rattle.router.proofs.intake.take_offers.Statement.{statement}
 use Rattle.router.proofs.intake.take_offers.Tie as tie
 
@@ -32,7 +33,7 @@ cast-if1 : tie.Need-cast-if1 Inv-loop μ-loop
 cast-if1 c = search needs
 
 add-next : tie.Need-add-next Inv-loop μ-loop
-add-next c = search needs
+add-next c = let h0 = c .if1 .taken in let h1 = c .before .before .before .before .pre .0 in record { fits = omega arith }
 
 row-of-requires : tie.Need-row-of-requires Inv-loop μ-loop
 row-of-requires c κs = search needs
@@ -44,7 +45,7 @@ enum-told : tie.Need-enum-told Inv-loop μ-loop
 enum-told c = search needs
 
 loop-less : tie.Need-loop-less Inv-loop μ-loop
-loop-less c = search needs
+loop-less c = fewer (c .before .before .before .before .before .before .before .args .config .ports) (c .before .before .before .before .before .loop .next) (c .before .before .before .if1 .taken)
 
 loop-again : tie.Need-loop-again Inv-loop μ-loop
 loop-again c =
@@ -52,7 +53,7 @@ loop-again c =
     let a = c .before .before .before .before .before .before .before .args in
     let s : Senders = (record { inputs = l .inputs; wire = l .wire }) in
     let e : c .before .before .row-of .result ≡ _ = c .enum-told .given .1 in (
-      search needs,
+      more (c .before .before .before .before .before .before .before .args .config .ports) (c .before .before .before .before .before .loop .next) (c .before .before .before .if1 .taken),
       over-again (l .next) (takenAt (a .config) (a .part .now)) (record { inputs = a .before; wire = a .wire .now }) s s (l .inv .1)
           (take-none (a .config) (a .part .now) s (l .next) (sym (c .before .before .row-of .ensures) ∙ ap offerOf e)),
     )
@@ -76,25 +77,29 @@ cast-wire : tie.Need-cast-wire Inv-loop μ-loop
 cast-wire c = search needs
 
 sub-wire : tie.Need-sub-wire Inv-loop μ-loop
-sub-wire c = search needs
+sub-wire c = let h0 = c .before .before .wide .ensures .1 in let h1 = c .before .before .before .before .before .before .before .before .if1 .taken in let h2 = c .before .before .before .before .before .before .before .before .before .before .before .before .pre .0 in omega arith
 
 mul-wire-2 : tie.Need-mul-wire-2 Inv-loop μ-loop
-mul-wire-2 c = search needs
+mul-wire-2 c = let h0 = c .before .before .wide .ensures .1 in let h1 = c .before .before .before .before .before .before .before .before .if1 .taken in let h2 = c .before .before .before .before .before .before .before .before .before .before .before .before .pre .0 in record { fits = omega arith }
 
 add-wire-2 : tie.Need-add-wire-2 Inv-loop μ-loop
-add-wire-2 c = search needs
+add-wire-2 c = let h0 = c .before .before .wide .ensures .1 in let h1 = c .before .before .before .before .before .before .before .before .if1 .taken in let h2 = c .before .before .before .before .before .before .before .before .before .before .before .before .pre .0 in record { fits = omega arith }
 
 mul-wire-3 : tie.Need-mul-wire-3 Inv-loop μ-loop
-mul-wire-3 c = search needs
+mul-wire-3 c = let h0 = c .before .before .wide .ensures .1 in let h1 = c .before .before .before .before .before .before .before .before .if1 .taken in let h2 = c .before .before .before .before .before .before .before .before .before .before .before .before .pre .0 in record { fits = omega arith }
 
 element-write-wire : tie.Need-element-write-wire Inv-loop μ-loop
-element-write-wire c = search needs
+element-write-wire c = let h0 = c .before .before .wide .ensures .1 in let h1 = c .before .before .before .before .before .before .before .before .if1 .taken in let h2 = c .before .before .before .before .before .before .before .before .before .before .before .before .pre .0 in omega arith
 
 number-requires : tie.Need-number-requires Inv-loop μ-loop
 number-requires c κs = search needs
 
 loop-less-2 : tie.Need-loop-less-2 Inv-loop μ-loop
-loop-less-2 c = search needs
+loop-less-2 c = fewer (c .before .before .before .before .before .before .before .before .before .before .before .before .before .before .args .config .ports) (c .before .before .before .before .before .before .before .before .before .before .before .before .loop .next) (c .before .before .before .before .before .before .before .before .before .before .if1 .taken)
+
+-- the array that it starts with has its length
+given : (c : tie.Start Inv-loop μ-loop) → length (c .args .before) ≡ 32
+given c = search (needs, length-any)
 
 loop-again-2 : tie.Need-loop-again-2 Inv-loop μ-loop
 loop-again-2 c =
@@ -103,17 +108,16 @@ loop-again-2 c =
     let s : Senders = (record { inputs = l .inputs; wire = l .wire }) in
     let s₀ : Senders = (record { inputs = a .before; wire = a .wire .now }) in
     let o = c .before .before .before .before .before .before .before .row .given .0 .0 in
-    let given : length (a .before) ≡ 32 = search (needs, length-any) in
-    let long : length (l .inputs) ≡ 32 = ap (λ (t : Senders). length (t .inputs)) (l .inv .1) ∙ taken-long (a .config) (a .part .now) s₀ (l .next) ∙ given in
+    let long : length (l .inputs) ≡ 32 = ap (λ (t : Senders). length (t .inputs)) (l .inv .1) ∙ taken-long (a .config) (a .part .now) s₀ (l .next) ∙ given (c .before .before .before .before .before .before .before .before .before .before .before .before .before .before) in
     let n : c .before .number .result ≡ channel (a .config) (l .next) (o .vc) = c .before .number .ensures ∙ ap (channel (a .config) (l .next)) (c .before .before .before .before .wide .ensures .0) in
     let far : length (l .inputs) ≤ c .before .number .result = let t = c .if2 .taken in rw long t in (
-      search needs,
+      more (c .before .before .before .before .before .before .before .before .before .before .before .before .before .before .args .config .ports) (c .before .before .before .before .before .before .before .before .before .before .before .before .loop .next) (c .before .before .before .before .before .before .before .before .before .before .if1 .taken),
       over-again (l .next) (takenAt (a .config) (a .part .now)) s₀ s _ (l .inv .1)
           (rw (c .before .before .before .before .wide .ensures .0) (take-out (a .config) (a .part .now) s (l .next) o (sym (c .before .before .before .before .before .before .before .before .before .row-of .ensures) ∙ ap offerOf (c .before .before .before .before .before .before .before .row .given .1)) (c .before .number .result) n far)),
     )
 
 mul-input : tie.Need-mul-input Inv-loop μ-loop
-mul-input c = search needs
+mul-input c = let h0 = c .if2 .left in let h1 = c .before .before .before .before .wide .ensures .1 in let h2 = c .before .before .before .before .before .before .before .before .before .before .if1 .taken in let h3 = c .before .before .before .before .before .before .before .before .before .before .before .before .before .before .pre .0 in record { fits = omega arith }
 
 array-copy-out-input : tie.Need-array-copy-out-input Inv-loop μ-loop
 array-copy-out-input c = c .if2 .left
@@ -125,13 +129,13 @@ after-offer-requires : tie.Need-after-offer-requires Inv-loop μ-loop
 after-offer-requires c κs = tt
 
 mul-inputs : tie.Need-mul-inputs Inv-loop μ-loop
-mul-inputs c = search needs
+mul-inputs c = let h0 = c .before .before .before .if2 .left in let h1 = c .before .before .before .before .before .before .before .wide .ensures .1 in let h2 = c .before .before .before .before .before .before .before .before .before .before .before .before .before .if1 .taken in let h3 = c .before .before .before .before .before .before .before .before .before .before .before .before .before .before .before .before .before .pre .0 in record { fits = omega arith }
 
 array-set-from-inputs : tie.Need-array-set-from-inputs Inv-loop μ-loop
 array-set-from-inputs c = c .before .before .before .if2 .left
 
 loop-less-3 : tie.Need-loop-less-3 Inv-loop μ-loop
-loop-less-3 c = search needs
+loop-less-3 c = fewer (c .before .before .before .before .before .before .before .before .before .before .before .before .before .before .before .before .before .args .config .ports) (c .before .before .before .before .before .before .before .before .before .before .before .before .before .before .before .loop .next) (c .before .before .before .before .before .before .before .before .before .before .before .before .before .if1 .taken)
 
 loop-again-3 : tie.Need-loop-again-3 Inv-loop μ-loop
 loop-again-3 c =
@@ -141,7 +145,7 @@ loop-again-3 c =
     let s₀ : Senders = (record { inputs = a .before; wire = a .wire .now }) in
     let o = c .before .before .before .before .before .before .before .before .before .before .row .given .0 .0 in
     let n : c .before .before .before .before .number .result ≡ channel (a .config) (l .next) (o .vc) = c .before .before .before .before .number .ensures ∙ ap (channel (a .config) (l .next)) (c .before .before .before .before .before .before .before .wide .ensures .0) in (
-      search needs,
+      more (c .before .before .before .before .before .before .before .before .before .before .before .before .before .before .before .before .before .args .config .ports) (c .before .before .before .before .before .before .before .before .before .before .before .before .before .before .before .loop .next) (c .before .before .before .before .before .before .before .before .before .before .before .before .before .if1 .taken),
       over-again (l .next) (takenAt (a .config) (a .part .now)) s₀ s _ (l .inv .1)
           (rw (c .after-offer .ensures, c .before .kind-of .ensures, c .before .before .before .before .before .before .before .wide .ensures .0) (take-some (a .config) (a .part .now) s (l .next) o
           (sym (c .before .before .before .before .before .before .before .before .before .before .before .before .row-of .ensures) ∙ ap offerOf (c .before .before .before .before .before .before .before .before .before .before .row .given .1)) (c .before .before .before .before .number .result) n)),
@@ -158,35 +162,4 @@ returns c =
 pub take-offers-spec : {M : Type 1} → statement M
 take-offers-spec =
     tie.close
-    (tie.spec
-    Inv-loop
-    μ-loop
-    loop-holds
-    cast-if1
-    add-next
-    row-of-requires
-    enum-known-row
-    enum-told
-    loop-less
-    loop-again
-    wide-requires
-    mul-wire
-    add-wire
-    cast-wire
-    sub-wire
-    mul-wire-2
-    add-wire-2
-    mul-wire-3
-    element-write-wire
-    number-requires
-    loop-less-2
-    loop-again-2
-    mul-input
-    array-copy-out-input
-    kind-of-requires
-    after-offer-requires
-    mul-inputs
-    array-set-from-inputs
-    loop-less-3
-    loop-again-3
-    returns)
+    (tie.spec Inv-loop μ-loop loop-holds cast-if1 add-next row-of-requires enum-known-row enum-told loop-less loop-again wide-requires mul-wire add-wire cast-wire sub-wire mul-wire-2 add-wire-2 mul-wire-3 element-write-wire number-requires loop-less-2 loop-again-2 mul-input array-copy-out-input kind-of-requires after-offer-requires mul-inputs array-set-from-inputs loop-less-3 loop-again-3 returns)

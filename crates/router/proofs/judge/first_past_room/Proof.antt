@@ -1,10 +1,12 @@
 -- `router::judge::first_past_room` meets its contract.
 -- Assumes nothing.
+use native.Mathlib.Omega.{arith}
 use borrow.Author.Needs.{needs}
 use mathlib.Core.Path.{sym, _∙_}
 use Prim.Native.Nat.{_-_, _≤_}
 use Rattle.rules.specs.Numbers.{creditPastRoom}
 use Rattle.router.proofs.FirstPort.{Left, left-all, left-next, left-found, left-none}
+use Rattle.router.proofs.Numbers.{fewer, more}
 use Rattle.router.proofs.judge.first_past_room.Statement.{statement}
 use Rattle.router.proofs.judge.first_past_room.Tie as tie
 
@@ -24,7 +26,7 @@ returns c =
 
 loop-again : tie.Need-loop-again Inv-loop μ-loop
 loop-again c = (
-  search needs,
+  more (c .before .before .before .before .before .before .args .config .ports) (c .before .before .before .before .loop .o) (c .before .before .if1 .taken),
   left-next _ _ _ (c .before .before .if1 .taken) (c .before .before .before .before .loop .inv .1)
       (sym (c .before .is-past-room .ensures) ∙ c .if2 .left),
 )
@@ -34,5 +36,4 @@ returns-2 c = left-none _ _ _ (c .if1 .left) (c .before .before .loop .inv .1)
 
 pub first-past-room-spec : {M : Type 1} → statement M
 first-past-room-spec =
-    tie.close (tie.spec Inv-loop μ-loop loop-holds (λ c. search needs) (λ c κs. search needs) returns (λ c. search needs)
-    (λ c. search needs) loop-again returns-2)
+    tie.close (tie.spec Inv-loop μ-loop loop-holds (λ c. search needs) (λ c κs. search needs) returns (λ c. let h0 = c .if2 .left in let h1 = c .before .before .if1 .taken in let h2 = c .before .before .before .before .before .before .pre .0 in record { fits = omega arith }) (λ c. fewer (c .before .before .before .before .before .before .args .config .ports) (c .before .before .before .before .loop .o) (c .before .before .if1 .taken)) loop-again returns-2)

@@ -10,7 +10,8 @@ use borrow.Author.Needs.{needs}
 use Rattle.rules.specs.Ports.{overPorts}
 use Rattle.rules.specs.Departures.{Leaving, departures}
 use Rattle.rules.proofs.Folds.{over-none, over-again}
-use Rattle.router.proofs.Departing.{leaveTurn, Won, won-at, stays, among, not-bound, leaves-now, leaves-past, leaving-long, fewer, more}
+use Rattle.router.proofs.Departing.{leaveTurn, Won, won-at, stays, among, not-bound, leaves-now, leaves-past, leaving-long}
+use Rattle.router.proofs.Numbers.{fewer, more}
 use Rattle.router.proofs.leaving.leave.Statement.{statement}
 use Rattle.router.proofs.leaving.leave.Tie as tie
 

@@ -11,6 +11,7 @@ use Rattle.rules.specs.Ports.{overPorts}
 use Rattle.rules.specs.Allocation.{narrowMoved}
 use Rattle.rules.proofs.Folds.{over-none, over-again}
 use Rattle.router.proofs.Moving.{turn, turn-stays, turn-moves}
+use Rattle.router.proofs.Numbers.{fewer, more}
 use Rattle.router.proofs.switching.move_on.Statement.{statement}
 use Rattle.router.proofs.switching.move_on.Tie as tie
 
@@ -27,31 +28,31 @@ cast-if1 : tie.Need-cast-if1 Inv-loop μ-loop
 cast-if1 c = search needs
 
 add-next : tie.Need-add-next Inv-loop μ-loop
-add-next c = search needs
+add-next c = let h0 = c .if1 .taken in let h1 = c .before .before .before .pre in record { fits = omega arith }
 
 array-read-pick : tie.Need-array-read-pick Inv-loop μ-loop
-array-read-pick c = search needs
+array-read-pick c = let h0 = c .if1 .taken in let h1 = c .before .before .before .pre in omega arith
 
 loop-less : tie.Need-loop-less Inv-loop μ-loop
-loop-less c = search needs
+loop-less c = fewer (c .before .before .before .before .args .config .ports) (c .before .before .before .loop .next) (c .before .if1 .taken)
 
 loop-again : tie.Need-loop-again Inv-loop μ-loop
 loop-again c =
     let l = c .before .before .before .loop in
     let a = c .before .before .before .before .args in (
-      search needs,
+      more (c .before .before .before .before .args .config .ports) (c .before .before .before .loop .next) (c .before .if1 .taken),
       over-again (l .next) (turn (a .config) (a .n) (a .t4)) (a .before) (l .arbiters) (l .arbiters) (l .inv .1)
           (turn-stays (a .config) (a .n) (a .t4) (l .arbiters) (l .next) (c .if2 .taken)),
     )
 
 mul-arbiter : tie.Need-mul-arbiter Inv-loop μ-loop
-mul-arbiter c = search needs
+mul-arbiter c = let h0 = c .if2 .left in let h1 = c .before .if1 .taken in let h2 = c .before .before .before .before .pre in record { fits = omega arith }
 
 array-copy-out-arbiter : tie.Need-array-copy-out-arbiter Inv-loop μ-loop
-array-copy-out-arbiter c = search needs
+array-copy-out-arbiter c = let h0 = c .if2 .left in let h1 = c .before .if1 .taken in let h2 = c .before .before .before .before .pre in omega arith
 
 sub-moved : tie.Need-sub-moved Inv-loop μ-loop
-sub-moved c = search needs
+sub-moved c = let h0 = c .before .if2 .left in let h1 = c .before .before .if1 .taken in let h2 = c .before .before .before .before .before .pre in omega arith
 
 cast-moved : tie.Need-cast-moved Inv-loop μ-loop
 cast-moved c =
@@ -65,19 +66,19 @@ moved-requires : tie.Need-moved-requires Inv-loop μ-loop
 moved-requires c κs = search needs
 
 mul-arbiters : tie.Need-mul-arbiters Inv-loop μ-loop
-mul-arbiters c = search needs
+mul-arbiters c = let h0 = c .before .before .if2 .left in let h1 = c .before .before .before .if1 .taken in let h2 = c .before .before .before .before .before .before .pre in record { fits = omega arith }
 
 array-set-from-arbiters : tie.Need-array-set-from-arbiters Inv-loop μ-loop
-array-set-from-arbiters c = search needs
+array-set-from-arbiters c = let h0 = c .before .before .if2 .left in let h1 = c .before .before .before .if1 .taken in let h2 = c .before .before .before .before .before .before .pre in omega arith
 
 loop-less-2 : tie.Need-loop-less-2 Inv-loop μ-loop
-loop-less-2 c = search needs
+loop-less-2 c = fewer (c .before .before .before .before .before .before .args .config .ports) (c .before .before .before .before .before .loop .next) (c .before .before .before .if1 .taken)
 
 loop-again-2 : tie.Need-loop-again-2 Inv-loop μ-loop
 loop-again-2 c =
     let l = c .before .before .before .before .before .loop in
     let a = c .before .before .before .before .before .before .args in (
-      search needs,
+      more (c .before .before .before .before .before .before .args .config .ports) (c .before .before .before .before .before .loop .next) (c .before .before .before .if1 .taken),
       over-again (l .next) (turn (a .config) (a .n) (a .t4)) (a .before) (l .arbiters) _ (l .inv .1)
           (turn-moves (a .config) (a .n) (a .t4) (l .arbiters) (l .next) (c .before .before .if2 .left) (c .moved .result) (c .moved .ensures)),
     )
@@ -93,22 +94,4 @@ returns c =
 pub move-on-spec : {M : Type 1} → statement M
 move-on-spec =
     tie.close
-    (tie.spec
-    Inv-loop
-    μ-loop
-    loop-holds
-    cast-if1
-    add-next
-    array-read-pick
-    loop-less
-    loop-again
-    mul-arbiter
-    array-copy-out-arbiter
-    sub-moved
-    cast-moved
-    moved-requires
-    mul-arbiters
-    array-set-from-arbiters
-    loop-less-2
-    loop-again-2
-    returns)
+    (tie.spec Inv-loop μ-loop loop-holds cast-if1 add-next array-read-pick loop-less loop-again mul-arbiter array-copy-out-arbiter sub-moved cast-moved moved-requires mul-arbiters array-set-from-arbiters loop-less-2 loop-again-2 returns)

@@ -10,6 +10,7 @@ use Rattle.rules.specs.Ports.{named}
 use Rattle.router.specs.Picks.{pickIn}
 use Rattle.router.proofs.Choosing.{picks-again}
 use Rattle.router.proofs.Columns.{outputChoice, column-choice}
+use Rattle.router.proofs.Numbers.{fewer, more}
 use Rattle.router.proofs.switching.pick_outputs.Statement.{statement}
 use Rattle.router.proofs.switching.pick_outputs.Tie as tie
 
@@ -31,10 +32,10 @@ cast-if1 : tie.Need-cast-if1 Inv-loop μ-loop
 cast-if1 c = search needs
 
 mul-arbiter : tie.Need-mul-arbiter Inv-loop μ-loop
-mul-arbiter c = search needs
+mul-arbiter c = let h0 = c .if1 .taken in let h1 = c .before .before .before .before .pre in record { fits = omega arith }
 
 array-copy-out-arbiter : tie.Need-array-copy-out-arbiter Inv-loop μ-loop
-array-copy-out-arbiter c = search needs
+array-copy-out-arbiter c = let h0 = c .if1 .taken in let h1 = c .before .before .before .before .pre in omega arith
 
 column-requires : tie.Need-column-requires Inv-loop μ-loop
 column-requires c κs = search needs
@@ -43,13 +44,13 @@ pick-requires : tie.Need-pick-requires Inv-loop μ-loop
 pick-requires c κs = tt
 
 array-write-picks : tie.Need-array-write-picks Inv-loop μ-loop
-array-write-picks c = search needs
+array-write-picks c = let h0 = c .before .before .before .if1 .taken in let h1 = c .before .before .before .before .before .before .before .pre in omega arith
 
 add-o : tie.Need-add-o Inv-loop μ-loop
-add-o c = search needs
+add-o c = let h0 = c .before .before .before .if1 .taken in let h1 = c .before .before .before .before .before .before .before .pre in record { fits = omega arith }
 
 loop-less : tie.Need-loop-less Inv-loop μ-loop
-loop-less c = search needs
+loop-less c = fewer (c .before .before .before .before .before .before .before .args .config .ports) (c .before .before .before .before .before .loop .o) (c .before .before .before .if1 .taken)
 
 loop-again : tie.Need-loop-again Inv-loop μ-loop
 loop-again c =
@@ -60,7 +61,7 @@ loop-again c =
     let e : named (c .pick .result) ≡ outputChoice (a .config) (a .table .now) (a .t3) (l .o) =
     c .pick .ensures ∙ column-choice (a .config) (a .table .now) (a .t3) (l .o) (w .result) p (w .ensures) in
     let long : l .o < length (l .picks) = let k = l .inv .1 in omega arith in (
-      search needs,
+      more (c .before .before .before .before .before .before .before .args .config .ports) (c .before .before .before .before .before .loop .o) (c .before .before .before .if1 .taken),
       length-set (l .picks) (l .o) (c .pick .result) ∙ l .inv .1,
       picks-again (outputChoice (a .config) (a .table .now) (a .t3)) (l .picks) (l .o) (c .pick .result) long (l .inv .2) e,
     )
@@ -74,18 +75,4 @@ returns c o h =
 pub pick-outputs-spec : {M : Type 1} → statement M
 pick-outputs-spec =
     tie.close
-    (tie.spec
-    Inv-loop
-    μ-loop
-    cast-n
-    loop-holds
-    cast-if1
-    mul-arbiter
-    array-copy-out-arbiter
-    column-requires
-    pick-requires
-    array-write-picks
-    add-o
-    loop-less
-    loop-again
-    returns)
+    (tie.spec Inv-loop μ-loop cast-n loop-holds cast-if1 mul-arbiter array-copy-out-arbiter column-requires pick-requires array-write-picks add-o loop-less loop-again returns)
