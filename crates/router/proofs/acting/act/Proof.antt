@@ -12,22 +12,22 @@ use Rattle.router.proofs.acting.act.Statement.{statement}
 use Rattle.router.proofs.acting.act.Tie as tie
 
 report-requires : tie.Need-report-requires
-report-requires c κs = search needs
+report-requires c κs = c .before .before .before .before .before .before .before .pre .0 .ports
 
 advance-home-requires : tie.Need-advance-home-requires
-advance-home-requires c κs = search needs
+advance-home-requires c κs = c .before .before .before .before .before .before .before .before .before .pre .6
 
 pay-outputs-requires : tie.Need-pay-outputs-requires
-pay-outputs-requires c κs = search needs
+pay-outputs-requires c κs = let p = c .before .before .before .before .before .before .before .before .before .before .pre in (p .0 .ports, p .1, p .3)
 
 land-requires : tie.Need-land-requires
-land-requires c κs = search needs
+land-requires c κs = let p = c .before .before .before .before .before .before .before .before .before .before .before .before .before .pre in (p .0 .ports, p .2)
 
 advance-wire-requires : tie.Need-advance-wire-requires
-advance-wire-requires c κs = search needs
+advance-wire-requires c κs = c .before .before .before .before .before .before .before .before .before .before .before .before .before .before .before .pre .5
 
 take-offers-requires : tie.Need-take-offers-requires
-take-offers-requires c κs = search needs
+take-offers-requires c κs = let p = c .before .before .before .before .before .before .before .before .before .before .before .before .before .before .before .before .before .pre in (p .0 .ports, p .0 .onWire, p .0 .forward, p .1)
 
 asking-requires : tie.Need-asking-requires
 asking-requires c κs = (
@@ -36,10 +36,10 @@ asking-requires c κs = (
 )
 
 grants-requires : tie.Need-grants-requires
-grants-requires c κs = search needs
+grants-requires c κs = let z = c .before .before .before .before .before .before .before .before .before .before .before .before .before .before .before .before .before .before .before .before .pre .0 in (z .ports, z .vcs)
 
 bind-requires : tie.Need-bind-requires
-bind-requires c κs = search needs
+bind-requires c κs = let z = c .before .before .before .before .before .before .before .before .before .before .before .before .before .before .before .before .before .before .before .before .before .pre .0 in (z .ports, z .some, z .vcs)
 
 move-on-requires : tie.Need-move-on-requires
 move-on-requires c κs = (c .before .before .before .before .before .before .before .before .before .before .before .before .before .before .before .before .before .before .before .before .before .before .pre .0 .ports, c .before .before .before .before .before .before .before .before .before .before .before .before .before .before .before .before .before .before .before .before .before .before .pre .0 .vcs)

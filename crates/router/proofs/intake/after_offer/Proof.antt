@@ -1,7 +1,5 @@
 -- `router::intake::after_offer` meets its contract.
 -- Assumes nothing.
-use borrow.Author.Needs.{needs}
-use borrow.Author.Needs.{needs}
 use Rattle.router.proofs.intake.after_offer.Statement.{statement}
 use Rattle.router.proofs.intake.after_offer.Tie as tie
 

@@ -1,6 +1,5 @@
 -- `router::leaving::after_leaving` meets its contract.
 -- Assumes nothing.
-use borrow.Author.Needs.{needs}
 use Rattle.router.proofs.leaving.after_leaving.Statement.{statement}
 use Rattle.router.proofs.leaving.after_leaving.Tie as tie
 

@@ -1,6 +1,5 @@
 -- `router::leaving::after_taking` meets its contract.
 -- Assumes nothing.
-use borrow.Author.Needs.{needs}
 use Rattle.router.proofs.leaving.after_taking.Statement.{statement}
 use Rattle.router.proofs.leaving.after_taking.Tie as tie
 
