@@ -16,7 +16,8 @@ use Rattle.listing.specs.Writing.{Outcome, put, lacksRoom, written}
 use Rattle.listing.proofs.Exactness.{put-there}
 use Rattle.listing.proofs.Ports.{text-append}
 use Rattle.listing.proofs.Stores.{sets-append, put-length}
-use Rattle.router.specs.Running.{Writing, wrote}
+use Rattle.router.specs.declared.night.Night.{Night}
+use Rattle.router.specs.Running.{Writing, wrote, onNight}
 
 -- what is put is what is stored byte by byte
 put-sets : (b : List ℕ) (at : ℕ) (x : List ℕ) → at + length x ≤ length b → put b at x ≡ sets b at x
@@ -82,11 +83,11 @@ module _ (b : List ℕ) (at : ℕ) (lines : List Line) (fine : printable lines �
   pub written-done : written b at lines .number ≡ done
   written-done = ap (λ (o : Outcome). o .number) is-written
 
--- and a write adds them
-pub wrote-adds : (w : Writing) (lines : List Line) → printable lines ≡ true → length (text lines) ≤ room → w .at + room ≤ length (w .buffer)
-    → Adds w (wrote lines w) lines
+-- and a write adds them, whatever becomes of the run
+pub wrote-adds : (w : Writing) (f : Night → Night) (lines : List Line) → printable lines ≡ true → length (text lines) ≤ room → w .at + room ≤ length (w .buffer)
+    → Adds w (wrote lines (onNight f w)) lines
 unfolding wrote
-wrote-adds w lines fine short there =
+wrote-adds w f lines fine short there =
     let e = is-written (w .buffer) (w .at) lines fine there in
     record {
       ahead = ap (λ (o : Outcome). w .at + o .bytes) e;

@@ -1,3 +1,6 @@
 pub mod Example
 pub mod Added
 pub mod InRange
+pub mod Left
+pub mod Cuts
+pub mod CycleLines

@@ -1,0 +1,114 @@
+-- A cycle of a run, and the cycles of a block, print what the list has for them.
+-- Assumes nothing.
+use mathlib.Core.Path.{_≡_, refl, sym, ap, ap₂, _∙_}
+use mathlib.Core.Bool.{Bool, true, false, cond}
+use mathlib.Core.List.{List, [], _∷_, _++_}
+use Prim.Native.Nat.{ℕ, zero, suc, _+_, _*_, _≤_}
+use native.Mathlib.Omega.{arith}
+use lib.ListN.{length}
+use Rattle.base.specs.Numbers.{room}
+use Rattle.state.specs.declared.Router.{Router}
+use Rattle.trace.specs.declared.place.Place.{Place}
+use Rattle.trace.specs.Bytes.{AreBytes}
+use Rattle.trace.specs.Blocks.{cycleLength, cycleStart}
+use Rattle.listing.specs.Lines.{Line, refusal, printable, text, cycleLines, flitLines}
+use Rattle.rules.specs.declared.Verdict.{Verdict}
+use Rattle.rules.specs.declared.Verdict.the-variants.{Accepted, Refused}
+use Rattle.rules.specs.declared.Stepped.{Stepped}
+use Rattle.rules.specs.Step.{stepOf}
+use Rattle.router.specs.Running.{Writing, wrote, withRouter, withFlits, onNight, finished, endedBy, byVerdict, cycled, partAt, cyclesFrom}
+use Rattle.router.specs.Inside.{GoesOn}
+use Rattle.router.proofs.Going.{sound-cycle, cycled-goes-on, cycled-place, piece-bytes}
+use Rattle.router.proofs.Writes.{Fitting, refusal-fits}
+use Rattle.history.proofs.Printable.{reply-printable, reply-fits}
+use Rattle.night.specs.File.{Printed, cycleThen, cyclesThen}
+use Rattle.night.proofs.Added.{Adds, wrote-adds, Prints, prints-none, prints-both, prints-length}
+use Rattle.night.proofs.InRange.{refusal-prints, refusal-named}
+use Rattle.night.proofs.Left.{leftOf, leftFrom, left-after}
+
+-- a step that prints, and goes on at most 376 bytes
+pub record Printing (w v : Writing) (before after : List Line) : Type 0 where
+  pub prints : Prints w v before after
+  pub short : v .at ≤ w .at + room
+
+short-enough : {w v : Writing} {lines : List Line} → Adds w v lines → length (text lines) ≤ room → v .at ≤ w .at + room
+short-enough a s = omega (arith, a .ahead, s)
+
+-- the last line of a run: then nothing is left
+pub ended-prints : (line : Line) (w : Writing) (rest : Router → Printed) → printable (line ∷ []) ≡ true → Fitting (line ∷ [])
+    → w .at + room ≤ length (w .buffer) → Printing w (endedBy line w) (line ∷ []) (leftFrom (endedBy line w .night) rest)
+unfolding endedBy wrote
+ended-prints line w rest fine fit there =
+    let a = wrote-adds w finished (line ∷ []) fine (fit fine) there in
+    record { prints = record { lines = line ∷ []; adds = a; same = refl }; short = short-enough a (fit fine) }
+
+module _ (part : List ℕ) (bytes : AreBytes part) (w : Writing) (g : GoesOn w) (going : w .night .over ≡ false)
+    (there : w .at + room ≤ length (w .buffer)) (rest : Router → Printed) where
+  abbrev s : Router
+  s = w .night .router
+
+  abbrev x : Stepped
+  x = stepOf s part
+
+  abbrev lines : List Line
+  lines = cycleLines (s .cycle) (x .reply)
+
+  abbrev Step : Verdict → Type 0
+  Step v = Printing w (byVerdict v x w) (leftOf (w .night .flits) (cycleThen v x s rest)) (leftFrom (byVerdict v x w .night) rest)
+
+  step : (v : Verdict) → x .verdict ≡ v → Step v
+  unfolding wrote endedBy
+  step Accepted e =
+      let fits = reply-fits s part bytes e in
+      let a = wrote-adds w (λ n. withRouter (x .router) (withFlits (flitLines (cycleLines (n .router .cycle) (x .reply))) n)) lines
+      (reply-printable s part bytes e) fits there in
+      record {
+        prints = record {
+          lines = lines;
+          adds = a;
+          same =
+            left-after (w .night .flits) lines (rest (x .router))
+            ∙ ap (λ (b : Bool). lines ++ cond b [] (leftOf (w .night .flits + flitLines lines) (rest (x .router)))) (sym going);
+        };
+        short = short-enough a fits;
+      }
+  step (Refused r) e =
+      let line = refusal (r .number) (s .cycle) (r .port) in
+      let fine = refusal-prints (r .number) (s .cycle) (r .port) (refusal-named s part (g .sound) r e) (sound-cycle (g .sound)) in
+      ended-prints line w rest fine (refusal-fits (r .number) (s .cycle) (r .port)) there
+
+  pub cycle-prints : Printing w (cycled part w) (leftOf (w .night .flits) (cycleThen (x .verdict) x s rest)) (leftFrom (cycled part w .night) rest)
+  unfolding cycled
+  cycle-prints = step (x .verdict) refl
+
+-- the cycles of a block, one after another
+pub cycles-print : (block : List ℕ) → AreBytes block → (rest : Router → Printed) (n k : ℕ) (w : Writing) → GoesOn w
+    → w .at + room * n ≤ length (w .buffer)
+    → Prints w (cyclesFrom block k n w) (leftFrom (w .night) (cyclesThen rest block k n)) (leftFrom (cyclesFrom block k n w .night) rest)
+unfolding cyclesFrom cyclesThen
+cycles-print block bytes rest zero k w g there = prints-none w w _ _ refl refl (omega arith) refl
+cycles-print block bytes rest (suc n) k w g there = go (w .night .over) refl (λ v h r. cycles-print block bytes rest n (k + 1) v h r)
+  where
+    piece : AreBytes (partAt block k)
+    piece = piece-bytes cycleLength (cycleStart k) block bytes
+
+    go : (o : Bool) → w .night .over ≡ o
+        → ((u : Writing) → GoesOn u → u .at + room * n ≤ length (u .buffer)
+          → Prints u (cyclesFrom block (k + 1) n u) (leftFrom (u .night) (cyclesThen rest block (k + 1) n)) (leftFrom (cyclesFrom block (k + 1) n u .night) rest))
+        → Prints w (cond o w (cyclesFrom block (k + 1) n (cycled (partAt block k) w))) (cond o [] (leftOf (w .night .flits) (cyclesThen rest block k (suc n) (w .night .router)))) (leftFrom (cond o w (cyclesFrom block (k + 1) n (cycled (partAt block k) w)) .night) rest)
+    go true e more = prints-none w w [] (leftFrom (w .night) rest) refl refl (omega arith) (ap (λ (b : Bool). cond b [] (leftOf (w .night .flits) (rest (w .night .router)))) (sym e))
+    go false e more =
+        let c = cycle-prints (partAt block k) piece w g e (omega (arith, there)) (cyclesThen rest block (k + 1) n) in
+        let l = prints-length (c .prints) in
+        prints-both (c .prints) (more (cycled (partAt block k) w) (cycled-goes-on (partAt block k) piece w g) (omega (arith, there, l, c .short)))
+
+-- the cycles of a block leave the place in the file
+pub cycles-place : (block : List ℕ) (n k : ℕ) (w : Writing) → cyclesFrom block k n w .night .place ≡ w .night .place
+unfolding cyclesFrom
+cycles-place block zero k w = refl
+cycles-place block (suc n) k w = go (w .night .over) (cycles-place block n (k + 1) (cycled (partAt block k) w) ∙ cycled-place (partAt block k) w)
+  where
+    go : (o : Bool) → cyclesFrom block (k + 1) n (cycled (partAt block k) w) .night .place ≡ w .night .place
+        → cond o w (cyclesFrom block (k + 1) n (cycled (partAt block k) w)) .night .place ≡ w .night .place
+    go true e = refl
+    go false e = e
