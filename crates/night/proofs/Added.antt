@@ -125,3 +125,8 @@ prints-length x = adds-length (x .adds)
 -- the same lines under other names
 pub prints-as : {w v : Writing} {a b c d : List Line} → Prints w v a b → c ≡ a → b ≡ d → Prints w v c d
 prints-as {w} {v} {a} {b} {c} {d} x e f = record { lines = x .lines; adds = x .adds; same = e ∙ x .same ∙ ap (λ (l : List Line). x .lines ++ l) f }
+
+-- and from the same place of another run
+pub prints-from : (w : Writing) (f : Night → Night) {v : Writing} {a b : List Line} → Prints (onNight f w) v a b → Prints w v a b
+prints-from w f {v} x =
+    record { lines = x .lines; adds = record { ahead = x .adds .ahead; stands = x .adds .stands; inside = x .adds .inside }; same = x .same }

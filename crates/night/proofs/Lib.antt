@@ -4,3 +4,4 @@ pub mod InRange
 pub mod Left
 pub mod Cuts
 pub mod CycleLines
+pub mod BlockLines

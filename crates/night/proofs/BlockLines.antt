@@ -1,0 +1,103 @@
+-- A block of a run prints what the list has for it, and leaves a run that can take another.
+-- Assumes nothing.
+use mathlib.Core.Path.{_≡_, refl, sym, ap, ap₂, _∙_}
+use mathlib.Core.Bool.{Bool, true, false, cond, true≢false}
+use mathlib.Core.List.{List, [], _∷_}
+use mathlib.Core.Option.{none}
+use Prim.Native.Nat.{ℕ, zero, suc, _+_, _*_, _≤_}
+use native.Mathlib.Nat.{add-zero}
+use native.Mathlib.Omega.{arith}
+use lib.ListN.{length}
+use Rattle.base.specs.Numbers.{room}
+use Rattle.state.specs.declared.Router.{Router}
+use Rattle.state.specs.Fresh.{freshRouter}
+use Rattle.state.specs.Sound.{Sound}
+use Rattle.trace.specs.declared.place.Place.{Place}
+use Rattle.trace.specs.Bytes.{AreBytes}
+use Rattle.trace.specs.Blocks.{heldOf, configOf}
+use Rattle.trace.specs.Judged.{Outcome, nextPlace, judged}
+use Rattle.trace.proofs.Found.{FoundAs, refuses, configures, holds, ends, is-over, found-as}
+use Rattle.listing.specs.Lines.{Line, finish, refusal, flitLines}
+use Rattle.router.specs.declared.night.Night.{Night}
+use Rattle.router.specs.Running.{Writing, wrote, withPlace, onNight, endedBy, cyclesFrom, byOutcome, blockTaken, blockRoom}
+use Rattle.router.specs.Inside.{Within, GoesOn, Ongoing}
+use Rattle.router.proofs.Going.{sound-cycle, block-goes-on}
+use Rattle.router.proofs.RunLaws.{begun-ongoing}
+use Rattle.router.proofs.Writes.{refusal-fits, finish-fits}
+use Rattle.night.specs.File.{Printed, cyclesThen, blockThen}
+use Rattle.night.proofs.Added.{Prints, prints-none, prints-as, prints-from}
+use Rattle.night.proofs.InRange.{Named, refusal-prints, finish-prints, outcome-named}
+use Rattle.night.proofs.Left.{leftOf, leftFrom, leftIn}
+use Rattle.night.proofs.CycleLines.{ended-prints, cycles-print, cycles-place}
+
+-- a run that can take a block, before its configuration block or after it
+pub record Ready (w : Writing) : Type 0 where
+  pub early : w .night .router .cycle ≤ 1000000000
+  pub few : w .night .flits ≤ 8 * w .night .router .cycle
+  pub sound : w .night .place .configured ≡ true → Sound (w .night .router)
+  pub unbegun : w .night .place .configured ≡ false → w .night .flits ≡ 0
+  pub room : Within (w .at) (w .buffer)
+
+-- one that goes on is ready
+pub goes-ready : (w : Writing) → GoesOn w → w .night .place .configured ≡ true → Ready w
+goes-ready w g e =
+    record { early = sound-cycle (g .sound); few = g .few; sound = λ f. g .sound; unbegun = λ f. absurd (true≢false (sym e ∙ f)); room = g .room }
+
+ready-goes : (w : Writing) → Ready w → w .night .place .configured ≡ true → GoesOn w
+ready-goes w r e = record { sound = r .sound e; few = r .few; room = r .room }
+
+module _ (block : List ℕ) (bytes : AreBytes block) (w : Writing) (ready : Ready w) where
+  -- after a block a run is over or ready for the next
+  pub block-ready : blockTaken block w .night .over ≡ false → Ready (blockTaken block w)
+  block-ready o = go (w .night .place .configured) refl
+    where
+      go : (b : Bool) → w .night .place .configured ≡ b → Ready (blockTaken block w)
+      go true e = let k = block-goes-on block bytes w e (ready-goes w ready e) in goes-ready (blockTaken block w) (k .0) (k .1)
+      go false e = let k = begun-ongoing block w e (ready .unbegun e) (ready .room) o in goes-ready (blockTaken block w) (k .0) (k .1)
+
+  module _ (going : w .night .over ≡ false) (there : w .at + blockRoom ≤ length (w .buffer)) (rest : Place → Router → Printed) where
+    abbrev p : Place
+    p = w .night .place
+
+    abbrev s : Router
+    s = w .night .router
+
+    abbrev moved : Place → Writing
+    moved q = onNight (withPlace q) w
+
+    abbrev Block : Outcome → Type 0
+    Block o =
+        Prints w (byOutcome (o .read) o block w) (leftOf (w .night .flits) (blockThen (o .read) o block s rest)) (leftIn (byOutcome (o .read) o block w .night) rest)
+
+    -- what is left of a run that is not over
+    going-left : (x : Printed) → leftOf (w .night .flits) x ≡ cond (w .night .over) [] (leftOf (w .night .flits) x)
+    going-left x = ap (λ (b : Bool). cond b [] (leftOf (w .night .flits) x)) (sym going)
+
+    of-cycles : p .configured ≡ true → (n : ℕ) → n ≤ 7 → (q : Place)
+        → Prints w (cyclesFrom block 0 n (moved q)) (leftOf (w .night .flits) (cyclesThen (rest q) block 0 n s)) (leftIn (cyclesFrom block 0 n (moved q) .night) rest)
+    of-cycles e n h q =
+        let g = ready-goes w ready e in
+        let v = cyclesFrom block 0 n (moved q) in
+        prints-as
+        (prints-from w (withPlace q) (cycles-print block bytes (rest q) n 0 (moved q) (record { sound = g .sound; few = g .few; room = g .room }) (omega (arith, there, h))))
+        (going-left (cyclesThen (rest q) block 0 n s)) (ap (λ (x : Place). leftFrom (v .night) (rest x)) (sym (cycles-place block n 0 (moved q))))
+
+    of-found : (o : Outcome) → FoundAs p (s .cycle) block o → (o .read ≡ none → Named (o .number) (o .field)) → Block o
+    unfolding endedBy wrote flitLines
+    of-found _ (refuses n k) named =
+        ended-prints (refusal n (s .cycle) k) w (rest p) (refusal-prints n (s .cycle) k (named refl) (ready .early)) (refusal-fits n (s .cycle) k) (omega (arith, there)) .prints
+    of-found _ (configures a b) named = prints-none w _ _ _ refl refl (omega (arith, there)) (going-left (rest (nextPlace p block) (freshRouter (configOf block))))
+    of-found _ (holds a l h) named = of-cycles a (heldOf block) h (nextPlace p block)
+    of-found _ (ends a) named = prints-none w _ _ _ refl refl (omega (arith, there)) (going-left (rest (nextPlace p block) s))
+    of-found _ (is-over a) named =
+        let f = w .night .flits in
+        let c = ready .early in
+        let few : f ≤ 8000000000 = omega (arith, c, ready .few) in
+        prints-as
+        (prints-from w (withPlace p) (ended-prints (finish (s .cycle) f) (moved p) (rest p) (finish-prints (s .cycle) f c few) (finish-fits (s .cycle) f) (omega (arith, there)) .prints))
+        (ap (λ (n : ℕ). finish (s .cycle) n ∷ []) (add-zero f)) refl
+
+    pub block-prints : Prints w (blockTaken block w)
+        (leftOf (w .night .flits) (blockThen (judged p (s .cycle) block .read) (judged p (s .cycle) block) block s rest)) (leftIn (blockTaken block w .night) rest)
+    unfolding blockTaken
+    block-prints = of-found (judged p (s .cycle) block) (found-as p (s .cycle) block) (outcome-named p (s .cycle) block)
