@@ -43,6 +43,10 @@ pub record Adds (w v : Writing) (lines : List Line) : Type 0 where
 pub adds-length : {w v : Writing} {lines : List Line} → Adds w v lines → length (v .buffer) ≡ length (w .buffer)
 adds-length {w} {v} {lines} a = ap length (a .stands) ∙ put-length (w .buffer) (text lines) (w .at) (a .inside)
 
+-- and the place stays inside it
+pub adds-within : {w v : Writing} {lines : List Line} → Adds w v lines → v .at ≤ length (v .buffer)
+adds-within a = omega (arith, a .ahead, a .inside, adds-length a)
+
 -- nothing is added where place and buffer stay
 pub adds-none : (w v : Writing) → v .at ≡ w .at → v .buffer ≡ w .buffer → w .at ≤ length (w .buffer) → Adds w v []
 unfolding text

@@ -5,3 +5,4 @@ pub mod Left
 pub mod Cuts
 pub mod CycleLines
 pub mod BlockLines
+pub mod PartLines
