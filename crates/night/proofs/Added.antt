@@ -1,12 +1,11 @@
 -- What a write, or many, add to a buffer: some lines, from the place on, and nothing else changes.
 -- Assumes nothing.
-use mathlib.Core.Path.{_≡_, refl, sym, ap, ap₂, subst, _∙_}
-use mathlib.Core.Bool.{Bool, true, false, cond, _||_}
-use mathlib.Core.List.{List, [], _∷_, _++_, append-assoc}
+use mathlib.Core.Path.{_≡_, sym, ap, ap₂, _∙_}
+use mathlib.Core.Bool.{true, false, _||_}
+use mathlib.Core.List.{List, [], _++_, append-assoc}
 use Prim.Native.Nat.{ℕ, _+_, _-_, _≤_}
 use native.Mathlib.Nat.{add-zero}
 use native.Mathlib.Omega.{arith}
-use lib.Dec.{ltb}
 use lib.ListN.{length, take, drop, length-append}
 use lib.Seq.{sets, sets-eq}
 use borrow.Author.Tests.{le-ltb}
@@ -69,8 +68,8 @@ adds-both {w} {v} {u} {ks} {ls} a b =
     record {
       ahead = omega (arith, b .ahead, at, n);
       stands =
-        b .stands ∙ ap₂ (λ (l : List ℕ) (p : ℕ). put l p (text ls)) (a .stands) at
-        ∙ put-both (w .buffer) (w .at) (text ks) (text ls) fits ∙ ap (put (w .buffer) (w .at)) (sym t);
+          b .stands ∙ ap₂ (λ (l : List ℕ) (p : ℕ). put l p (text ls)) (a .stands) at
+          ∙ put-both (w .buffer) (w .at) (text ks) (text ls) fits ∙ ap (put (w .buffer) (w .at)) (sym t);
       inside = omega (arith, n, fits);
     }
 

@@ -1,10 +1,10 @@
 -- A block of a run prints what the list has for it, and leaves a run that can take another.
 -- Assumes nothing.
-use mathlib.Core.Path.{_≡_, refl, sym, ap, ap₂, _∙_}
+use mathlib.Core.Path.{_≡_, refl, sym, ap, _∙_}
 use mathlib.Core.Bool.{Bool, true, false, cond, true≢false}
 use mathlib.Core.List.{List, [], _∷_}
 use mathlib.Core.Option.{none}
-use Prim.Native.Nat.{ℕ, zero, suc, _+_, _*_, _≤_}
+use Prim.Native.Nat.{ℕ, _+_, _*_, _≤_}
 use native.Mathlib.Nat.{add-zero}
 use native.Mathlib.Omega.{arith}
 use lib.ListN.{length}
@@ -17,10 +17,9 @@ use Rattle.trace.specs.Bytes.{AreBytes}
 use Rattle.trace.specs.Blocks.{heldOf, configOf}
 use Rattle.trace.specs.Judged.{Outcome, nextPlace, judged}
 use Rattle.trace.proofs.Found.{FoundAs, refuses, configures, holds, ends, is-over, found-as}
-use Rattle.listing.specs.Lines.{Line, finish, refusal, flitLines}
-use Rattle.router.specs.declared.night.Night.{Night}
+use Rattle.listing.specs.Lines.{finish, refusal, flitLines}
 use Rattle.router.specs.Running.{Writing, wrote, withPlace, onNight, endedBy, cyclesFrom, byOutcome, blockTaken, blockRoom}
-use Rattle.router.specs.Inside.{Within, GoesOn, Ongoing}
+use Rattle.router.specs.Inside.{Within, GoesOn}
 use Rattle.router.proofs.Going.{sound-cycle, block-goes-on}
 use Rattle.router.proofs.RunLaws.{begun-ongoing}
 use Rattle.router.proofs.Writes.{refusal-fits, finish-fits}

@@ -1,6 +1,6 @@
 -- A cycle of a run, and the cycles of a block, print what the list has for them.
 -- Assumes nothing.
-use mathlib.Core.Path.{_≡_, refl, sym, ap, ap₂, _∙_}
+use mathlib.Core.Path.{_≡_, refl, sym, ap, _∙_}
 use mathlib.Core.Bool.{Bool, true, false, cond}
 use mathlib.Core.List.{List, [], _∷_, _++_}
 use Prim.Native.Nat.{ℕ, zero, suc, _+_, _*_, _≤_}
@@ -8,7 +8,6 @@ use native.Mathlib.Omega.{arith}
 use lib.ListN.{length}
 use Rattle.base.specs.Numbers.{room}
 use Rattle.state.specs.declared.Router.{Router}
-use Rattle.trace.specs.declared.place.Place.{Place}
 use Rattle.trace.specs.Bytes.{AreBytes}
 use Rattle.trace.specs.Blocks.{cycleLength, cycleStart}
 use Rattle.listing.specs.Lines.{Line, refusal, printable, text, cycleLines, flitLines}
@@ -16,7 +15,7 @@ use Rattle.rules.specs.declared.Verdict.{Verdict}
 use Rattle.rules.specs.declared.Verdict.the-variants.{Accepted, Refused}
 use Rattle.rules.specs.declared.Stepped.{Stepped}
 use Rattle.rules.specs.Step.{stepOf}
-use Rattle.router.specs.Running.{Writing, wrote, withRouter, withFlits, onNight, finished, endedBy, byVerdict, cycled, partAt, cyclesFrom}
+use Rattle.router.specs.Running.{Writing, wrote, withRouter, withFlits, finished, endedBy, byVerdict, cycled, partAt, cyclesFrom}
 use Rattle.router.specs.Inside.{GoesOn}
 use Rattle.router.proofs.Going.{sound-cycle, cycled-goes-on, cycled-place, piece-bytes}
 use Rattle.router.proofs.Writes.{Fitting, refusal-fits}
@@ -67,8 +66,8 @@ module _ (part : List ℕ) (bytes : AreBytes part) (w : Writing) (g : GoesOn w) 
           lines = lines;
           adds = a;
           same =
-            left-after (w .night .flits) lines (rest (x .router))
-            ∙ ap (λ (b : Bool). lines ++ cond b [] (leftOf (w .night .flits + flitLines lines) (rest (x .router)))) (sym going);
+              left-after (w .night .flits) lines (rest (x .router))
+              ∙ ap (λ (b : Bool). lines ++ cond b [] (leftOf (w .night .flits + flitLines lines) (rest (x .router)))) (sym going);
         };
         short = short-enough a fits;
       }
@@ -94,7 +93,7 @@ cycles-print block bytes rest (suc n) k w g there = go (w .night .over) refl (λ
 
     go : (o : Bool) → w .night .over ≡ o
         → ((u : Writing) → GoesOn u → u .at + room * n ≤ length (u .buffer)
-          → Prints u (cyclesFrom block (k + 1) n u) (leftFrom (u .night) (cyclesThen rest block (k + 1) n)) (leftFrom (cyclesFrom block (k + 1) n u .night) rest))
+        → Prints u (cyclesFrom block (k + 1) n u) (leftFrom (u .night) (cyclesThen rest block (k + 1) n)) (leftFrom (cyclesFrom block (k + 1) n u .night) rest))
         → Prints w (cond o w (cyclesFrom block (k + 1) n (cycled (partAt block k) w))) (cond o [] (leftOf (w .night .flits) (cyclesThen rest block k (suc n) (w .night .router)))) (leftFrom (cond o w (cyclesFrom block (k + 1) n (cycled (partAt block k) w)) .night) rest)
     go true e more = prints-none w w [] (leftFrom (w .night) rest) refl refl (omega arith) (ap (λ (b : Bool). cond b [] (leftOf (w .night .flits) (rest (w .night .router)))) (sym e))
     go false e more =

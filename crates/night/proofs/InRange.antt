@@ -1,18 +1,17 @@
 -- What a run prints is in the writer's ranges: no write of a run is refused with 12, and where a block's room was there, none with 11.
 -- Assumes nothing.
-use mathlib.Core.Path.{_≡_, refl, sym, ap, ap₂, _∙_}
+use mathlib.Core.Path.{_≡_, refl, ap₂}
 use mathlib.Core.Bool.{Bool, true, false, cond, not, _&&_}
 use mathlib.Core.List.{List, [], _∷_}
 use mathlib.Core.Option.{Option, some, none, Option·some-ne-none, Option·none-ne-some}
-use Prim.Native.Nat.{ℕ, zero, suc, _+_, _*_, _≤_, _<_, zero-le}
+use Prim.Native.Nat.{ℕ, zero, suc, _+_, _≤_, _<_, zero-le}
 use native.Mathlib.Omega.{arith}
-use lib.Dec.{eqb, leb}
+use lib.Dec.{eqb}
 use lib.ListN.{length}
 use borrow.Author.Tests.{le-leb}
 use Rattle.base.specs.declared.config.Config.{Config}
-use Rattle.base.specs.Numbers as numbers
 use Rattle.base.specs.Numbers.{done, room}
-use Rattle.base.specs.Sizes.{field, inRange, firstIllegal, illegalField}
+use Rattle.base.specs.Sizes.{field, inRange, illegalField}
 use Rattle.base.proofs.Configurations.{illegal-exact}
 use Rattle.state.specs.declared.Router.{Router}
 use Rattle.state.specs.Sound.{Sound}
@@ -21,7 +20,7 @@ use Rattle.trace.specs.Bytes.{AreBytes}
 use Rattle.trace.specs.Blocks.{kindOf, configOf}
 use Rattle.trace.specs.Rules.{placeUnsound, blockShort, checkWrong, blockWrong, fieldWrong}
 use Rattle.trace.specs.Judged.{Outcome, accepted, refused, noMore, readOf, nextPlace, taken, byField, judged}
-use Rattle.listing.specs.Lines.{Line, finish, refusal, valuesOf, allInRange, printable, cycleLines, text}
+use Rattle.listing.specs.Lines.{finish, refusal, valuesOf, allInRange, printable, cycleLines}
 use Rattle.listing.specs.Writing.{written}
 use Rattle.rules.specs.declared.Refusal.{Refusal}
 use Rattle.rules.specs.declared.Verdict.the-variants.{Accepted, Refused}

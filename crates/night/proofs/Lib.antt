@@ -6,3 +6,5 @@ pub mod Cuts
 pub mod CycleLines
 pub mod BlockLines
 pub mod PartLines
+pub mod CallLines
+pub mod Night

@@ -1,9 +1,9 @@
 -- The blocks of a part handed over print what the list has for them, block after block.
 -- Assumes nothing.
 use mathlib.Core.Path.{_≡_, refl, sym, ap, ap₂, subst, _∙_}
-use mathlib.Core.Bool.{Bool, true, false, cond, not, _&&_, _||_}
-use mathlib.Core.List.{List, [], _∷_}
-use Prim.Native.Nat.{ℕ, zero, suc, _+_, _-_, _*_, _≤_, _<_}
+use mathlib.Core.Bool.{Bool, true, false, cond, _||_}
+use mathlib.Core.List.{List, []}
+use Prim.Native.Nat.{ℕ, zero, suc, _+_, _-_, _*_, _≤_}
 use native.Mathlib.Omega.{arith}
 use lib.Dec.{ltb}
 use lib.ListN.{length, take, drop, length-drop}
@@ -16,7 +16,6 @@ use Rattle.trace.specs.Bytes.{AreBytes}
 use Rattle.trace.specs.Place.{goodPlace}
 use Rattle.trace.specs.Rules.{placeUnsound, blockShort, checkWrong, bytesFollow, blockWrong, fieldWrong}
 use Rattle.trace.specs.Judged.{taken, byField, judged}
-use Rattle.listing.specs.Lines.{Line}
 use Rattle.router.specs.Running.{Writing, blockTaken, blockAt, blockRoom, lacksBlockRoom, Call, goesOn}
 use Rattle.router.proofs.Going.{piece-bytes}
 use Rattle.night.specs.File.{Printed, blockThen, fileFrom, blocksOf}
@@ -99,7 +98,7 @@ module _ (left : List ℕ) (bytes : AreBytes left) where
 
         go : (o : Bool) → c .writing .night .over ≡ o → (f : Bool) → lacksBlockRoom (c .writing .buffer) (c .writing .at) ≡ f
             → (next c .used + n * 512 ≤ m → (next c .writing .night .over ≡ false → Ready (next c .writing)) → next c .writing .at ≤ length (next c .writing .buffer)
-              → Goes (next c) (goesOn part n (next c)))
+            → Goes (next c) (goesOn part n (next c)))
             → Goes c (cond (o || f) c (goesOn part n (next c)))
         go true e f g more = prints-none (c .writing) (c .writing) _ _ refl refl i refl
         go false e true g more = prints-none (c .writing) (c .writing) _ _ refl refl i refl

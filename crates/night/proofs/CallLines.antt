@@ -1,0 +1,105 @@
+-- One call of a run prints what the list has for the blocks that it used.
+-- Assumes nothing.
+use mathlib.Core.Path.{_≡_, refl, sym, ap, ap₂, subst, _∙_}
+use mathlib.Core.Bool.{Bool, true, false, cond, _&&_, _||_, true≢false}
+use mathlib.Core.List.{List, [], _∷_, _++_}
+use Prim.Native.Nat.{ℕ, _+_, _*_, _≤_, _<_}
+use native.Mathlib.Omega.{arith}
+use lib.ListN.{length, take, drop}
+use lib.Seq.{take-all}
+use Rattle.base.proofs.Search.{both}
+use Rattle.trace.specs.Bytes.{AreBytes}
+use Rattle.trace.specs.Place.{goodPlace}
+use Rattle.listing.specs.Lines.{text}
+use Rattle.listing.proofs.Ports.{text-append}
+use Rattle.router.specs.declared.night.Night.{Night}
+use Rattle.router.specs.Night.{stoppedInside, placeRight, nightSound}
+use Rattle.router.specs.Running.{Writing, blockTaken, blockRoom, blocksIn, lacksBlockRoom, Call, goesOn, Outcome, ranOf}
+use Rattle.router.specs.Inside.{Within}
+use Rattle.router.proofs.RunLaws.{run-goes, room-within, configured-ongoing, unconfigured-none}
+use Rattle.night.specs.File.{Printed, fileFrom, cutInto, blocksOf}
+use Rattle.night.specs.Calls.{MayHand, whole, last, wroteIn}
+use Rattle.night.proofs.Added.{Prints, adds-there, prints-as}
+use Rattle.night.proofs.Left.{leftOf, leftIn}
+use Rattle.night.proofs.Cuts.{whole-blocks, last-block}
+use Rattle.night.proofs.BlockLines.{Ready, goes-ready, block-prints}
+use Rattle.night.proofs.PartLines.{block-room, file-end, one-prints, goes-print}
+
+module _ (n : Night) (sound : nightSound n ≡ true) (going : n .over ≡ false) where
+  -- a run that is not over stands at a place that some file leads to
+  good-place : goodPlace (n .place) (n .router .cycle) ≡ true
+  unfolding nightSound placeRight
+  good-place = go (goodPlace (n .place) (n .router .cycle)) refl
+    where
+      go : (b : Bool) → goodPlace (n .place) (n .router .cycle) ≡ b → b ≡ true
+      go true g = refl
+      go false g =
+          absurd (true≢false (sym (both (placeRight (n .place) (n .router .cycle) (n .over)) _ sound .0)
+          ∙ ap₂ (λ (x o : Bool). x || (o && stoppedInside (n .place) (n .router .cycle))) g going))
+
+  module _ (buffer : List ℕ) (at : ℕ) (within : Within at buffer) where
+    -- and can take a block
+    night-ready : Ready (record { night = n; at = at; buffer = buffer })
+    night-ready = go (n .place .configured) refl
+      where
+        go : (b : Bool) → n .place .configured ≡ b → Ready (record { night = n; at = at; buffer = buffer })
+        go true e = let g = configured-ongoing n [] buffer at sound e within going in goes-ready (record { night = n; at = at; buffer = buffer }) (g .0) (g .1)
+        go false e =
+            let z = unconfigured-none n [] buffer at sound e going in
+            record { early = omega (arith, z .0); few = omega (arith, z .1); sound = λ f. absurd (true≢false (sym f ∙ e)); unbegun = λ f. z .1; room = within }
+
+-- one call
+module _ (n : Night) (buffer : List ℕ) (at : ℕ) (sound : nightSound n ≡ true) (going : n .over ≡ false) (room : lacksBlockRoom buffer at ≡ false)
+    (short : length buffer < 18446744073709551616) where
+  abbrev handed : Writing
+  handed = record { night = n; at = at; buffer = buffer }
+
+  abbrev begin : Call
+  begin = record { used = 0; writing = handed }
+
+  abbrev ends : List ℕ → Call
+  ends part = goesOn part (blocksIn part) begin
+
+  there : at + blockRoom ≤ length buffer
+  there = block-room buffer at room
+
+  ready : Ready handed
+  ready = night-ready n sound going buffer at (room-within n [] buffer at room short)
+
+  abbrev Prints-on : List ℕ → Call → Type 0
+  Prints-on left d = Prints handed (d .writing) (leftIn n (fileFrom (blocksOf left))) (leftIn (d .writing .night) (fileFrom (blocksOf (drop (d .used) left))))
+
+  -- the last, shorter piece is one block
+  abbrev taken : List ℕ → Call
+  taken block = record { used = 0 + length block; writing = blockTaken block handed }
+
+  one-goes : (left : List ℕ) → taken (take 512 left) ≡ goesOn left 1 begin
+  unfolding goesOn
+  one-goes left = rw (going, room)
+
+  last-goes : (left : List ℕ) → length left < 512 → taken left ≡ ends left
+  last-goes left h =
+      ap taken (sym (take-all 512 left (omega arith))) ∙ one-goes left ∙ ap (λ (k : ℕ). goesOn left k begin) (sym (last-block left h))
+
+  last-prints : (left : List ℕ) → AreBytes left → length left < 512 → Prints-on left (taken left)
+  unfolding cutInto
+  last-prints [] bytes h =
+      prints-as (block-prints [] bytes handed ready going there (fileFrom []))
+      (ap₂ (λ (b : Bool) (p : Printed). cond b [] (leftOf (n .flits) p)) going (file-end (n .place) (n .router) (good-place n sound going))) refl
+  last-prints (b ∷ l) bytes h = one-prints (b ∷ l) bytes handed ready going there 0 (omega arith) (b ∷ l) (sym (take-all 512 (b ∷ l) (omega arith)))
+
+  call-prints : (left part : List ℕ) → AreBytes left → MayHand left part → Prints-on left (ends part)
+  call-prints left _ bytes (whole k a b) =
+      goes-print left bytes (k * 512) b (blocksIn (take (k * 512) left)) begin (omega (arith, whole-blocks k left a b)) (λ e. ready) (omega (arith, there))
+  call-prints left _ bytes (last h) = subst (Prints-on left) (last-goes left h) (last-prints left bytes h)
+
+  -- what a call writes, and what is left after it, is what was left before it
+  abbrev Writes : List ℕ → List ℕ → Outcome → Type 0
+  Writes left more o =
+      more ≡ text (leftIn (o .ran .night) (fileFrom (blocksOf (drop (o .ran .used) left)))) → wroteIn at o ++ more ≡ text (leftIn n (fileFrom (blocksOf left)))
+
+  pub call-writes : (left part more : List ℕ) → AreBytes left → MayHand left part → Writes left more (ranOf n part buffer at)
+  call-writes left part more bytes hand =
+      let p = call-prints left part bytes hand in
+      subst (Writes left more) (run-goes n part buffer at sound room (blocksIn part) refl)
+      (λ e. ap₂ _++_ (adds-there (p .adds)) e ∙ sym (text-append (p .lines) _) ∙ ap text (sym (p .same)))
