@@ -27,7 +27,7 @@ use Rattle.night.proofs.PartLines.{block-room, file-end, one-prints, go
 
 module _ (n : Night) (sound : nightSound n ≡ true) (going : n .over ≡ false) where
   -- a run that is not over stands at a place that some file leads to
-  good-place : goodPlace (n .place) (n .router .cycle) ≡ true
+  pub good-place : goodPlace (n .place) (n .router .cycle) ≡ true
   unfolding nightSound placeRight
   good-place = go (goodPlace (n .place) (n .router .cycle)) refl
     where
@@ -51,13 +51,13 @@ module _ (n : Night) (sound : nightSound n ≡ true) (going : n .over ≡ false)
 -- one call
 module _ (n : Night) (buffer : List ℕ) (at : ℕ) (sound : nightSound n ≡ true) (going : n .over ≡ false) (room : lacksBlockRoom buffer at ≡ false)
     (short : length buffer < 18446744073709551616) where
-  abbrev handed : Writing
+  abbrev pub handed : Writing
   handed = record { night = n; at = at; buffer = buffer }
 
-  abbrev begin : Call
+  abbrev pub begin : Call
   begin = record { used = 0; writing = handed }
 
-  abbrev ends : List ℕ → Call
+  abbrev pub ends : List ℕ → Call
   ends part = goesOn part (blocksIn part) begin
 
   there : at + blockRoom ≤ length buffer
@@ -70,14 +70,14 @@ module _ (n : Night) (buffer : List ℕ) (at : ℕ) (sound : nightSound n ≡ tr
   Prints-on left d = Prints handed (d .writing) (leftIn n (fileFrom (blocksOf left))) (leftIn (d .writing .night) (fileFrom (blocksOf (drop (d .used) left))))
 
   -- the last, shorter piece is one block
-  abbrev taken : List ℕ → Call
+  abbrev pub taken : List ℕ → Call
   taken block = record { used = 0 + length block; writing = blockTaken block handed }
 
   one-goes : (left : List ℕ) → taken (take 512 left) ≡ goesOn left 1 begin
   unfolding goesOn
   one-goes left = rw (going, room)
 
-  last-goes : (left : List ℕ) → length left < 512 → taken left ≡ ends left
+  pub last-goes : (left : List ℕ) → length left < 512 → taken left ≡ ends left
   last-goes left h =
       ap taken (sym (take-all 512 left (omega arith))) ∙ one-goes left ∙ ap (λ (k : ℕ). goesOn left k begin) (sym (last-block left h))
 

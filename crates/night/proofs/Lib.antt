@@ -7,4 +7,5 @@ pub mod CycleLines
 pub mod BlockLines
 pub mod PartLines
 pub mod CallLines
+pub mod Moves
 pub mod Night

@@ -9,16 +9,17 @@ use lib.Dec.{ltb}
 use lib.ListN.{length, take, drop, length-drop}
 use lib.Seq.{length-take-le, drop-drop}
 use borrow.Author.Tests.{ltb-false}
+use Rattle.base.specs.Numbers as numbers
 use Rattle.base.proofs.Search.{neither}
 use Rattle.state.specs.declared.Router.{Router}
 use Rattle.trace.specs.declared.place.Place.{Place}
 use Rattle.trace.specs.Bytes.{AreBytes}
 use Rattle.trace.specs.Place.{goodPlace}
 use Rattle.trace.specs.Rules.{placeUnsound, blockShort, checkWrong, bytesFollow, blockWrong, fieldWrong}
-use Rattle.trace.specs.Judged.{taken, byField, judged}
+use Rattle.trace.specs.Judged.{Outcome, noMore, accepted, refused, taken, byField, judged}
 use Rattle.router.specs.Running.{Writing, blockTaken, blockAt, blockRoom, lacksBlockRoom, Call, goesOn}
 use Rattle.router.proofs.Going.{piece-bytes}
-use Rattle.night.specs.File.{Printed, blockThen, fileFrom, blocksOf}
+use Rattle.night.specs.File.{finishes, refuses, Printed, endsAt, blockThen, fileFrom, blocksOf}
 use Rattle.night.proofs.Added.{Prints, adds-within, prints-none, prints-both, prints-as}
 use Rattle.night.proofs.Left.{leftOf, leftIn}
 use Rattle.night.proofs.Cuts.{first-block, take-inside}
@@ -32,14 +33,23 @@ block-room b at e =
     omega (arith, ltb-false (length b) at (n .0), ltb-false (length b - at) blockRoom (n .1))
 
 -- the end of the input is judged as an empty block: 9 before the end block, the E line after it
-pub file-end : (p : Place) (s : Router) → goodPlace p (s .cycle) ≡ true
-    → fileFrom [] p s ≡ blockThen (judged p (s .cycle) [] .read) (judged p (s .cycle) []) [] s (fileFrom [])
-unfolding fileFrom judged placeUnsound blockShort checkWrong bytesFollow blockWrong fieldWrong byField taken
-file-end p s g = go (p .ended) refl
+pub end-judged : (p : Place) (c : ℕ) → goodPlace p c ≡ true → judged p c [] ≡ cond (p .ended) (accepted noMore p) (refused numbers.blockShort 0 p)
+unfolding judged placeUnsound blockShort checkWrong bytesFollow blockWrong fieldWrong byField taken
+end-judged p c g = go (p .ended) refl
   where
-    go : (b : Bool) → p .ended ≡ b → fileFrom [] p s ≡ blockThen (judged p (s .cycle) [] .read) (judged p (s .cycle) []) [] s (fileFrom [])
+    go : (b : Bool) → p .ended ≡ b → judged p c [] ≡ cond b (accepted noMore p) (refused numbers.blockShort 0 p)
     go true e = rw (g, e)
     go false e = rw (g, e)
+
+pub file-end : (p : Place) (s : Router) → goodPlace p (s .cycle) ≡ true
+    → fileFrom [] p s ≡ blockThen (judged p (s .cycle) [] .read) (judged p (s .cycle) []) [] s (fileFrom [])
+unfolding fileFrom
+file-end p s g = rw (end-judged p (s .cycle) g) (go (p .ended))
+  where
+    go : (b : Bool) → endsAt s (cond b finishes (refuses 9 0))
+        ≡ blockThen (cond b (accepted noMore p) (refused 9 0 p) .read) (cond b (accepted noMore p) (refused 9 0 p)) [] s (fileFrom [])
+    go true = refl
+    go false = refl
 
 module _ (left : List ℕ) (bytes : AreBytes left) where
   -- what is printed from byte u of these on

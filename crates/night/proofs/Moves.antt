@@ -1,0 +1,103 @@
+-- A call moves on: it uses at least a block of what is left, or it ends the run where nothing is left; so a night ends.
+-- Assumes nothing.
+use mathlib.Core.Path.{_≡_, refl, sym, ap, ap₂, subst, _∙_}
+use mathlib.Core.Bool.{Bool, true, false, cond, _||_}
+use mathlib.Core.List.{List, [], _∷_}
+use Prim.Native.Nat.{ℕ, zero, suc, _+_, _-_, _*_, _/_, _≤_, _<_}
+use native.Mathlib.Nat.{le-refl, le-trans}
+use native.Mathlib.Omega.{arith}
+use lib.ListN.{length, take, drop, length-take, length-drop}
+use lib.Seq.{length-take-le}
+use Rattle.base.specs.Numbers as numbers
+use Rattle.trace.specs.declared.place.Place.{Place}
+use Rattle.trace.specs.Place.{goodPlace}
+use Rattle.trace.specs.Judged.{noMore, accepted, refused, judged}
+use Rattle.router.specs.declared.night.Night.{Night}
+use Rattle.router.specs.Night.{nightSound}
+use Rattle.router.specs.Running.{Writing, wrote, endedBy, byOutcome, blockTaken, blocksIn, blockAt, lacksBlockRoom, Call, goesOn, Outcome, answered, ranOf}
+use Rattle.router.proofs.RunLaws.{run-goes}
+use Rattle.night.specs.Calls.{MayHand, whole, last}
+use Rattle.night.proofs.PartLines.{end-judged}
+use Rattle.night.proofs.CallLines.{good-place, begin, last-goes}
+
+-- at the end of the input a run is over
+pub end-over : (w : Writing) → goodPlace (w .night .place) (w .night .router .cycle) ≡ true → blockTaken [] w .night .over ≡ true
+unfolding blockTaken endedBy wrote
+end-over w g = rw (end-judged (w .night .place) (w .night .router .cycle) g) (go (w .night .place .ended))
+  where
+    go : (b : Bool) → byOutcome (cond b (accepted noMore (w .night .place)) (refused 9 0 (w .night .place)) .read) (cond b (accepted noMore (w .night .place)) (refused 9 0 (w .night .place))) [] w .night .over ≡ true
+    go true = refl
+    go false = refl
+
+module _ (part : List ℕ) where
+  abbrev next : Call → Call
+  next c = record { used = c .used + length (blockAt part (c .used)); writing = blockTaken (blockAt part (c .used)) (c .writing) }
+
+  -- what is used only grows
+  used-on : (n : ℕ) (c : Call) → c .used ≤ goesOn part n c .used
+  unfolding goesOn
+  used-on zero c = le-refl (c .used)
+  used-on (suc n) c = either (c .writing .night .over || lacksBlockRoom (c .writing .buffer) (c .writing .at)) (used-on n (next c))
+    where
+      either : (o : Bool) → next c .used ≤ goesOn part n (next c) .used → c .used ≤ cond o c (goesOn part n (next c)) .used
+      either true h = le-refl (c .used)
+      either false h = omega (arith, h)
+
+  -- no more is used than there is
+  used-inside : (n : ℕ) (c : Call) → c .used ≤ length part → goesOn part n c .used ≤ length part
+  unfolding goesOn
+  used-inside zero c h = h
+  used-inside (suc n) c h = either (c .writing .night .over || lacksBlockRoom (c .writing .buffer) (c .writing .at)) (used-inside n (next c) more)
+    where
+      more : c .used + length (blockAt part (c .used)) ≤ length part
+      more = omega (arith, h, length-take 512 (drop (c .used) part), length-drop (c .used) part)
+
+      either : (o : Bool) → goesOn part n (next c) .used ≤ length part → cond o c (goesOn part n (next c)) .used ≤ length part
+      either true g = h
+      either false g = g
+
+  -- a run that is not over takes the first block where there is room
+  first-used : (n : ℕ) (c : Call) → c .writing .night .over ≡ false → lacksBlockRoom (c .writing .buffer) (c .writing .at) ≡ false
+      → next c .used ≤ goesOn part (suc n) c .used
+  unfolding goesOn
+  first-used n c e f = subst (λ (b : Bool). next c .used ≤ cond b c (goesOn part n (next c)) .used) (sym (ap₂ _||_ e f)) (used-on n (next c))
+
+-- A call uses no more than is left, some of it where there is some, and ends the run where there is none.
+pub record Moves (left : List ℕ) (o : Outcome) : Type 0 where
+  pub most : o .ran .used ≤ length left
+  pub some : 1 ≤ length left → 1 ≤ o .ran .used
+  pub over : length left ≡ 0 → o .ran .night .over ≡ true
+
+module _ (n : Night) (buffer : List ℕ) (at : ℕ) (sound : nightSound n ≡ true) (going : n .over ≡ false) (room : lacksBlockRoom buffer at ≡ false)
+    (short : length buffer < 18446744073709551616) where
+  abbrev began : Call
+  began = begin n buffer at sound going room short
+
+  abbrev after : List ℕ → Call
+  after part = goesOn part (blocksIn part) began
+
+  goes-some : (part : List ℕ) → 1 ≤ length part → 1 ≤ after part .used
+  goes-some part h =
+      let e : blocksIn part ≡ suc ((length part - 1) / 512) = omega arith in
+      let l = first-used part ((length part - 1) / 512) began going room in
+      let k = length-take 512 part in
+      subst (λ (m : ℕ). 1 ≤ goesOn part m began .used) (sym e) (omega (arith, l, k, h))
+
+  last-over : (left : List ℕ) → length left ≡ 0 → length left < 512 → after left .writing .night .over ≡ true
+  last-over [] e h = ap (λ (c : Call). c .writing .night .over) (sym (last-goes n buffer at sound going room short [] h)) ∙ end-over (began .writing) (good-place n sound going)
+  last-over (b ∷ l) e h = absurd (omega arith)
+
+  goes-moves : (left part : List ℕ) → MayHand left part → Moves left (answered at (after part))
+  goes-moves left _ (whole k a b) =
+      let part = take (k * 512) left in
+      let l : length part ≡ k * 512 = length-take-le (k * 512) left b in
+      record {
+        most = omega (arith, used-inside part (blocksIn part) began (omega arith), l, b);
+        some = λ h. goes-some part (omega (arith, l, a));
+        over = λ e. absurd (omega (arith, a, b, e));
+      }
+  goes-moves left _ (last h) =
+      record { most = used-inside left (blocksIn left) began (omega arith); some = goes-some left; over = λ e. last-over left e h }
+
+  pub call-moves : (left part : List ℕ) → MayHand left part → Moves left (ranOf n part buffer at)
+  call-moves left part hand = subst (Moves left) (run-goes n part buffer at sound room (blocksIn part) refl) (goes-moves left part hand)
