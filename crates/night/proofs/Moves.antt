@@ -4,14 +4,12 @@ use mathlib.Core.Path.{_≡_, refl, sym, ap, ap₂, subst, _∙_}
 use mathlib.Core.Bool.{Bool, true, false, cond, _||_}
 use mathlib.Core.List.{List, [], _∷_}
 use Prim.Native.Nat.{ℕ, zero, suc, _+_, _-_, _*_, _/_, _≤_, _<_}
-use native.Mathlib.Nat.{le-refl, le-trans}
+use native.Mathlib.Nat.{le-refl}
 use native.Mathlib.Omega.{arith}
 use lib.ListN.{length, take, drop, length-take, length-drop}
 use lib.Seq.{length-take-le}
-use Rattle.base.specs.Numbers as numbers
-use Rattle.trace.specs.declared.place.Place.{Place}
 use Rattle.trace.specs.Place.{goodPlace}
-use Rattle.trace.specs.Judged.{noMore, accepted, refused, judged}
+use Rattle.trace.specs.Judged.{noMore, accepted, refused}
 use Rattle.router.specs.declared.night.Night.{Night}
 use Rattle.router.specs.Night.{nightSound}
 use Rattle.router.specs.Running.{Writing, wrote, endedBy, byOutcome, blockTaken, blocksIn, blockAt, lacksBlockRoom, Call, goesOn, Outcome, answered, ranOf}

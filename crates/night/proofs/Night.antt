@@ -1,34 +1,69 @@
 -- The theorem of the night: whatever parts a file's bytes are cut into and whatever buffers are handed over, what the calls write, one after
 -- another, is the list of the file.
 -- Assumes nothing.
-use mathlib.Core.Path.{_≡_, sym, ap, subst, _∙_}
-use mathlib.Core.Bool.{true}
-use mathlib.Core.List.{List}
-use Prim.Native.Nat.{ℕ, _+_, _*_, _<_}
-use lib.ListN.{length, drop}
+use mathlib.Core.Path.{_≡_, refl, sym, ap, subst, _∙_}
+use mathlib.Core.Bool.{Bool, true, false}
+use mathlib.Core.List.{List, [], _++_}
+use Prim.Native.Nat.{ℕ, zero, suc, _+_, _*_, _<_}
+use native.Mathlib.Omega.{arith}
+use lib.Dec.{ltb}
+use lib.ListN.{length, take, drop, replicate, length-drop, length-replicate}
 use lib.Seq.{getD-drop}
+use borrow.Author.Tests.{ltb-true, ltb-false}
 use Rattle.trace.specs.Bytes.{AreBytes}
 use Rattle.listing.specs.Lines.{text}
 use Rattle.router.specs.declared.night.Night.{Night}
 use Rattle.router.specs.Night.{started, nightSound}
-use Rattle.router.specs.Running.{ranOf}
+use Rattle.router.specs.Running.{blockRoom, lacksBlockRoom, Outcome, ranOf}
 use Rattle.router.proofs.Going.{piece-bytes}
 use Rattle.night.specs.File.{fileFrom, blocksOf, printedOf, listOf}
-use Rattle.night.specs.Calls.{MayHand, whole, last, Calls, done, call}
+use Rattle.night.specs.Calls.{MayHand, whole, last, wroteIn, Calls, done, call, Ends, over, calls}
 use Rattle.night.proofs.Left.{leftIn, left-all}
 use Rattle.night.proofs.CallLines.{call-writes}
+use Rattle.night.proofs.Moves.{Moves, call-moves}
 
 -- the bytes after some bytes are bytes
 drop-bytes : (u : ℕ) (l : List ℕ) → AreBytes l → AreBytes (drop u l)
 drop-bytes u l b i = subst (λ (m : ℕ). m < 256) (sym (getD-drop u l i 0)) (b (u + i))
 
+part-bytes : (left part : List ℕ) → MayHand left part → AreBytes left → AreBytes part
+part-bytes left _ (whole k a b) bytes = piece-bytes (k * 512) 0 left bytes
+part-bytes left _ (last h) bytes = bytes
+
+-- after a call nothing is left and the run is over, or less is left
+after-call : (left : List ℕ) (o : Outcome) → Moves left o → (length (drop (o .ran .used) left) < length left → Ends (o .ran .night) (drop (o .ran .used) left))
+    → Ends (o .ran .night) (drop (o .ran .used) left)
+after-call left o m more = go (ltb 0 (length left)) refl
+  where
+    go : (b : Bool) → ltb 0 (length left) ≡ b → Ends (o .ran .night) (drop (o .ran .used) left)
+    go true e = let l = ltb-true 0 (length left) e in more (omega (arith, l, m .some l, length-drop (o .ran .used) left))
+    go false e = over (o .ran .night) (drop (o .ran .used) left) (m .over (omega (arith, ltb-false 0 (length left) e)))
+
+-- a caller can go on to the end: there is a part to hand over, and a buffer
+some-part : (left : List ℕ) → (part : List ℕ) × MayHand left part
+some-part left = go (ltb (length left) 512) refl
+  where
+    go : (b : Bool) → ltb (length left) 512 ≡ b → (part : List ℕ) × MayHand left part
+    go true e = (left, last (ltb-true (length left) 512 e))
+    go false e = (take (1 * 512) left, whole 1 (omega arith) (ltb-false (length left) 512 e))
+
+some-room : (b : List ℕ) → length b ≡ blockRoom → lacksBlockRoom b 0 ≡ false
+unfolding lacksBlockRoom
+some-room b e = rw e
+
+calls-made : (n : Night) (left : List ℕ) → Ends n left → (out : List ℕ) × Calls n left out
+calls-made n left (over _ _ e) = ([], done n left e)
+calls-made n left (calls _ _ e f) =
+    let p = some-part left in
+    let buffer : List ℕ = replicate blockRoom 0 in
+    let long : length buffer ≡ blockRoom = length-replicate {A = ℕ} blockRoom 0 in
+    let short : length buffer < 18446744073709551616 = omega (arith, long) in
+    let rest = calls-made _ _ (f (p .0) buffer 0 (p .1) (some-room buffer long) short) in
+    (wroteIn 0 (ranOf n (p .0) buffer 0) ++ rest .0, call n left (p .0) buffer 0 (rest .0) e (p .1) (some-room buffer long) short (rest .1))
+
 module _
     (run-kept : (n : Night) (part buffer : List ℕ) (at : ℕ) → AreBytes part → length buffer < 18446744073709551616 → nightSound n ≡ true → nightSound (ranOf n part buffer at .ran .night) ≡ true)
     (started-sound : nightSound started ≡ true) where
-  part-bytes : (left part : List ℕ) → MayHand left part → AreBytes left → AreBytes part
-  part-bytes left _ (whole k a b) bytes = piece-bytes (k * 512) 0 left bytes
-  part-bytes left _ (last h) bytes = bytes
-
   -- what the calls of a run write is what is left of it to print
   calls-print : (n : Night) (left out : List ℕ) → Calls n left out → nightSound n ≡ true → AreBytes left → out ≡ text (leftIn n (fileFrom (blocksOf left)))
   unfolding text
@@ -40,4 +75,23 @@ module _
 
   pub night : (bytes : List ℕ) → AreBytes bytes → (out : List ℕ) → Calls started bytes out → out ≡ listOf bytes
   unfolding started listOf printedOf
-  night bytes are out calls = calls-print started bytes out calls started-sound are ∙ ap text (left-all (printedOf bytes))
+  night bytes are out made = calls-print started bytes out made started-sound are ∙ ap text (left-all (printedOf bytes))
+
+  -- each call leaves less, or ends the run
+  ends : (k : ℕ) (n : Night) (left : List ℕ) → length left < k → nightSound n ≡ true → AreBytes left → Ends n left
+  ends zero n left h sound bytes = absurd (omega arith)
+  ends (suc k) n left h sound bytes = go (n .over) refl (λ m l g s b. ends k m l g s b)
+    where
+      go : (o : Bool) → n .over ≡ o → ((m : Night) (l : List ℕ) → length l < k → nightSound m ≡ true → AreBytes l → Ends m l) → Ends n left
+      go true e more = over n left e
+      go false e more =
+          calls n left e
+          (λ part buffer at hand room short. after-call left (ranOf n part buffer at) (call-moves n buffer at sound e room short left part hand)
+          (λ less. more _ _ (omega (arith, less, h)) (run-kept n part buffer at (part-bytes left part hand bytes) short sound) (drop-bytes (ranOf n part buffer at .ran .used) left bytes)))
+
+  pub night-ends : (bytes : List ℕ) → AreBytes bytes → Ends started bytes
+  night-ends bytes are = ends (suc (length bytes)) started bytes (omega arith) started-sound are
+
+  -- so the list of every file is written by some calls, and by the first theorem nothing else is
+  pub list-written : (bytes : List ℕ) → AreBytes bytes → Calls started bytes (listOf bytes)
+  list-written bytes are = let c = calls-made started bytes (night-ends bytes are) in subst (Calls started bytes) (night bytes are (c .0) (c .1)) (c .1)

@@ -16,7 +16,7 @@ use Rattle.trace.specs.declared.place.Place.{Place}
 use Rattle.trace.specs.Bytes.{AreBytes}
 use Rattle.trace.specs.Place.{goodPlace}
 use Rattle.trace.specs.Rules.{placeUnsound, blockShort, checkWrong, bytesFollow, blockWrong, fieldWrong}
-use Rattle.trace.specs.Judged.{Outcome, noMore, accepted, refused, taken, byField, judged}
+use Rattle.trace.specs.Judged.{noMore, accepted, refused, taken, byField, judged}
 use Rattle.router.specs.Running.{Writing, blockTaken, blockAt, blockRoom, lacksBlockRoom, Call, goesOn}
 use Rattle.router.proofs.Going.{piece-bytes}
 use Rattle.night.specs.File.{finishes, refuses, Printed, endsAt, blockThen, fileFrom, blocksOf}

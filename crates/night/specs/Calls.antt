@@ -26,3 +26,11 @@ pub data Calls : Night → List ℕ → List ℕ → Type 0 where
   call : (n : Night) (left part buffer : List ℕ) (at : ℕ) (more : List ℕ) → n .over ≡ false → MayHand left part → lacksBlockRoom buffer at ≡ false → length buffer < 18446744073709551616
       → Calls (ranOf n part buffer at .ran .night) (drop (ranOf n part buffer at .ran .used) left) more
       → Calls n left (wroteIn at (ranOf n part buffer at) ++ more)
+
+-- However a caller goes on, the night ends: the run is over, or after each call that may be made the night ends.
+pub data Ends : Night → List ℕ → Type 0 where
+  over : (n : Night) (left : List ℕ) → n .over ≡ true → Ends n left
+  calls : (n : Night) (left : List ℕ) → n .over ≡ false
+      → ((part buffer : List ℕ) (at : ℕ) → MayHand left part → lacksBlockRoom buffer at ≡ false → length buffer < 18446744073709551616
+      → Ends (ranOf n part buffer at .ran .night) (drop (ranOf n part buffer at .ran .used) left))
+      → Ends n left
