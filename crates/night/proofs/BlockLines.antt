@@ -1,6 +1,6 @@
 -- A block of a run prints what the list has for it, and leaves a run that can take another.
 -- Assumes nothing.
-use mathlib.Core.Path.{_≡_, refl, sym, ap, _∙_}
+use mathlib.Core.Path.{_≡_, refl, sym, ap, subst, _∙_}
 use mathlib.Core.Bool.{Bool, true, false, cond, true≢false}
 use mathlib.Core.List.{List, [], _∷_}
 use mathlib.Core.Option.{none}
@@ -18,41 +18,51 @@ use Rattle.trace.specs.Blocks.{heldOf, configOf}
 use Rattle.trace.specs.Judged.{Outcome, nextPlace, judged}
 use Rattle.trace.proofs.Found.{FoundAs, refuses, configures, holds, ends, is-over, found-as}
 use Rattle.listing.specs.Lines.{finish, refusal, flitLines}
+use Rattle.router.specs.declared.night.Night.{Night}
 use Rattle.router.specs.Running.{Writing, wrote, withPlace, onNight, endedBy, cyclesFrom, byOutcome, blockTaken, blockRoom}
-use Rattle.router.specs.Inside.{Within, GoesOn}
 use Rattle.router.proofs.Going.{sound-cycle, block-goes-on}
 use Rattle.router.proofs.RunLaws.{begun-ongoing}
 use Rattle.router.proofs.Writes.{refusal-fits, finish-fits}
 use Rattle.night.specs.File.{Printed, cyclesThen, blockThen}
 use Rattle.night.proofs.Added.{Prints, prints-none, prints-as, prints-from}
+use Rattle.night.proofs.Anywhere.{anywhere, nowhere, block-night, Goes, goes-anywhere}
 use Rattle.night.proofs.InRange.{Named, refusal-prints, finish-prints, outcome-named}
 use Rattle.night.proofs.Left.{leftOf, leftFrom, leftIn}
 use Rattle.night.proofs.CycleLines.{ended-prints, cycles-print, cycles-place}
 
 -- a run that can take a block, before its configuration block or after it
-pub record Ready (w : Writing) : Type 0 where
-  pub early : w .night .router .cycle ≤ 1000000000
-  pub few : w .night .flits ≤ 8 * w .night .router .cycle
-  pub sound : w .night .place .configured ≡ true → Sound (w .night .router)
-  pub unbegun : w .night .place .configured ≡ false → w .night .flits ≡ 0
-  pub room : Within (w .at) (w .buffer)
+pub record Ready (n : Night) : Type 0 where
+  pub early : n .router .cycle ≤ 1000000000
+  pub few : n .flits ≤ 8 * n .router .cycle
+  pub sound : n .place .configured ≡ true → Sound (n .router)
+  pub unbegun : n .place .configured ≡ false → n .flits ≡ 0
 
 -- one that goes on is ready
-pub goes-ready : (w : Writing) → GoesOn w → w .night .place .configured ≡ true → Ready w
-goes-ready w g e =
-    record { early = sound-cycle (g .sound); few = g .few; sound = λ f. g .sound; unbegun = λ f. absurd (true≢false (sym e ∙ f)); room = g .room }
+pub goes-ready : (n : Night) → Goes n → n .place .configured ≡ true → Ready n
+goes-ready n g e = record { early = sound-cycle (g .sound); few = g .few; sound = λ f. g .sound; unbegun = λ f. absurd (true≢false (sym e ∙ f)) }
 
-ready-goes : (w : Writing) → Ready w → w .night .place .configured ≡ true → GoesOn w
-ready-goes w r e = record { sound = r .sound e; few = r .few; room = r .room }
+ready-goes : (n : Night) → Ready n → n .place .configured ≡ true → Goes n
+ready-goes n r e = record { sound = r .sound e; few = r .few; room = nowhere }
 
-module _ (block : List ℕ) (bytes : AreBytes block) (w : Writing) (ready : Ready w) where
+module _ (block : List ℕ) (bytes : AreBytes block) (w : Writing) (ready : Ready (w .night)) where
   -- after a block a run is over or ready for the next
-  pub block-ready : blockTaken block w .night .over ≡ false → Ready (blockTaken block w)
-  block-ready o = go (w .night .place .configured) refl
+  ready-anywhere : blockTaken block (anywhere (w .night)) .night .over ≡ false → Ready (blockTaken block (anywhere (w .night)) .night)
+  ready-anywhere o = go (w .night .place .configured) refl
     where
-      go : (b : Bool) → w .night .place .configured ≡ b → Ready (blockTaken block w)
-      go true e = let k = block-goes-on block bytes w e (ready-goes w ready e) in goes-ready (blockTaken block w) (k .0) (k .1)
-      go false e = let k = begun-ongoing block w e (ready .unbegun e) (ready .room) o in goes-ready (blockTaken block w) (k .0) (k .1)
+      after : Writing
+      after = blockTaken block (anywhere (w .night))
+
+      go : (b : Bool) → w .night .place .configured ≡ b → Ready (blockTaken block (anywhere (w .night)) .night)
+      go true e =
+          let k = block-goes-on block bytes (anywhere (w .night)) e (ready-goes (w .night) ready e) in
+          goes-ready (after .night) (goes-anywhere after (k .0)) (k .1)
+      go false e =
+          let k = begun-ongoing block (anywhere (w .night)) e (ready .unbegun e) nowhere o in
+          goes-ready (after .night) (goes-anywhere after (k .0)) (k .1)
+
+  pub block-ready : blockTaken block w .night .over ≡ false → Ready (blockTaken block w .night)
+  block-ready =
+      subst (λ (n : Night). n .over ≡ false → Ready n) (sym (block-night block w)) ready-anywhere
 
   module _ (going : w .night .over ≡ false) (there : w .at + blockRoom ≤ length (w .buffer)) (rest : Place → Router → Printed) where
     abbrev p : Place
@@ -75,10 +85,10 @@ module _ (block : List ℕ) (bytes : AreBytes block) (w : Writing) (ready : Read
     of-cycles : p .configured ≡ true → (n : ℕ) → n ≤ 7 → (q : Place)
         → Prints w (cyclesFrom block 0 n (moved q)) (leftOf (w .night .flits) (cyclesThen (rest q) block 0 n s)) (leftIn (cyclesFrom block 0 n (moved q) .night) rest)
     of-cycles e n h q =
-        let g = ready-goes w ready e in
+        let g = ready-goes (w .night) ready e in
         let v = cyclesFrom block 0 n (moved q) in
         prints-as
-        (prints-from w (withPlace q) (cycles-print block bytes (rest q) n 0 (moved q) (record { sound = g .sound; few = g .few; room = g .room }) (omega (arith, there, h))))
+        (prints-from w (withPlace q) (cycles-print block bytes (rest q) n 0 (moved q) (record { sound = g .sound; few = g .few; room = nowhere }) (omega (arith, there, h))))
         (going-left (cyclesThen (rest q) block 0 n s)) (ap (λ (x : Place). leftFrom (v .night) (rest x)) (sym (cycles-place block n 0 (moved q))))
 
     of-found : (o : Outcome) → FoundAs p (s .cycle) block o → (o .read ≡ none → Named (o .number) (o .field)) → Block o

@@ -15,13 +15,13 @@ use Rattle.listing.proofs.Ports.{text-append}
 use Rattle.router.specs.declared.night.Night.{Night}
 use Rattle.router.specs.Night.{stoppedInside, placeRight, nightSound}
 use Rattle.router.specs.Running.{Writing, blockTaken, blockRoom, blocksIn, lacksBlockRoom, Call, goesOn, Outcome, ranOf}
-use Rattle.router.specs.Inside.{Within}
-use Rattle.router.proofs.RunLaws.{run-goes, room-within, configured-ongoing, unconfigured-none}
+use Rattle.router.proofs.RunLaws.{run-goes, configured-ongoing, unconfigured-none}
 use Rattle.night.specs.File.{Printed, fileFrom, cutInto, blocksOf}
 use Rattle.night.specs.Calls.{MayHand, whole, last, wroteIn}
 use Rattle.night.proofs.Added.{Prints, adds-there, prints-as}
 use Rattle.night.proofs.Left.{leftOf, leftIn}
 use Rattle.night.proofs.Cuts.{whole-blocks, last-block}
+use Rattle.night.proofs.Anywhere.{nowhere}
 use Rattle.night.proofs.BlockLines.{Ready, goes-ready, block-prints}
 use Rattle.night.proofs.PartLines.{block-room, file-end, one-prints, goes-print}
 
@@ -37,20 +37,18 @@ module _ (n : Night) (sound : nightSound n ≡ true) (going : n .over ≡ false)
           absurd (true≢false (sym (both (placeRight (n .place) (n .router .cycle) (n .over)) _ sound .0)
           ∙ ap₂ (λ (x o : Bool). x || (o && stoppedInside (n .place) (n .router .cycle))) g going))
 
-  module _ (buffer : List ℕ) (at : ℕ) (within : Within at buffer) where
-    -- and can take a block
-    night-ready : Ready (record { night = n; at = at; buffer = buffer })
-    night-ready = go (n .place .configured) refl
-      where
-        go : (b : Bool) → n .place .configured ≡ b → Ready (record { night = n; at = at; buffer = buffer })
-        go true e = let g = configured-ongoing n [] buffer at sound e within going in goes-ready (record { night = n; at = at; buffer = buffer }) (g .0) (g .1)
-        go false e =
-            let z = unconfigured-none n [] buffer at sound e going in
-            record { early = omega (arith, z .0); few = omega (arith, z .1); sound = λ f. absurd (true≢false (sym f ∙ e)); unbegun = λ f. z .1; room = within }
+  -- and can take a block
+  night-ready : Ready n
+  night-ready = go (n .place .configured) refl
+    where
+      go : (b : Bool) → n .place .configured ≡ b → Ready n
+      go true e = let g = configured-ongoing n [] [] 0 sound e nowhere going in goes-ready n (g .0) (g .1)
+      go false e =
+          let z = unconfigured-none n [] [] 0 sound e going in
+          record { early = omega (arith, z .0); few = omega (arith, z .1); sound = λ f. absurd (true≢false (sym f ∙ e)); unbegun = λ f. z .1 }
 
 -- one call
-module _ (n : Night) (buffer : List ℕ) (at : ℕ) (sound : nightSound n ≡ true) (going : n .over ≡ false) (room : lacksBlockRoom buffer at ≡ false)
-    (short : length buffer < 18446744073709551616) where
+module _ (n : Night) (buffer : List ℕ) (at : ℕ) (sound : nightSound n ≡ true) (going : n .over ≡ false) (room : lacksBlockRoom buffer at ≡ false) where
   abbrev pub handed : Writing
   handed = record { night = n; at = at; buffer = buffer }
 
@@ -63,8 +61,8 @@ module _ (n : Night) (buffer : List ℕ) (at : ℕ) (sound : nightSound n ≡ tr
   there : at + blockRoom ≤ length buffer
   there = block-room buffer at room
 
-  ready : Ready handed
-  ready = night-ready n sound going buffer at (room-within n [] buffer at room short)
+  ready : Ready n
+  ready = night-ready n sound going
 
   abbrev Prints-on : List ℕ → Call → Type 0
   Prints-on left d = Prints handed (d .writing) (leftIn n (fileFrom (blocksOf left))) (leftIn (d .writing .night) (fileFrom (blocksOf (drop (d .used) left))))

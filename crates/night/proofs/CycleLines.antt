@@ -16,12 +16,12 @@ use Rattle.rules.specs.declared.Verdict.the-variants.{Accepted, Refused}
 use Rattle.rules.specs.declared.Stepped.{Stepped}
 use Rattle.rules.specs.Step.{stepOf}
 use Rattle.router.specs.Running.{Writing, wrote, withRouter, withFlits, finished, endedBy, byVerdict, cycled, partAt, cyclesFrom}
-use Rattle.router.specs.Inside.{GoesOn}
-use Rattle.router.proofs.Going.{sound-cycle, cycled-goes-on, cycled-place, piece-bytes}
+use Rattle.router.proofs.Going.{sound-cycle, cycled-place, piece-bytes}
 use Rattle.router.proofs.Writes.{Fitting, refusal-fits}
 use Rattle.history.proofs.Printable.{reply-printable, reply-fits}
 use Rattle.night.specs.File.{Printed, cycleThen, cyclesThen}
 use Rattle.night.proofs.Added.{Adds, wrote-adds, Prints, prints-none, prints-both, prints-length}
+use Rattle.night.proofs.Anywhere.{Goes, cycled-goes}
 use Rattle.night.proofs.InRange.{refusal-prints, refusal-named}
 use Rattle.night.proofs.Left.{leftOf, leftFrom, left-after}
 
@@ -41,7 +41,7 @@ ended-prints line w rest fine fit there =
     let a = wrote-adds w finished (line ∷ []) fine (fit fine) there in
     record { prints = record { lines = line ∷ []; adds = a; same = refl }; short = short-enough a (fit fine) }
 
-module _ (part : List ℕ) (bytes : AreBytes part) (w : Writing) (g : GoesOn w) (going : w .night .over ≡ false)
+module _ (part : List ℕ) (bytes : AreBytes part) (w : Writing) (g : Goes (w .night)) (going : w .night .over ≡ false)
     (there : w .at + room ≤ length (w .buffer)) (rest : Router → Printed) where
   abbrev s : Router
   s = w .night .router
@@ -81,7 +81,7 @@ module _ (part : List ℕ) (bytes : AreBytes part) (w : Writing) (g : GoesOn w) 
   cycle-prints = step (x .verdict) refl
 
 -- the cycles of a block, one after another
-pub cycles-print : (block : List ℕ) → AreBytes block → (rest : Router → Printed) (n k : ℕ) (w : Writing) → GoesOn w
+pub cycles-print : (block : List ℕ) → AreBytes block → (rest : Router → Printed) (n k : ℕ) (w : Writing) → Goes (w .night)
     → w .at + room * n ≤ length (w .buffer)
     → Prints w (cyclesFrom block k n w) (leftFrom (w .night) (cyclesThen rest block k n)) (leftFrom (cyclesFrom block k n w .night) rest)
 unfolding cyclesFrom cyclesThen
@@ -92,14 +92,14 @@ cycles-print block bytes rest (suc n) k w g there = go (w .night .over) refl (λ
     piece = piece-bytes cycleLength (cycleStart k) block bytes
 
     go : (o : Bool) → w .night .over ≡ o
-        → ((u : Writing) → GoesOn u → u .at + room * n ≤ length (u .buffer)
+        → ((u : Writing) → Goes (u .night) → u .at + room * n ≤ length (u .buffer)
         → Prints u (cyclesFrom block (k + 1) n u) (leftFrom (u .night) (cyclesThen rest block (k + 1) n)) (leftFrom (cyclesFrom block (k + 1) n u .night) rest))
         → Prints w (cond o w (cyclesFrom block (k + 1) n (cycled (partAt block k) w))) (cond o [] (leftOf (w .night .flits) (cyclesThen rest block k (suc n) (w .night .router)))) (leftFrom (cond o w (cyclesFrom block (k + 1) n (cycled (partAt block k) w)) .night) rest)
     go true e more = prints-none w w [] (leftFrom (w .night) rest) refl refl (omega arith) (ap (λ (b : Bool). cond b [] (leftOf (w .night .flits) (rest (w .night .router)))) (sym e))
     go false e more =
         let c = cycle-prints (partAt block k) piece w g e (omega (arith, there)) (cyclesThen rest block (k + 1) n) in
         let l = prints-length (c .prints) in
-        prints-both (c .prints) (more (cycled (partAt block k) w) (cycled-goes-on (partAt block k) piece w g) (omega (arith, there, l, c .short)))
+        prints-both (c .prints) (more (cycled (partAt block k) w) (cycled-goes (partAt block k) piece w g) (omega (arith, there, l, c .short)))
 
 -- the cycles of a block leave the place in the file
 pub cycles-place : (block : List ℕ) (n k : ℕ) (w : Writing) → cyclesFrom block k n w .night .place ≡ w .night .place

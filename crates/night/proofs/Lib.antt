@@ -3,6 +3,7 @@ pub mod Added
 pub mod InRange
 pub mod Left
 pub mod Cuts
+pub mod Anywhere
 pub mod CycleLines
 pub mod BlockLines
 pub mod PartLines

@@ -66,10 +66,9 @@ pub record Moves (left : List ℕ) (o : Outcome) : Type 0 where
   pub some : 1 ≤ length left → 1 ≤ o .ran .used
   pub over : length left ≡ 0 → o .ran .night .over ≡ true
 
-module _ (n : Night) (buffer : List ℕ) (at : ℕ) (sound : nightSound n ≡ true) (going : n .over ≡ false) (room : lacksBlockRoom buffer at ≡ false)
-    (short : length buffer < 18446744073709551616) where
+module _ (n : Night) (buffer : List ℕ) (at : ℕ) (sound : nightSound n ≡ true) (going : n .over ≡ false) (room : lacksBlockRoom buffer at ≡ false) where
   abbrev began : Call
-  began = begin n buffer at sound going room short
+  began = begin n buffer at sound going room
 
   abbrev after : List ℕ → Call
   after part = goesOn part (blocksIn part) began
@@ -82,7 +81,7 @@ module _ (n : Night) (buffer : List ℕ) (at : ℕ) (sound : nightSound n ≡ tr
       subst (λ (m : ℕ). 1 ≤ goesOn part m began .used) (sym e) (omega (arith, l, k, h))
 
   last-over : (left : List ℕ) → length left ≡ 0 → length left < 512 → after left .writing .night .over ≡ true
-  last-over [] e h = ap (λ (c : Call). c .writing .night .over) (sym (last-goes n buffer at sound going room short [] h)) ∙ end-over (began .writing) (good-place n sound going)
+  last-over [] e h = ap (λ (c : Call). c .writing .night .over) (sym (last-goes n buffer at sound going room [] h)) ∙ end-over (began .writing) (good-place n sound going)
   last-over (b ∷ l) e h = absurd (omega arith)
 
   goes-moves : (left part : List ℕ) → MayHand left part → Moves left (answered at (after part))

@@ -57,21 +57,20 @@ calls-made n left (calls _ _ e f) =
     let p = some-part left in
     let buffer : List ℕ = replicate blockRoom 0 in
     let long : length buffer ≡ blockRoom = length-replicate {A = ℕ} blockRoom 0 in
-    let short : length buffer < 18446744073709551616 = omega (arith, long) in
-    let rest = calls-made _ _ (f (p .0) buffer 0 (p .1) (some-room buffer long) short) in
-    (wroteIn 0 (ranOf n (p .0) buffer 0) ++ rest .0, call n left (p .0) buffer 0 (rest .0) e (p .1) (some-room buffer long) short (rest .1))
+    let rest = calls-made _ _ (f (p .0) buffer 0 (p .1) (some-room buffer long)) in
+    (wroteIn 0 (ranOf n (p .0) buffer 0) ++ rest .0, call n left (p .0) buffer 0 (rest .0) e (p .1) (some-room buffer long) (rest .1))
 
 module _
-    (run-kept : (n : Night) (part buffer : List ℕ) (at : ℕ) → AreBytes part → length buffer < 18446744073709551616 → nightSound n ≡ true → nightSound (ranOf n part buffer at .ran .night) ≡ true)
+    (run-kept : (n : Night) (part buffer : List ℕ) (at : ℕ) → AreBytes part → nightSound n ≡ true → nightSound (ranOf n part buffer at .ran .night) ≡ true)
     (started-sound : nightSound started ≡ true) where
   -- what the calls of a run write is what is left of it to print
   calls-print : (n : Night) (left out : List ℕ) → Calls n left out → nightSound n ≡ true → AreBytes left → out ≡ text (leftIn n (fileFrom (blocksOf left)))
   unfolding text
   calls-print n left _ (done _ _ e) sound bytes = rw e
-  calls-print n left _ (call _ _ part buffer at more going hand room short later) sound bytes =
-      call-writes n buffer at sound going room short left part more bytes hand
+  calls-print n left _ (call _ _ part buffer at more going hand room later) sound bytes =
+      call-writes n buffer at sound going room left part more bytes hand
       (calls-print (ranOf n part buffer at .ran .night) (drop (ranOf n part buffer at .ran .used) left) more later
-      (run-kept n part buffer at (part-bytes left part hand bytes) short sound) (drop-bytes (ranOf n part buffer at .ran .used) left bytes))
+      (run-kept n part buffer at (part-bytes left part hand bytes) sound) (drop-bytes (ranOf n part buffer at .ran .used) left bytes))
 
   pub night : (bytes : List ℕ) → AreBytes bytes → (out : List ℕ) → Calls started bytes out → out ≡ listOf bytes
   unfolding started listOf printedOf
@@ -86,8 +85,8 @@ module _
       go true e more = over n left e
       go false e more =
           calls n left e
-          (λ part buffer at hand room short. after-call left (ranOf n part buffer at) (call-moves n buffer at sound e room short left part hand)
-          (λ less. more _ _ (omega (arith, less, h)) (run-kept n part buffer at (part-bytes left part hand bytes) short sound) (drop-bytes (ranOf n part buffer at .ran .used) left bytes)))
+          (λ part buffer at hand room. after-call left (ranOf n part buffer at) (call-moves n buffer at sound e room left part hand)
+          (λ less. more _ _ (omega (arith, less, h)) (run-kept n part buffer at (part-bytes left part hand bytes) sound) (drop-bytes (ranOf n part buffer at .ran .used) left bytes)))
 
   pub night-ends : (bytes : List ℕ) → AreBytes bytes → Ends started bytes
   night-ends bytes are = ends (suc (length bytes)) started bytes (omega arith) started-sound are

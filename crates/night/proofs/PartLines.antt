@@ -57,7 +57,7 @@ module _ (left : List ℕ) (bytes : AreBytes left) where
   from u = fileFrom (blocksOf (drop u left))
 
   -- one block
-  piece-prints : (w : Writing) → Ready w → w .night .over ≡ false → w .at + blockRoom ≤ length (w .buffer) → (u : ℕ) → 1 ≤ length (drop u left)
+  piece-prints : (w : Writing) → Ready (w .night) → w .night .over ≡ false → w .at + blockRoom ≤ length (w .buffer) → (u : ℕ) → 1 ≤ length (drop u left)
       → Prints w (blockTaken (take 512 (drop u left)) w) (leftIn (w .night) (from u))
       (leftIn (blockTaken (take 512 (drop u left)) w .night) (from (u + length (take 512 (drop u left)))))
   unfolding fileFrom
@@ -69,7 +69,7 @@ module _ (left : List ℕ) (bytes : AreBytes left) where
       (ap₂ (λ (b : Bool) (bs : List (List ℕ)). cond b [] (leftOf (w .night .flits) (fileFrom bs (w .night .place) (w .night .router)))) going (first-block rest h))
       (ap (λ (l : List ℕ). leftIn (blockTaken piece w .night) (fileFrom (blocksOf l))) (drop-drop (length piece) u left))
 
-  pub one-prints : (w : Writing) → Ready w → w .night .over ≡ false → w .at + blockRoom ≤ length (w .buffer)
+  pub one-prints : (w : Writing) → Ready (w .night) → w .night .over ≡ false → w .at + blockRoom ≤ length (w .buffer)
       → (u : ℕ) → 1 ≤ length (drop u left) → (b : List ℕ) → b ≡ take 512 (drop u left)
       → Prints w (blockTaken b w) (leftIn (w .night) (from u)) (leftIn (blockTaken b w .night) (from (u + length b)))
   one-prints w ready going there u h b e =
@@ -90,7 +90,7 @@ module _ (left : List ℕ) (bytes : AreBytes left) where
     Goes c d = Prints (c .writing) (d .writing) (leftIn (c .writing .night) (from (c .used))) (leftIn (d .writing .night) (from (d .used)))
 
     -- the blocks of a part that is cut at byte m
-    pub goes-print : (n : ℕ) (c : Call) → c .used + n * 512 ≤ m → (c .writing .night .over ≡ false → Ready (c .writing))
+    pub goes-print : (n : ℕ) (c : Call) → c .used + n * 512 ≤ m → (c .writing .night .over ≡ false → Ready (c .writing .night))
         → c .writing .at ≤ length (c .writing .buffer) → Goes c (goesOn part n c)
     unfolding goesOn
     goes-print zero c fits ready i = prints-none (c .writing) (c .writing) _ _ refl refl i refl
@@ -107,7 +107,7 @@ module _ (left : List ℕ) (bytes : AreBytes left) where
         whole = ap length same ∙ length-take-le 512 (drop (c .used) left) (omega (arith, rest, cut, fits))
 
         go : (o : Bool) → c .writing .night .over ≡ o → (f : Bool) → lacksBlockRoom (c .writing .buffer) (c .writing .at) ≡ f
-            → (next c .used + n * 512 ≤ m → (next c .writing .night .over ≡ false → Ready (next c .writing)) → next c .writing .at ≤ length (next c .writing .buffer)
+            → (next c .used + n * 512 ≤ m → (next c .writing .night .over ≡ false → Ready (next c .writing .night)) → next c .writing .at ≤ length (next c .writing .buffer)
             → Goes (next c) (goesOn part n (next c)))
             → Goes c (cond (o || f) c (goesOn part n (next c)))
         go true e f g more = prints-none (c .writing) (c .writing) _ _ refl refl i refl

@@ -1,6 +1,5 @@
 -- A night's calls of the run entry: parts of the input one after another, each cut at a whole number of blocks or the last, shorter,
--- perhaps empty piece, each with a buffer that has room for a block's lines and is no longer than a slice can be; what a call did not use is
--- handed over again.
+-- perhaps empty piece, each with a buffer that has room for a block's lines; what a call did not use is handed over again.
 -- Assumes nothing.
 use mathlib.Core.Path.{_≡_}
 use mathlib.Core.Bool.{true, false}
@@ -23,7 +22,7 @@ wroteIn at o = take (o .ran .written) (drop at (o .buffer))
 -- calls until the run is over: the bytes left of the input, and all that is written
 pub data Calls : Night → List ℕ → List ℕ → Type 0 where
   done : (n : Night) (left : List ℕ) → n .over ≡ true → Calls n left []
-  call : (n : Night) (left part buffer : List ℕ) (at : ℕ) (more : List ℕ) → n .over ≡ false → MayHand left part → lacksBlockRoom buffer at ≡ false → length buffer < 18446744073709551616
+  call : (n : Night) (left part buffer : List ℕ) (at : ℕ) (more : List ℕ) → n .over ≡ false → MayHand left part → lacksBlockRoom buffer at ≡ false
       → Calls (ranOf n part buffer at .ran .night) (drop (ranOf n part buffer at .ran .used) left) more
       → Calls n left (wroteIn at (ranOf n part buffer at) ++ more)
 
@@ -31,6 +30,6 @@ pub data Calls : Night → List ℕ → List ℕ → Type 0 where
 pub data Ends : Night → List ℕ → Type 0 where
   over : (n : Night) (left : List ℕ) → n .over ≡ true → Ends n left
   calls : (n : Night) (left : List ℕ) → n .over ≡ false
-      → ((part buffer : List ℕ) (at : ℕ) → MayHand left part → lacksBlockRoom buffer at ≡ false → length buffer < 18446744073709551616
+      → ((part buffer : List ℕ) (at : ℕ) → MayHand left part → lacksBlockRoom buffer at ≡ false
       → Ends (ranOf n part buffer at .ran .night) (drop (ranOf n part buffer at .ran .used) left))
       → Ends n left
