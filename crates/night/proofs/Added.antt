@@ -12,7 +12,7 @@ use borrow.Author.Tests.{le-ltb}
 use Rattle.base.specs.Numbers.{done, room}
 use Rattle.listing.specs.Lines.{Line, text, printable}
 use Rattle.listing.specs.Writing.{Outcome, put, lacksRoom, written}
-use Rattle.listing.proofs.Exactness.{put-there}
+use Rattle.listing.proofs.Exactness.{put-before, put-there, put-after}
 use Rattle.listing.proofs.Ports.{text-append}
 use Rattle.listing.proofs.Stores.{sets-append, put-length}
 use Rattle.router.specs.declared.night.Night.{Night}
@@ -103,6 +103,16 @@ pub adds-there : {w v : Writing} {lines : List Line} → Adds w v lines → take
 adds-there {w} {v} {lines} a =
     let n : v .at - w .at ≡ length (text lines) = omega (arith, a .ahead) in
     ap₂ (λ (m : ℕ) (l : List ℕ). take m (drop (w .at) l)) n (a .stands) ∙ put-there (w .buffer) (text lines) (w .at) (a .inside)
+
+-- what lies before and behind it is as it was
+pub adds-around : {w v : Writing} {lines : List Line} → Adds w v lines
+    → (take (w .at) (v .buffer) ≡ take (w .at) (w .buffer)) × (drop (v .at) (v .buffer) ≡ drop (v .at) (w .buffer))
+adds-around {w} {v} {lines} a =
+    let t = text lines in (
+      ap (take (w .at)) (a .stands) ∙ put-before (w .buffer) t (w .at) (a .inside),
+      ap₂ (λ (n : ℕ) (l : List ℕ). drop n l) (a .ahead) (a .stands) ∙ put-after (w .buffer) t (w .at) (a .inside)
+          ∙ ap (λ (n : ℕ). drop n (w .buffer)) (sym (a .ahead)),
+    )
 
 -- From one place to another the lines are printed that were left before and are not left after.
 pub record Prints (w v : Writing) (before after : List Line) : Type 0 where

@@ -3,22 +3,23 @@
 use mathlib.Core.Path.{_≡_, refl, sym, ap, ap₂, subst, _∙_}
 use mathlib.Core.Bool.{Bool, true, false, cond, _&&_, _||_, true≢false}
 use mathlib.Core.List.{List, [], _∷_, _++_}
-use Prim.Native.Nat.{ℕ, _+_, _*_, _≤_, _<_}
+use Prim.Native.Nat.{ℕ, _+_, _-_, _*_, _≤_, _<_}
 use native.Mathlib.Omega.{arith}
 use lib.ListN.{length, take, drop}
 use lib.Seq.{take-all}
+use Rattle.base.specs.Numbers as numbers
 use Rattle.base.proofs.Search.{both}
 use Rattle.trace.specs.Bytes.{AreBytes}
 use Rattle.trace.specs.Place.{goodPlace}
-use Rattle.listing.specs.Lines.{text}
+use Rattle.listing.specs.Lines.{Line, text}
 use Rattle.listing.proofs.Ports.{text-append}
 use Rattle.router.specs.declared.night.Night.{Night}
 use Rattle.router.specs.Night.{stoppedInside, placeRight, nightSound}
-use Rattle.router.specs.Running.{Writing, blockTaken, blockRoom, blocksIn, lacksBlockRoom, Call, goesOn, Outcome, ranOf}
+use Rattle.router.specs.Running.{Writing, blockTaken, blockRoom, blocksIn, lacksBlockRoom, Call, goesOn, Outcome, answered, ranOf}
 use Rattle.router.proofs.RunLaws.{run-goes, configured-ongoing, unconfigured-none}
 use Rattle.night.specs.File.{Printed, fileFrom, cutInto, blocksOf}
 use Rattle.night.specs.Calls.{MayHand, whole, last, wroteIn}
-use Rattle.night.proofs.Added.{Prints, adds-there, prints-as}
+use Rattle.night.proofs.Added.{Adds, adds-length, adds-there, adds-around, Prints, prints-as}
 use Rattle.night.proofs.Left.{leftOf, leftIn}
 use Rattle.night.proofs.Cuts.{whole-blocks, last-block}
 use Rattle.night.proofs.Anywhere.{nowhere}
@@ -46,6 +47,13 @@ module _ (n : Night) (sound : nightSound n ≡ true) (going : n .over ≡ false)
       go false e =
           let z = unconfigured-none n [] [] 0 sound e going in
           record { early = omega (arith, z .0); few = omega (arith, z .1); sound = λ f. absurd (true≢false (sym f ∙ e)); unbegun = λ f. z .1 }
+
+-- A call that is done, and that leaves the buffer before its place and behind what it wrote.
+pub record Keeps (buffer : List ℕ) (at : ℕ) (o : Outcome) : Type 0 where
+  pub number : o .ran .number ≡ numbers.done
+  pub before : take at (o .buffer) ≡ take at buffer
+  pub behind : drop (at + o .ran .written) (o .buffer) ≡ drop (at + o .ran .written) buffer
+  pub long : length (o .buffer) ≡ length buffer
 
 -- one call
 module _ (n : Night) (buffer : List ℕ) (at : ℕ) (sound : nightSound n ≡ true) (going : n .over ≡ false) (room : lacksBlockRoom buffer at ≡ false) where
@@ -101,3 +109,20 @@ module _ (n : Night) (buffer : List ℕ) (at : ℕ) (sound : nightSound n ≡ tr
       let p = call-prints left part bytes hand in
       subst (Writes left more) (run-goes n part buffer at sound room (blocksIn part) refl)
       (λ e. ap₂ _++_ (adds-there (p .adds)) e ∙ sym (text-append (p .lines) _) ∙ ap text (sym (p .same)))
+
+  keeps : (d : Call) (lines : List Line) → Adds handed (d .writing) lines → Keeps buffer at (answered at d)
+  keeps d lines a =
+      let around = adds-around a in
+      let e : at + (d .writing .at - at) ≡ d .writing .at = omega (arith, a .ahead) in
+      record {
+        number = refl;
+        before = around .0;
+        behind = subst (λ (m : ℕ). drop m (d .writing .buffer) ≡ drop m buffer) (sym e) (around .1);
+        long = adds-length a;
+      }
+
+  -- no call of a night is refused, and nothing but what it wrote changes
+  pub call-keeps : (left part : List ℕ) → AreBytes left → MayHand left part → Keeps buffer at (ranOf n part buffer at)
+  call-keeps left part bytes hand =
+      let p = call-prints left part bytes hand in
+      subst (Keeps buffer at) (run-goes n part buffer at sound room (blocksIn part) refl) (keeps (ends part) (p .lines) (p .adds))

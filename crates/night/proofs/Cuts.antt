@@ -1,12 +1,13 @@
 -- The blocks of some bytes: the first block, and the blocks of the rest.
 -- Assumes nothing.
-use mathlib.Core.Path.{_≡_, refl, sym, ap, _∙_}
+use mathlib.Core.Path.{_≡_, refl, sym, ap, subst, _∙_}
 use mathlib.Core.List.{List, [], _∷_}
 use Prim.Native.Nat.{ℕ, zero, suc, _+_, _*_, _≤_, _<_}
 use native.Mathlib.Nat.{not-suc-le-zero}
 use native.Mathlib.Omega.{arith}
 use lib.ListN.{length, take, drop, length-drop}
-use lib.Seq.{length-take-le, take-take}
+use lib.Seq.{length-take-le, take-take, getD-drop}
+use Rattle.trace.specs.Bytes.{AreBytes}
 use Rattle.router.specs.Running.{blocksIn}
 use Rattle.night.specs.File.{cutInto, blocksOf}
 
@@ -51,3 +52,7 @@ whole-blocks k l a b = let e = length-take-le (k * 512) l b in omega (arith, e)
 
 pub last-block : (l : List ℕ) → length l < 512 → blocksIn l ≡ 1
 last-block l h = omega arith
+
+-- the bytes after some bytes are bytes
+pub drop-bytes : (u : ℕ) (l : List ℕ) → AreBytes l → AreBytes (drop u l)
+drop-bytes u l b i = subst (λ (m : ℕ). m < 256) (sym (getD-drop u l i 0)) (b (u + i))

@@ -8,5 +8,6 @@ pub mod CycleLines
 pub mod BlockLines
 pub mod PartLines
 pub mod CallLines
+pub mod Accepting
 pub mod Moves
 pub mod Night

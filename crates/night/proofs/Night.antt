@@ -1,14 +1,13 @@
 -- The theorem of the night: whatever parts a file's bytes are cut into and whatever buffers are handed over, what the calls write, one after
 -- another, is the list of the file.
 -- Assumes nothing.
-use mathlib.Core.Path.{_≡_, refl, sym, ap, subst, _∙_}
+use mathlib.Core.Path.{_≡_, refl, ap, subst, _∙_}
 use mathlib.Core.Bool.{Bool, true, false}
 use mathlib.Core.List.{List, [], _++_}
-use Prim.Native.Nat.{ℕ, zero, suc, _+_, _*_, _<_}
+use Prim.Native.Nat.{ℕ, zero, suc, _*_, _<_}
 use native.Mathlib.Omega.{arith}
 use lib.Dec.{ltb}
 use lib.ListN.{length, take, drop, replicate, length-drop, length-replicate}
-use lib.Seq.{getD-drop}
 use borrow.Author.Tests.{ltb-true, ltb-false}
 use Rattle.trace.specs.Bytes.{AreBytes}
 use Rattle.listing.specs.Lines.{text}
@@ -19,13 +18,11 @@ use Rattle.router.proofs.Going.{piece-bytes}
 use Rattle.night.specs.File.{fileFrom, blocksOf, printedOf, listOf}
 use Rattle.night.specs.Calls.{MayHand, whole, last, wroteIn, Calls, done, call, Ends, over, calls}
 use Rattle.night.proofs.Left.{leftIn, left-all}
+use Rattle.night.proofs.Cuts.{drop-bytes}
 use Rattle.night.proofs.CallLines.{call-writes}
 use Rattle.night.proofs.Moves.{Moves, call-moves}
 
--- the bytes after some bytes are bytes
-drop-bytes : (u : ℕ) (l : List ℕ) → AreBytes l → AreBytes (drop u l)
-drop-bytes u l b i = subst (λ (m : ℕ). m < 256) (sym (getD-drop u l i 0)) (b (u + i))
-
+-- a part handed over is bytes
 part-bytes : (left part : List ℕ) → MayHand left part → AreBytes left → AreBytes part
 part-bytes left _ (whole k a b) bytes = piece-bytes (k * 512) 0 left bytes
 part-bytes left _ (last h) bytes = bytes
