@@ -1,7 +1,7 @@
 -- What a write, or many, add to a buffer: some lines, from the place on, and nothing else changes.
 -- Assumes nothing.
-use mathlib.Core.Path.{_≡_, sym, ap, ap₂, _∙_}
-use mathlib.Core.Bool.{true, false, _||_}
+use mathlib.Core.Path.{_≡_, refl, sym, ap, ap₂, _∙_}
+use mathlib.Core.Bool.{true, false, _&&_, _||_}
 use mathlib.Core.List.{List, [], _++_, append-assoc}
 use Prim.Native.Nat.{ℕ, _+_, _-_, _≤_}
 use native.Mathlib.Nat.{add-zero}
@@ -13,7 +13,7 @@ use Rattle.base.specs.Numbers.{done, room}
 use Rattle.listing.specs.Lines.{Line, text, printable}
 use Rattle.listing.specs.Writing.{Outcome, put, lacksRoom, written}
 use Rattle.listing.proofs.Exactness.{put-before, put-there, put-after}
-use Rattle.listing.proofs.Ports.{text-append}
+use Rattle.listing.proofs.Ports.{text-append, printable-append}
 use Rattle.listing.proofs.Stores.{sets-append, put-length}
 use Rattle.router.specs.declared.night.Night.{Night}
 use Rattle.router.specs.Running.{Writing, wrote, onNight}
@@ -118,17 +118,20 @@ adds-around {w} {v} {lines} a =
 pub record Prints (w v : Writing) (before after : List Line) : Type 0 where
   pub lines : List Line
   pub adds : Adds w v lines
+  pub fine : printable lines ≡ true
   pub same : before ≡ lines ++ after
 
 pub prints-none : (w v : Writing) (before after : List Line) → v .at ≡ w .at → v .buffer ≡ w .buffer → w .at ≤ length (w .buffer) → before ≡ after
     → Prints w v before after
-prints-none w v before after e f h same = record { lines = []; adds = adds-none w v e f h; same = same }
+unfolding printable
+prints-none w v before after e f h same = record { lines = []; adds = adds-none w v e f h; fine = refl; same = same }
 
 pub prints-both : {w v u : Writing} {a b c : List Line} → Prints w v a b → Prints v u b c → Prints w u a c
 prints-both {w} {v} {u} {a} {b} {c} x y =
     record {
       lines = x .lines ++ y .lines;
       adds = adds-both (x .adds) (y .adds);
+      fine = printable-append (x .lines) (y .lines) ∙ ap₂ _&&_ (x .fine) (y .fine);
       same = x .same ∙ ap (λ (l : List Line). x .lines ++ l) (y .same) ∙ sym (append-assoc (x .lines) (y .lines) c);
     }
 
@@ -137,9 +140,13 @@ prints-length x = adds-length (x .adds)
 
 -- the same lines under other names
 pub prints-as : {w v : Writing} {a b c d : List Line} → Prints w v a b → c ≡ a → b ≡ d → Prints w v c d
-prints-as {w} {v} {a} {b} {c} {d} x e f = record { lines = x .lines; adds = x .adds; same = e ∙ x .same ∙ ap (λ (l : List Line). x .lines ++ l) f }
+prints-as {w} {v} {a} {b} {c} {d} x e f = record { lines = x .lines; adds = x .adds; fine = x .fine; same = e ∙ x .same ∙ ap (λ (l : List Line). x .lines ++ l) f }
 
 -- and from the same place of another run
 pub prints-from : (w : Writing) (f : Night → Night) {v : Writing} {a b : List Line} → Prints (onNight f w) v a b → Prints w v a b
 prints-from w f {v} x =
-    record { lines = x .lines; adds = record { ahead = x .adds .ahead; stands = x .adds .stands; inside = x .adds .inside }; same = x .same }
+    record { lines = x .lines; adds = record { ahead = x .adds .ahead; stands = x .adds .stands; inside = x .adds .inside }; fine = x .fine; same = x .same }
+
+-- where the lines left after it are in range, so are those left before it
+pub prints-fine : {w v : Writing} {a b : List Line} → Prints w v a b → printable b ≡ true → printable a ≡ true
+prints-fine {w} {v} {a} {b} x e = ap printable (x .same) ∙ printable-append (x .lines) b ∙ ap₂ _&&_ (x .fine) e

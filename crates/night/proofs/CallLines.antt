@@ -11,7 +11,7 @@ use Rattle.base.specs.Numbers as numbers
 use Rattle.base.proofs.Search.{both}
 use Rattle.trace.specs.Bytes.{AreBytes}
 use Rattle.trace.specs.Place.{goodPlace}
-use Rattle.listing.specs.Lines.{Line, text}
+use Rattle.listing.specs.Lines.{Line, text, printable}
 use Rattle.listing.proofs.Ports.{text-append}
 use Rattle.router.specs.declared.night.Night.{Night}
 use Rattle.router.specs.Night.{stoppedInside, placeRight, nightSound}
@@ -19,7 +19,7 @@ use Rattle.router.specs.Running.{Writing, blockTaken, blockRoom, blocksIn, lack
 use Rattle.router.proofs.RunLaws.{run-goes, configured-ongoing, unconfigured-none}
 use Rattle.night.specs.File.{Printed, fileFrom, cutInto, blocksOf}
 use Rattle.night.specs.Calls.{MayHand, whole, last, wroteIn}
-use Rattle.night.proofs.Added.{Adds, adds-length, adds-there, adds-around, Prints, prints-as}
+use Rattle.night.proofs.Added.{Adds, adds-length, adds-there, adds-around, Prints, prints-as, prints-fine}
 use Rattle.night.proofs.Left.{leftOf, leftIn}
 use Rattle.night.proofs.Cuts.{whole-blocks, last-block}
 use Rattle.night.proofs.Anywhere.{nowhere}
@@ -109,6 +109,15 @@ module _ (n : Night) (buffer : List ℕ) (at : ℕ) (sound : nightSound n ≡ tr
       let p = call-prints left part bytes hand in
       subst (Writes left more) (run-goes n part buffer at sound room (blocksIn part) refl)
       (λ e. ap₂ _++_ (adds-there (p .adds)) e ∙ sym (text-append (p .lines) _) ∙ ap text (sym (p .same)))
+
+  -- and in range, where what is left after it is
+  abbrev Fine : List ℕ → Outcome → Type 0
+  Fine left o =
+      printable (leftIn (o .ran .night) (fileFrom (blocksOf (drop (o .ran .used) left)))) ≡ true → printable (leftIn n (fileFrom (blocksOf left))) ≡ true
+
+  pub call-fine : (left part : List ℕ) → AreBytes left → MayHand left part → Fine left (ranOf n part buffer at)
+  call-fine left part bytes hand =
+      subst (Fine left) (run-goes n part buffer at sound room (blocksIn part) refl) (prints-fine (call-prints left part bytes hand))
 
   keeps : (d : Call) (lines : List Line) → Adds handed (d .writing) lines → Keeps buffer at (answered at d)
   keeps d lines a =

@@ -39,7 +39,7 @@ pub ended-prints : (line : Line) (w : Writing) (rest : Router → Printed) → p
 unfolding endedBy wrote
 ended-prints line w rest fine fit there =
     let a = wrote-adds w finished (line ∷ []) fine (fit fine) there in
-    record { prints = record { lines = line ∷ []; adds = a; same = refl }; short = short-enough a (fit fine) }
+    record { prints = record { lines = line ∷ []; adds = a; fine = fine; same = refl }; short = short-enough a (fit fine) }
 
 module _ (part : List ℕ) (bytes : AreBytes part) (w : Writing) (g : Goes (w .night)) (going : w .night .over ≡ false)
     (there : w .at + room ≤ length (w .buffer)) (rest : Router → Printed) where
@@ -65,6 +65,7 @@ module _ (part : List ℕ) (bytes : AreBytes part) (w : Writing) (g : Goes (w .n
         prints = record {
           lines = lines;
           adds = a;
+          fine = reply-printable s part bytes e;
           same =
               left-after (w .night .flits) lines (rest (x .router))
               ∙ ap (λ (b : Bool). lines ++ cond b [] (leftOf (w .night .flits + flitLines lines) (rest (x .router)))) (sym going);

@@ -1,7 +1,7 @@
 -- The theorem of the night: whatever parts a file's bytes are cut into and whatever buffers are handed over, what the calls write, one after
 -- another, is the list of the file.
 -- Assumes nothing.
-use mathlib.Core.Path.{_≡_, refl, ap, subst, _∙_}
+use mathlib.Core.Path.{_≡_, refl, sym, ap, subst, _∙_}
 use mathlib.Core.Bool.{Bool, true, false}
 use mathlib.Core.List.{List, [], _++_}
 use Prim.Native.Nat.{ℕ, zero, suc, _*_, _<_}
@@ -10,16 +10,16 @@ use lib.Dec.{ltb}
 use lib.ListN.{length, take, drop, replicate, length-drop, length-replicate}
 use borrow.Author.Tests.{ltb-true, ltb-false}
 use Rattle.trace.specs.Bytes.{AreBytes}
-use Rattle.listing.specs.Lines.{text}
+use Rattle.listing.specs.Lines.{text, printable}
 use Rattle.router.specs.declared.night.Night.{Night}
 use Rattle.router.specs.Night.{started, nightSound}
 use Rattle.router.specs.Running.{blockRoom, lacksBlockRoom, Outcome, ranOf}
 use Rattle.router.proofs.Going.{piece-bytes}
-use Rattle.night.specs.File.{fileFrom, blocksOf, printedOf, listOf}
+use Rattle.night.specs.File.{fileFrom, blocksOf, linesOf, printedOf, listOf}
 use Rattle.night.specs.Calls.{MayHand, whole, last, wroteIn, Calls, done, call, Ends, over, calls}
 use Rattle.night.proofs.Left.{leftIn, left-all}
 use Rattle.night.proofs.Cuts.{drop-bytes}
-use Rattle.night.proofs.CallLines.{call-writes}
+use Rattle.night.proofs.CallLines.{call-writes, call-fine}
 use Rattle.night.proofs.Moves.{Moves, call-moves}
 
 -- a part handed over is bytes
@@ -91,3 +91,17 @@ module _
   -- so the list of every file is written by some calls, and by the first theorem nothing else is
   pub list-written : (bytes : List ℕ) → AreBytes bytes → Calls started bytes (listOf bytes)
   list-written bytes are = let c = calls-made started bytes (night-ends bytes are) in subst (Calls started bytes) (night bytes are (c .0) (c .1)) (c .1)
+
+  -- all that the calls of a run print is in range
+  calls-fine : (n : Night) (left out : List ℕ) → Calls n left out → nightSound n ≡ true → AreBytes left → printable (leftIn n (fileFrom (blocksOf left))) ≡ true
+  unfolding printable
+  calls-fine n left _ (done _ _ e) sound bytes = rw e
+  calls-fine n left _ (call _ _ part buffer at more going hand room later) sound bytes =
+      call-fine n buffer at sound going room left part bytes hand
+      (calls-fine (ranOf n part buffer at .ran .night) (drop (ranOf n part buffer at .ran .used) left) more later
+      (run-kept n part buffer at (part-bytes left part hand bytes) sound) (drop-bytes (ranOf n part buffer at .ran .used) left bytes))
+
+  -- "Range: ..": every value of every line of a file's list
+  pub list-in-range : (bytes : List ℕ) → AreBytes bytes → printable (linesOf (printedOf bytes)) ≡ true
+  unfolding started printedOf
+  list-in-range bytes are = ap printable (sym (left-all (printedOf bytes))) ∙ calls-fine started bytes (listOf bytes) (list-written bytes are) started-sound are
