@@ -8,7 +8,6 @@ use Prim.Native.Nat.{ℕ, _+_, _*_, _≤_}
 use native.Mathlib.Nat.{add-zero}
 use native.Mathlib.Omega.{arith}
 use lib.ListN.{length}
-use Rattle.base.specs.Numbers.{room}
 use Rattle.state.specs.declared.Router.{Router}
 use Rattle.state.specs.Fresh.{freshRouter}
 use Rattle.state.specs.Sound.{Sound}
@@ -61,8 +60,7 @@ module _ (block : List ℕ) (bytes : AreBytes block) (w : Writing) (ready : Read
           goes-ready (after .night) (goes-anywhere after (k .0)) (k .1)
 
   pub block-ready : blockTaken block w .night .over ≡ false → Ready (blockTaken block w .night)
-  block-ready =
-      subst (λ (n : Night). n .over ≡ false → Ready n) (sym (block-night block w)) ready-anywhere
+  block-ready = subst (λ (n : Night). n .over ≡ false → Ready n) (sym (block-night block w)) ready-anywhere
 
   module _ (going : w .night .over ≡ false) (there : w .at + blockRoom ≤ length (w .buffer)) (rest : Place → Router → Printed) where
     abbrev p : Place

@@ -95,8 +95,12 @@ cycles-print block bytes rest (suc n) k w g there = go (w .night .over) refl (λ
     go : (o : Bool) → w .night .over ≡ o
         → ((u : Writing) → Goes (u .night) → u .at + room * n ≤ length (u .buffer)
         → Prints u (cyclesFrom block (k + 1) n u) (leftFrom (u .night) (cyclesThen rest block (k + 1) n)) (leftFrom (cyclesFrom block (k + 1) n u .night) rest))
-        → Prints w (cond o w (cyclesFrom block (k + 1) n (cycled (partAt block k) w))) (cond o [] (leftOf (w .night .flits) (cyclesThen rest block k (suc n) (w .night .router)))) (leftFrom (cond o w (cyclesFrom block (k + 1) n (cycled (partAt block k) w)) .night) rest)
-    go true e more = prints-none w w [] (leftFrom (w .night) rest) refl refl (omega arith) (ap (λ (b : Bool). cond b [] (leftOf (w .night .flits) (rest (w .night .router)))) (sym e))
+        → Prints w (cond o w (cyclesFrom block (k + 1) n (cycled (partAt block k) w)))
+        (cond o [] (leftOf (w .night .flits) (cyclesThen rest block k (suc n) (w .night .router))))
+        (leftFrom (cond o w (cyclesFrom block (k + 1) n (cycled (partAt block k) w)) .night) rest)
+    go true e more =
+        prints-none w w [] (leftFrom (w .night) rest) refl refl (omega arith)
+        (ap (λ (b : Bool). cond b [] (leftOf (w .night .flits) (rest (w .night .router)))) (sym e))
     go false e more =
         let c = cycle-prints (partAt block k) piece w g e (omega (arith, there)) (cyclesThen rest block (k + 1) n) in
         let l = prints-length (c .prints) in

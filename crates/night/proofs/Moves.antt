@@ -1,4 +1,4 @@
--- A call moves on: it uses at least a block of what is left, or it ends the run where nothing is left; so a night ends.
+-- A call moves on: it uses at least the first block of what is left, or ends the run where nothing is left. A run that is over stays.
 -- Assumes nothing.
 use mathlib.Core.Path.{_≡_, refl, sym, ap, ap₂, subst, _∙_}
 use mathlib.Core.Bool.{Bool, true, false, cond, _||_}
@@ -8,11 +8,14 @@ use native.Mathlib.Nat.{le-refl}
 use native.Mathlib.Omega.{arith}
 use lib.ListN.{length, take, drop, length-take, length-drop}
 use lib.Seq.{length-take-le}
+use Rattle.base.specs.Numbers.{done}
+use Rattle.trace.specs.Blocks.{blockLength}
 use Rattle.trace.specs.Place.{goodPlace}
 use Rattle.trace.specs.Judged.{noMore, accepted, refused}
 use Rattle.router.specs.declared.night.Night.{Night}
 use Rattle.router.specs.Night.{nightSound}
 use Rattle.router.specs.Running.{Writing, wrote, endedBy, byOutcome, blockTaken, blocksIn, blockAt, lacksBlockRoom, Call, goesOn, Outcome, answered, ranOf}
+use Rattle.router.proofs.Onward.{goes-over}
 use Rattle.router.proofs.RunLaws.{run-goes}
 use Rattle.night.specs.Calls.{MayHand, whole, last}
 use Rattle.night.proofs.PartLines.{end-judged}
@@ -23,7 +26,9 @@ pub end-over : (w : Writing) → goodPlace (w .night .place) (w .night .router .
 unfolding blockTaken endedBy wrote
 end-over w g = rw (end-judged (w .night .place) (w .night .router .cycle) g) (go (w .night .place .ended))
   where
-    go : (b : Bool) → byOutcome (cond b (accepted noMore (w .night .place)) (refused 9 0 (w .night .place)) .read) (cond b (accepted noMore (w .night .place)) (refused 9 0 (w .night .place))) [] w .night .over ≡ true
+    go : (b : Bool)
+        → byOutcome (cond b (accepted noMore (w .night .place)) (refused 9 0 (w .night .place)) .read)
+        (cond b (accepted noMore (w .night .place)) (refused 9 0 (w .night .place))) [] w .night .over ≡ true
     go true = refl
     go false = refl
 
@@ -60,10 +65,10 @@ module _ (part : List ℕ) where
   unfolding goesOn
   first-used n c e f = subst (λ (b : Bool). next c .used ≤ cond b c (goesOn part n (next c)) .used) (sym (ap₂ _||_ e f)) (used-on n (next c))
 
--- A call uses no more than is left, some of it where there is some, and ends the run where there is none.
+-- A call uses no more than is left, at least the first block of it, and ends the run where nothing is left.
 pub record Moves (left : List ℕ) (o : Outcome) : Type 0 where
   pub most : o .ran .used ≤ length left
-  pub some : 1 ≤ length left → 1 ≤ o .ran .used
+  pub least : length (take blockLength left) ≤ o .ran .used
   pub over : length left ≡ 0 → o .ran .night .over ≡ true
 
 module _ (n : Night) (buffer : List ℕ) (at : ℕ) (sound : nightSound n ≡ true) (going : n .over ≡ false) (room : lacksBlockRoom buffer at ≡ false) where
@@ -73,12 +78,11 @@ module _ (n : Night) (buffer : List ℕ) (at : ℕ) (sound : nightSound n ≡ tr
   abbrev after : List ℕ → Call
   after part = goesOn part (blocksIn part) began
 
-  goes-some : (part : List ℕ) → 1 ≤ length part → 1 ≤ after part .used
-  goes-some part h =
+  goes-first : (part : List ℕ) → length (take 512 part) ≤ after part .used
+  goes-first part =
       let e : blocksIn part ≡ suc ((length part - 1) / 512) = omega arith in
       let l = first-used part ((length part - 1) / 512) began going room in
-      let k = length-take 512 part in
-      subst (λ (m : ℕ). 1 ≤ goesOn part m began .used) (sym e) (omega (arith, l, k, h))
+      subst (λ (m : ℕ). length (take 512 part) ≤ goesOn part m began .used) (sym e) (omega (arith, l))
 
   last-over : (left : List ℕ) → length left ≡ 0 → length left < 512 → after left .writing .night .over ≡ true
   last-over [] e h = ap (λ (c : Call). c .writing .night .over) (sym (last-goes n buffer at sound going room [] h)) ∙ end-over (began .writing) (good-place n sound going)
@@ -90,11 +94,20 @@ module _ (n : Night) (buffer : List ℕ) (at : ℕ) (sound : nightSound n ≡ tr
       let l : length part ≡ k * 512 = length-take-le (k * 512) left b in
       record {
         most = omega (arith, used-inside part (blocksIn part) began (omega arith), l, b);
-        some = λ h. goes-some part (omega (arith, l, a));
+        least = omega (arith, goes-first part, length-take 512 part, length-take 512 left, l, a, b);
         over = λ e. absurd (omega (arith, a, b, e));
       }
   goes-moves left _ (last h) =
-      record { most = used-inside left (blocksIn left) began (omega arith); some = goes-some left; over = λ e. last-over left e h }
+      record { most = used-inside left (blocksIn left) began (omega arith); least = goes-first left; over = λ e. last-over left e h }
 
   pub call-moves : (left part : List ℕ) → MayHand left part → Moves left (ranOf n part buffer at)
   call-moves left part hand = subst (Moves left) (run-goes n part buffer at sound room (blocksIn part) refl) (goes-moves left part hand)
+
+-- a call of a run that is over uses nothing and writes nothing
+pub over-stays : (n : Night) (part buffer : List ℕ) (at : ℕ) → nightSound n ≡ true → n .over ≡ true → lacksBlockRoom buffer at ≡ false
+    → ranOf n part buffer at ≡ record { ran = record { number = done; night = n; used = 0; written = 0 }; buffer = buffer }
+over-stays n part buffer at sound o room =
+    let start : Call = record { used = 0; writing = record { night = n; at = at; buffer = buffer } } in
+    let none : at - at ≡ 0 = omega arith in
+    sym (run-goes n part buffer at sound room (blocksIn part) refl) ∙ ap (answered at) (goes-over part (blocksIn part) start o)
+    ∙ ap (λ (m : ℕ). record { ran = record { number = done; night = n; used = 0; written = m }; buffer = buffer }) none

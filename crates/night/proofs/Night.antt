@@ -7,7 +7,7 @@ use mathlib.Core.List.{List, [], _++_}
 use Prim.Native.Nat.{ℕ, zero, suc, _*_, _<_}
 use native.Mathlib.Omega.{arith}
 use lib.Dec.{ltb}
-use lib.ListN.{length, take, drop, replicate, length-drop, length-replicate}
+use lib.ListN.{length, take, drop, replicate, length-take, length-drop, length-replicate}
 use borrow.Author.Tests.{ltb-true, ltb-false}
 use Rattle.trace.specs.Bytes.{AreBytes}
 use Rattle.listing.specs.Lines.{text, printable}
@@ -33,7 +33,7 @@ after-call : (left : List ℕ) (o : Outcome) → Moves left o → (length (drop 
 after-call left o m more = go (ltb 0 (length left)) refl
   where
     go : (b : Bool) → ltb 0 (length left) ≡ b → Ends (o .ran .night) (drop (o .ran .used) left)
-    go true e = let l = ltb-true 0 (length left) e in more (omega (arith, l, m .some l, length-drop (o .ran .used) left))
+    go true e = more (omega (arith, ltb-true 0 (length left) e, m .least, length-take 512 left, length-drop (o .ran .used) left))
     go false e = over (o .ran .night) (drop (o .ran .used) left) (m .over (omega (arith, ltb-false 0 (length left) e)))
 
 -- a caller can go on to the end: there is a part to hand over, and a buffer

@@ -86,12 +86,12 @@ module _ (left : List ℕ) (bytes : AreBytes left) where
     abbrev next : Call → Call
     next c = record { used = c .used + length (block c); writing = blockTaken (block c) (c .writing) }
 
-    abbrev Goes : Call → Call → Type 0
-    Goes c d = Prints (c .writing) (d .writing) (leftIn (c .writing .night) (from (c .used))) (leftIn (d .writing .night) (from (d .used)))
+    abbrev On : Call → Call → Type 0
+    On c d = Prints (c .writing) (d .writing) (leftIn (c .writing .night) (from (c .used))) (leftIn (d .writing .night) (from (d .used)))
 
     -- the blocks of a part that is cut at byte m
     pub goes-print : (n : ℕ) (c : Call) → c .used + n * 512 ≤ m → (c .writing .night .over ≡ false → Ready (c .writing .night))
-        → c .writing .at ≤ length (c .writing .buffer) → Goes c (goesOn part n c)
+        → c .writing .at ≤ length (c .writing .buffer) → On c (goesOn part n c)
     unfolding goesOn
     goes-print zero c fits ready i = prints-none (c .writing) (c .writing) _ _ refl refl i refl
     goes-print (suc n) c fits ready i =
@@ -108,8 +108,8 @@ module _ (left : List ℕ) (bytes : AreBytes left) where
 
         go : (o : Bool) → c .writing .night .over ≡ o → (f : Bool) → lacksBlockRoom (c .writing .buffer) (c .writing .at) ≡ f
             → (next c .used + n * 512 ≤ m → (next c .writing .night .over ≡ false → Ready (next c .writing .night)) → next c .writing .at ≤ length (next c .writing .buffer)
-            → Goes (next c) (goesOn part n (next c)))
-            → Goes c (cond (o || f) c (goesOn part n (next c)))
+            → On (next c) (goesOn part n (next c)))
+            → On c (cond (o || f) c (goesOn part n (next c)))
         go true e f g more = prints-none (c .writing) (c .writing) _ _ refl refl i refl
         go false e true g more = prints-none (c .writing) (c .writing) _ _ refl refl i refl
         go false e false g more =
