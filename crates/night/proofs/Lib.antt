@@ -10,4 +10,6 @@ pub mod PartLines
 pub mod CallLines
 pub mod Accepting
 pub mod Moves
+pub mod Standing
+pub mod Kept
 pub mod Night

@@ -1,0 +1,246 @@
+-- A call of the run entry hands a run that a file can lead to back as one, so that 2 never comes between calls.
+-- Assumes nothing.
+use mathlib.Core.Path.{_≡_, refl, sym, ap, ap₂, subst, _∙_}
+use mathlib.Core.Bool.{Bool, true, false, cond, not, _&&_, _||_, true≢false}
+use mathlib.Core.List.{List}
+use mathlib.Core.Option.{Option, some, none}
+use Prim.Native.Nat.{ℕ, zero, suc, _+_, _-_, _*_, _≤_, _<_}
+use native.Mathlib.Nat.{add-zero, zero-add}
+use native.Mathlib.Omega.{arith}
+use lib.Dec.{eqb, leb}
+use lib.ListN.{length}
+use borrow.Author.Tests.{le-leb, leb-true, eqb-true, ne-eqb}
+use Rattle.base.specs.Numbers as numbers
+use Rattle.base.specs.Sizes.{cycleLimit}
+use Rattle.base.proofs.Configurations.{legal-exact}
+use Rattle.base.proofs.Search.{both}
+use Rattle.state.specs.Fresh.{freshRouter}
+use Rattle.state.specs.Sound.{sound}
+use Rattle.state.proofs.Exact.{sound-passes, passed-sound}
+use Rattle.state.proofs.FreshIsSound.{fresh-is-sound}
+use Rattle.trace.specs.Bytes.{AreBytes}
+use Rattle.trace.specs.declared.place.Place.{Place}
+use Rattle.trace.specs.Blocks.{kindOf, heldOf, configOf, blockLength}
+use Rattle.trace.specs.Place.{goodPlace}
+use Rattle.trace.specs.Judged.{Read, aConfiguration, someCycles, theEnd, noMore, Outcome, accepted, nextPlace, readOf, taken, judged}
+use Rattle.trace.specs.Way.{cyclesIn}
+use Rattle.trace.proofs.Exactness.{accepted-taken}
+use Rattle.trace.proofs.Found.{FoundAs, refuses, configures, holds, ends, is-over, found-as}
+use Rattle.trace.proofs.Places.{Good, nothing, after, good-is}
+use Rattle.trace.proofs.Ways.{accepted-leads-on}
+use Rattle.router.specs.declared.night.Night.{Night}
+use Rattle.router.specs.Night.{started, before, within, stoppedInside, placeRight, nightSound}
+use Rattle.router.specs.Running.{Writing, wrote, onNight, withPlace, withRouter, finished, endedBy, cyclesFrom, byOutcome, blockTaken, blocksIn, blockAt, lacksBlockRoom, Call, goesOn, refusedWith, answered, ranOf}
+use Rattle.router.proofs.Going.{sound-cycle, piece-bytes}
+use Rattle.night.proofs.Standing.{Stands, Ran, through, stopped, cycles-ran}
+
+-- before the first block of a file
+pub started-sound : nightSound started ≡ true
+unfolding nightSound started placeRight goodPlace freshRouter
+started-sound = refl
+
+-- the clauses behind the place, after the configuration block and before it
+abbrev behind : Bool → Night → Bool
+behind configured n = cond configured (sound (n .router) && leb (n .flits) (n .router .config .ports * n .router .cycle)) (eqb (n .flits) 0)
+
+record Led (n : Night) : Type 0 where
+  right : placeRight (n .place) (n .router .cycle) (n .over) ≡ true
+  rest : behind (n .place .configured) n ≡ true
+
+led-is : (n : Night) → nightSound n ≡ true → Led n
+unfolding nightSound
+led-is n e = let b = both (placeRight (n .place) (n .router .cycle) (n .over)) (behind (n .place .configured) n) e in record { right = b .0; rest = b .1 }
+
+led-holds : (n : Night) → Led n → nightSound n ≡ true
+unfolding nightSound
+led-holds n l = ap₂ _&&_ (l .right) (l .rest)
+
+-- a good place is right, whether the run is over or not; of a run that goes on no other is
+good-right : (p : Place) (c : ℕ) (over : Bool) → goodPlace p c ≡ true → placeRight p c over ≡ true
+unfolding placeRight
+good-right p c over e = rw e
+
+right-good : (p : Place) (c : ℕ) (over : Bool) → over ≡ false → placeRight p c over ≡ true → goodPlace p c ≡ true
+unfolding placeRight
+right-good p c over o e = go (goodPlace p c) (ap (λ (b : Bool). goodPlace p c || (b && stoppedInside p c)) (sym o) ∙ e)
+  where
+    go : (b : Bool) → (b || false) ≡ true → b ≡ true
+    go true f = refl
+    go false f = f
+
+-- of two tests the second suffices
+or-else : (a : Bool) {b : Bool} → b ≡ true → (a || b) ≡ true
+or-else true e = refl
+or-else false e = e
+
+-- a run that stopped after j accepted cycles of a block that was taken at q with c cycles
+within-found : (q : Place) (c : ℕ) → goodPlace q c ≡ true → (n j : ℕ) → j < n → within n q (c + j) ≡ true
+unfolding within
+within-found q c g (suc n) zero l = rw (add-zero c, g)
+within-found q c g (suc n) (suc j) l =
+    let one : 1 ≤ c + suc j = omega arith in
+    let less : c + suc j - 1 ≡ c + j = omega arith in
+    or-else (goodPlace q (c + suc j)) (ap₂ _&&_ (le-leb 1 (c + suc j) one) (ap (within n q) less ∙ within-found q c g n j (omega arith)))
+
+-- after it the test says where the run stands, and no more
+stands-led : (q : Place) (c : ℕ) (n : Night) → Stands q c n → q .configured ≡ true → placeRight q c (n .over) ≡ true → Led n
+stands-led q c n s k r =
+    record {
+      right = ap₂ (λ (p : Place) (m : ℕ). placeRight p m (n .over)) (s .place) (s .cycle) ∙ r;
+      rest =
+          ap (λ (p : Place). behind (p .configured) n) (s .place) ∙ ap (λ (b : Bool). behind b n) k
+          ∙ ap₂ _&&_ (sound-passes (n .router) (s .sound)) (le-leb (n .flits) (n .router .config .ports * n .router .cycle) (s .few));
+    }
+
+led-stands : (n : Night) → Led n → n .place .configured ≡ true → Stands (n .place) (n .router .cycle) n
+led-stands n l k =
+    let b = both (sound (n .router)) (leb (n .flits) (n .router .config .ports * n .router .cycle))
+    (ap (λ (b : Bool). behind b n) (sym k) ∙ l .rest) in
+    record { place = refl; sound = passed-sound (n .router) (b .0); few = leb-true (n .flits) (n .router .config .ports * n .router .cycle) (b .1); cycle = refl }
+
+abbrev holdsCycles : Option Read → Bool
+holdsCycles none = false
+holdsCycles (some (aConfiguration k)) = false
+holdsCycles (some (someCycles h)) = true
+holdsCycles (some theEnd) = false
+holdsCycles (some noMore) = false
+
+-- a block that holds cycles
+module _ (p : Place) (l : List ℕ) where
+  cycles-kind : holdsCycles (taken p l .read) ≡ true → (p .ended ≡ false) × (kindOf l ≡ 2)
+  unfolding taken readOf
+  cycles-kind e = go (p .ended) refl (eqb (kindOf l) 1) (eqb (kindOf l) 2) refl e
+    where
+      go : (b : Bool) → p .ended ≡ b → (x y : Bool) → eqb (kindOf l) 2 ≡ y
+          → holdsCycles (cond b (accepted noMore p) (accepted (cond x (aConfiguration (configOf l)) (cond y (someCycles (heldOf l)) theEnd)) (nextPlace p l)) .read) ≡ true
+          → (p .ended ≡ false) × (kindOf l ≡ 2)
+      go true f x y g e = absurd (true≢false (sym e))
+      go false f true y g e = absurd (true≢false (sym e))
+      go false f false true g e = (f, eqb-true (kindOf l) 2 g)
+      go false f false false g e = absurd (true≢false (sym e))
+
+  module _ (k : p .configured ≡ true) (e : p .ended ≡ false) (f : kindOf l ≡ 2) where
+    goes-on : eqb (kindOf l) 3 ≡ false
+    goes-on = ne-eqb (kindOf l) 3 (λ g. absurd (omega arith))
+
+    -- the place before the next one is the one where it was taken
+    before-next : before (nextPlace p l) ≡ p
+    before-next =
+        let number : p .number + 1 - 1 ≡ p .number = omega arith in
+        λ t. record { number = number t; configured = sym k t; ended = (goes-on ∙ sym e) t }
+
+    -- so that a run which stopped in the block is at a right place
+    stopped-right : (c j : ℕ) → goodPlace p c ≡ true → j ≤ 6 → placeRight (nextPlace p l) (c + j) true ≡ true
+    unfolding placeRight stoppedInside
+    stopped-right c j g m =
+        or-else (goodPlace (nextPlace p l) (c + j))
+        (ap₂ _&&_ (le-leb 1 (p .number + 1) (omega arith))
+        (ap₂ _&&_ (ap not goes-on) (ap (λ (q : Place). within 7 q (c + j)) before-next ∙ within-found p c g 7 j (omega arith))))
+
+-- a block of a run that is not over
+module _ (block : List ℕ) (bytes : AreBytes block) (w : Writing) (o : w .night .over ≡ false) (led : Led (w .night)) where
+  abbrev n : Night
+  n = w .night
+
+  abbrev p : Place
+  p = w .night .place
+
+  abbrev c : ℕ
+  c = w .night .router .cycle
+
+  good : goodPlace p c ≡ true
+  good = right-good p c (n .over) o (led .right)
+
+  finished-led : Led (finished n)
+  finished-led = record { right = good-right p c true good; rest = led .rest }
+
+  -- the place after an accepted block, with the cycles that it holds added
+  leads : (r : Outcome) → judged p c block ≡ r → r .number ≡ numbers.done → c + cyclesIn (r .read) ≤ cycleLimit → goodPlace (r .place) (c + cyclesIn (r .read)) ≡ true
+  leads r e d =
+      subst (λ (r : Outcome). c + cyclesIn (r .read) ≤ cycleLimit → goodPlace (r .place) (c + cyclesIn (r .read)) ≡ true) e
+      (accepted-leads-on p c block good (ap (λ (r : Outcome). r .number) e ∙ d))
+
+  -- before the configuration block
+  none-yet : p .configured ≡ false → (c ≡ 0) × (n .flits ≡ 0)
+  none-yet k = (go (good-is p c good), eqb-true (n .flits) 0 (ap (λ (b : Bool). behind b n) (sym k) ∙ led .rest))
+    where
+      go : Good p c → c ≡ 0
+      go (nothing a b d z) = z
+      go (after m a d h) = absurd (true≢false (sym a ∙ k))
+
+  abbrev q : Place
+  q = nextPlace p block
+
+  -- a block with cycles, whether all were accepted or one was refused
+  module _ (h : ℕ) (k : p .configured ≡ true) (e : judged p c block ≡ accepted (someCycles h) q) where
+    ran-led : (m : Night) → Ran q c h m → Led m
+    ran-led m (through f s) =
+        let y = sound-cycle (s .sound) in
+        let x = s .cycle in
+        stands-led q (c + h) m s refl (good-right q (c + h) (m .over) (leads (accepted (someCycles h) q) e refl (omega (arith, x, y))))
+    ran-led m (stopped j l f s) =
+        let is = ap (λ (r : Outcome). r .number) e in
+        let kind = cycles-kind p block (ap (λ (r : Outcome). holdsCycles (r .read)) (sym (accepted-taken p c block is) ∙ e)) in
+        stands-led q (c + j) m s refl
+        (ap (λ (b : Bool). placeRight q (c + j) b) f ∙ stopped-right p block k (kind .0) (kind .1) c j good l)
+
+    held-led : h ≤ 7 → Led (cyclesFrom block 0 h (onNight (withPlace q) w) .night)
+    held-led most =
+        let s = led-stands n led k in
+        ran-led (cyclesFrom block 0 h (onNight (withPlace q) w) .night)
+        (subst (λ (m : ℕ). Ran q c m (cyclesFrom block 0 h (onNight (withPlace q) w) .night)) (zero-add h)
+        (cycles-ran block bytes q c h 0 (onNight (withPlace q) w) (omega arith) o
+        (record { place = refl; sound = s .sound; few = s .few; cycle = sym (add-zero c) })))
+
+  found-led : (r : Outcome) → judged p c block ≡ r → FoundAs p c block r → Led (byOutcome (r .read) r block w .night)
+  unfolding endedBy wrote freshRouter
+  found-led _ e (refuses m k) = finished-led
+  found-led _ e (configures a b) =
+      let z = none-yet a in
+      let limit : c + 0 ≤ cycleLimit = let y = z .0 in omega (arith, y) in
+      let same : c + 0 ≡ 0 = let y = z .0 in omega (arith, y) in
+      stands-led q 0 (withRouter (freshRouter (configOf block)) (withPlace q n))
+      (record { place = refl; sound = fresh-is-sound (configOf block) (legal-exact (configOf block) .0 b); few = let y = z .1 in omega (arith, y); cycle = refl }) refl
+      (good-right q 0 (n .over) (ap (goodPlace q) (sym same) ∙ leads (accepted (aConfiguration (configOf block)) q) e refl limit))
+  found-led _ e (holds a l h) = held-led (heldOf block) a e h
+  found-led _ e (ends a) =
+      let s = led-stands n led a in
+      let limit : c + 0 ≤ cycleLimit = let y = sound-cycle (s .sound) in omega (arith, y) in
+      stands-led q (c + 0) (withPlace q n)
+      (record { place = refl; sound = s .sound; few = s .few; cycle = sym (add-zero c) }) refl
+      (good-right q (c + 0) (n .over) (leads (accepted theEnd q) e refl limit))
+  found-led _ e (is-over a) = finished-led
+
+  block-led : Led (blockTaken block w .night)
+  unfolding blockTaken
+  block-led = found-led (judged p c block) refl (found-as p c block)
+
+-- block after block
+goes-led : (part : List ℕ) → AreBytes part → (n : ℕ) (c : Call) → Led (c .writing .night) → Led (goesOn part n c .writing .night)
+unfolding goesOn
+goes-led part bytes zero c led = led
+goes-led part bytes (suc n) c led = either (c .writing .night .over) refl (lacksBlockRoom (c .writing .buffer) (c .writing .at)) (λ o.
+    goes-led part bytes n following (block-led (blockAt part (c .used)) (piece-bytes blockLength (c .used) part bytes) (c .writing) o led))
+  where
+    following : Call
+    following = record { used = c .used + length (blockAt part (c .used)); writing = blockTaken (blockAt part (c .used)) (c .writing) }
+
+    either : (b : Bool) → c .writing .night .over ≡ b → (full : Bool)
+        → (c .writing .night .over ≡ false → Led (goesOn part n following .writing .night))
+        → Led (cond (b || full) c (goesOn part n following) .writing .night)
+    either true o full rest = led
+    either false o true rest = led
+    either false o false rest = rest o
+
+-- 2, 11 or block after block: the run stays one that a file can lead to
+pub run-kept : (n : Night) (part buffer : List ℕ) (at : ℕ) → AreBytes part → nightSound n ≡ true → nightSound (ranOf n part buffer at .ran .night) ≡ true
+unfolding ranOf
+run-kept n part buffer at bytes e = go (nightSound n) (lacksBlockRoom buffer at)
+  where
+    call : Call
+    call = goesOn part (blocksIn part) (record { used = 0; writing = record { night = n; at = at; buffer = buffer } })
+
+    go : (right full : Bool) → nightSound (cond (not right) (refusedWith numbers.notSound n buffer) (cond full (refusedWith numbers.noRoom n buffer) (answered at call)) .ran .night) ≡ true
+    go false full = e
+    go true true = e
+    go true false = led-holds (call .writing .night) (goes-led part bytes (blocksIn part) _ (led-is n e))
