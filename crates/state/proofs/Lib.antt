@@ -1,3 +1,4 @@
+pub mod Blank
 pub mod PortArbiters
 pub mod Clauses
 pub mod EmptySlots

@@ -1,3 +1,4 @@
+pub mod Blank
 pub mod Channels
 pub mod Fresh
 pub mod Sound

@@ -7,6 +7,7 @@ use arbiter::Wide;
 use base::Config;
 
 mod arbitration;
+mod blankness;
 mod building;
 mod channels;
 mod flits;
@@ -16,6 +17,7 @@ mod packets;
 mod soundness;
 mod store;
 
+pub use blankness::is_blank;
 pub use building::Built;
 pub use building::fresh;
 pub use soundness::is_sound;
