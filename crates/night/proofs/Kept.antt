@@ -14,8 +14,10 @@ use Rattle.base.specs.Numbers as numbers
 use Rattle.base.specs.Sizes.{cycleLimit}
 use Rattle.base.proofs.Configurations.{legal-exact}
 use Rattle.base.proofs.Search.{both}
-use Rattle.state.specs.Fresh.{freshRouter}
+use Rattle.state.specs.Blank.{blank}
+use Rattle.state.specs.Fresh.{noConfig, freshRouter}
 use Rattle.state.specs.Sound.{sound}
+use Rattle.state.proofs.Blank.{blank-exactly}
 use Rattle.state.proofs.Exact.{sound-passes, passed-sound}
 use Rattle.state.proofs.FreshIsSound.{fresh-is-sound}
 use Rattle.trace.specs.Bytes.{AreBytes}
@@ -37,11 +39,11 @@ use Rattle.night.proofs.Standing.{Stands, Ran, through, stopped, cycles
 -- before the first block of a file
 pub started-sound : nightSound started ≡ true
 unfolding nightSound started placeRight goodPlace freshRouter
-started-sound = refl
+started-sound = ap₂ _&&_ (blank-exactly (freshRouter noConfig) .1 refl) refl
 
 -- the clauses behind the place, after the configuration block and before it
 abbrev behind : Bool → Night → Bool
-behind configured n = cond configured (sound (n .router) && leb (n .flits) (n .router .config .ports * n .router .cycle)) (eqb (n .flits) 0)
+behind configured n = cond configured (sound (n .router) && leb (n .flits) (n .router .config .ports * n .router .cycle)) (blank (n .router) && eqb (n .flits) 0)
 
 record Led (n : Night) : Type 0 where
   right : placeRight (n .place) (n .router .cycle) (n .over) ≡ true
@@ -72,6 +74,28 @@ right-good p c over o e = go (goodPlace p c) (ap (λ (b : Bool). goodPlace p c |
 or-else : (a : Bool) {b : Bool} → b ≡ true → (a || b) ≡ true
 or-else true e = refl
 or-else false e = e
+
+-- before the configuration block one run goes on: the one that a file starts with
+pub unconfigured-started : (n : Night) → nightSound n ≡ true → n .place .configured ≡ false → n .over ≡ false → n ≡ started
+unfolding started
+unconfigured-started n e k o = go (good-is (n .place) (n .router .cycle) (right-good (n .place) (n .router .cycle) (n .over) o (l .right)))
+  where
+    l : Led n
+    l = led-is n e
+
+    rest : (blank (n .router) ≡ true) × (eqb (n .flits) 0 ≡ true)
+    rest = both (blank (n .router)) (eqb (n .flits) 0) (ap (λ (b : Bool). behind b n) (sym k) ∙ l .rest)
+
+    go : Good (n .place) (n .router .cycle) → n ≡ started
+    go (nothing a b d z) =
+        λ t.
+        record {
+          router = blank-exactly (n .router) .0 (rest .0) t;
+          place = record { number = d t; configured = a t; ended = b t };
+          flits = eqb-true (n .flits) 0 (rest .1) t;
+          over = o t;
+        }
+    go (after m a d h) = absurd (true≢false (sym a ∙ k))
 
 -- a run that stopped after j accepted cycles of a block that was taken at q with c cycles
 within-found : (q : Place) (c : ℕ) → goodPlace q c ≡ true → (n j : ℕ) → j < n → within n q (c + j) ≡ true
@@ -162,7 +186,7 @@ module _ (block : List ℕ) (bytes : AreBytes block) (w : Writing) (o : w .night
 
   -- before the configuration block
   none-yet : p .configured ≡ false → (c ≡ 0) × (n .flits ≡ 0)
-  none-yet k = (go (good-is p c good), eqb-true (n .flits) 0 (ap (λ (b : Bool). behind b n) (sym k) ∙ led .rest))
+  none-yet k = (go (good-is p c good), eqb-true (n .flits) 0 (both (blank (n .router)) (eqb (n .flits) 0) (ap (λ (b : Bool). behind b n) (sym k) ∙ led .rest) .1))
     where
       go : Good p c → c ≡ 0
       go (nothing a b d z) = z

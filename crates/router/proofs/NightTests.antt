@@ -7,6 +7,7 @@ use native.Mathlib.Nat.{mul-le-mul}
 use native.Mathlib.Omega.{arith}
 use lib.Dec.{eqb, leb}
 use borrow.Author.Tests.{le-leb}
+use Rattle.state.specs.Blank.{blank}
 use Rattle.state.specs.Sound.{sound}
 use Rattle.trace.specs.declared.place.Place.{Place}
 use Rattle.trace.specs.Place.{goodPlace}
@@ -72,9 +73,13 @@ module _ (n : Night) where
   unfolding nightSound
   night-lost e = rw e
 
-  pub night-unconfigured : right ≡ true → n .place .configured ≡ false → eqb (n .flits) 0 ≡ nightSound n
+  pub night-unblank : right ≡ true → n .place .configured ≡ false → blank (n .router) ≡ false → false ≡ nightSound n
   unfolding nightSound
-  night-unconfigured e f = rw (e, f)
+  night-unblank e f g = rw (e, f, g)
+
+  pub night-unconfigured : right ≡ true → n .place .configured ≡ false → blank (n .router) ≡ true → eqb (n .flits) 0 ≡ nightSound n
+  unfolding nightSound
+  night-unconfigured e f g = rw (e, f, g)
 
   pub night-unsound : right ≡ true → n .place .configured ≡ true → sound (n .router) ≡ false → false ≡ nightSound n
   unfolding nightSound

@@ -15,6 +15,7 @@ use Rattle.base.specs.Sizes.{illegalField}
 use Rattle.base.proofs.Configurations.{legal-exact}
 use Rattle.base.proofs.Search.{both, neither}
 use Rattle.state.specs.declared.Router.{Router}
+use Rattle.state.specs.Blank.{blank}
 use Rattle.state.specs.Fresh.{freshRouter}
 use Rattle.state.specs.Sound.{sound, Sound}
 use Rattle.state.proofs.Exact.{passed-sound}
@@ -57,9 +58,9 @@ module _ (n : Night) (part buffer : List ℕ) (at : ℕ) where
   unfolding nightSound
   configured-ongoing e f w =
       let r = both (placeRight (n .place) (n .router .cycle) (n .over))
-      (cond (n .place .configured) (sound (n .router) && leb (n .flits) (n .router .config .ports * n .router .cycle)) (eqb (n .flits) 0)) e .1 in
+      (cond (n .place .configured) (sound (n .router) && leb (n .flits) (n .router .config .ports * n .router .cycle)) (blank (n .router) && eqb (n .flits) 0)) e .1 in
       let b = both (sound (n .router)) (leb (n .flits) (n .router .config .ports * n .router .cycle))
-      (ap (λ (x : Bool). cond x (sound (n .router) && leb (n .flits) (n .router .config .ports * n .router .cycle)) (eqb (n .flits) 0)) (sym f) ∙ r) in
+      (ap (λ (x : Bool). cond x (sound (n .router) && leb (n .flits) (n .router .config .ports * n .router .cycle)) (blank (n .router) && eqb (n .flits) 0)) (sym f) ∙ r) in
       let s = passed-sound (n .router) (b .0) in
       λ o. (
         record {
@@ -88,8 +89,9 @@ module _ (n : Night) (part buffer : List ℕ) (at : ℕ) where
   unfolding nightSound
   no-flits e f =
       eqb-true (n .flits) 0
-      (ap (λ (x : Bool). cond x (sound (n .router) && leb (n .flits) (n .router .config .ports * n .router .cycle)) (eqb (n .flits) 0)) (sym f)
-      ∙ both (placeRight p (n .router .cycle) (n .over)) _ e .1)
+      (both (blank (n .router)) (eqb (n .flits) 0)
+      (ap (λ (x : Bool). cond x (sound (n .router) && leb (n .flits) (n .router .config .ports * n .router .cycle)) (blank (n .router) && eqb (n .flits) 0)) (sym f)
+      ∙ both (placeRight p (n .router .cycle) (n .over)) _ e .1) .1)
 
   good-place : nightSound n ≡ true → n .over ≡ false → goodPlace p (n .router .cycle) ≡ true
   unfolding nightSound placeRight

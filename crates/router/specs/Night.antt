@@ -3,6 +3,7 @@
 use mathlib.Core.Bool.{Bool, false, cond, not, _&&_, _||_}
 use Prim.Native.Nat.{ℕ, zero, suc, _-_, _*_}
 use lib.Dec.{eqb, leb}
+use Rattle.state.specs.Blank.{blank}
 use Rattle.state.specs.Fresh.{noConfig, freshRouter}
 use Rattle.state.specs.Sound.{sound}
 use Rattle.trace.specs.declared.place.Place.{Place}
@@ -32,8 +33,9 @@ unfoldable pub placeRight : Place → ℕ → Bool → Bool
 placeRight p c over = goodPlace p c || (over && stoppedInside p c)
 
 -- A run that no file can lead to is 2. After the configuration block the router is sound, and at most one flit has left by each output in
--- each cycle; before it there is no router and no flit.
+-- each cycle; before it there is no router, so that all of it is zero, and no flit.
 unfoldable pub nightSound : Night → Bool
 nightSound n =
     placeRight (n .place) (n .router .cycle) (n .over)
-    && cond (n .place .configured) (sound (n .router) && leb (n .flits) (n .router .config .ports * n .router .cycle)) (eqb (n .flits) 0)
+    && cond (n .place .configured) (sound (n .router) && leb (n .flits) (n .router .config .ports * n .router .cycle))
+    (blank (n .router) && eqb (n .flits) 0)

@@ -91,6 +91,9 @@ pub(crate) fn is_sound(night: Night) -> bool
         return false;
     }
     if !place.configured {
+        if !state::is_blank(router) {
+            return false;
+        }
         return night.flits == 0;
     }
     if !state::is_sound(router) {
