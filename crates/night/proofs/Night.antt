@@ -21,6 +21,7 @@ use Rattle.night.proofs.Left.{leftIn, left-all}
 use Rattle.night.proofs.Cuts.{drop-bytes}
 use Rattle.night.proofs.CallLines.{call-writes, call-fine}
 use Rattle.night.proofs.Moves.{Moves, call-moves}
+use Rattle.night.proofs.Kept.{started-sound, run-kept}
 
 -- a part handed over is bytes
 part-bytes : (left part : List ℕ) → MayHand left part → AreBytes left → AreBytes part
@@ -57,51 +58,48 @@ calls-made n left (calls _ _ e f) =
     let rest = calls-made _ _ (f (p .0) buffer 0 (p .1) (some-room buffer long)) in
     (wroteIn 0 (ranOf n (p .0) buffer 0) ++ rest .0, call n left (p .0) buffer 0 (rest .0) e (p .1) (some-room buffer long) (rest .1))
 
-module _
-    (run-kept : (n : Night) (part buffer : List ℕ) (at : ℕ) → AreBytes part → nightSound n ≡ true → nightSound (ranOf n part buffer at .ran .night) ≡ true)
-    (started-sound : nightSound started ≡ true) where
-  -- what the calls of a run write is what is left of it to print
-  calls-print : (n : Night) (left out : List ℕ) → Calls n left out → nightSound n ≡ true → AreBytes left → out ≡ text (leftIn n (fileFrom (blocksOf left)))
-  unfolding text
-  calls-print n left _ (done _ _ e) sound bytes = rw e
-  calls-print n left _ (call _ _ part buffer at more going hand room later) sound bytes =
-      call-writes n buffer at sound going room left part more bytes hand
-      (calls-print (ranOf n part buffer at .ran .night) (drop (ranOf n part buffer at .ran .used) left) more later
-      (run-kept n part buffer at (part-bytes left part hand bytes) sound) (drop-bytes (ranOf n part buffer at .ran .used) left bytes))
+-- what the calls of a run write is what is left of it to print
+calls-print : (n : Night) (left out : List ℕ) → Calls n left out → nightSound n ≡ true → AreBytes left → out ≡ text (leftIn n (fileFrom (blocksOf left)))
+unfolding text
+calls-print n left _ (done _ _ e) sound bytes = rw e
+calls-print n left _ (call _ _ part buffer at more going hand room later) sound bytes =
+    call-writes n buffer at sound going room left part more bytes hand
+    (calls-print (ranOf n part buffer at .ran .night) (drop (ranOf n part buffer at .ran .used) left) more later
+    (run-kept n part buffer at (part-bytes left part hand bytes) sound) (drop-bytes (ranOf n part buffer at .ran .used) left bytes))
 
-  pub night : (bytes : List ℕ) → AreBytes bytes → (out : List ℕ) → Calls started bytes out → out ≡ listOf bytes
-  unfolding started listOf printedOf
-  night bytes are out made = calls-print started bytes out made started-sound are ∙ ap text (left-all (printedOf bytes))
+pub night : (bytes : List ℕ) → AreBytes bytes → (out : List ℕ) → Calls started bytes out → out ≡ listOf bytes
+unfolding started listOf printedOf
+night bytes are out made = calls-print started bytes out made started-sound are ∙ ap text (left-all (printedOf bytes))
 
-  -- each call leaves less, or ends the run
-  ends : (k : ℕ) (n : Night) (left : List ℕ) → length left < k → nightSound n ≡ true → AreBytes left → Ends n left
-  ends zero n left h sound bytes = absurd (omega arith)
-  ends (suc k) n left h sound bytes = go (n .over) refl (λ m l g s b. ends k m l g s b)
-    where
-      go : (o : Bool) → n .over ≡ o → ((m : Night) (l : List ℕ) → length l < k → nightSound m ≡ true → AreBytes l → Ends m l) → Ends n left
-      go true e more = over n left e
-      go false e more =
-          calls n left e
-          (λ part buffer at hand room. after-call left (ranOf n part buffer at) (call-moves n buffer at sound e room left part hand)
-          (λ less. more _ _ (omega (arith, less, h)) (run-kept n part buffer at (part-bytes left part hand bytes) sound) (drop-bytes (ranOf n part buffer at .ran .used) left bytes)))
+-- each call leaves less, or ends the run
+ends : (k : ℕ) (n : Night) (left : List ℕ) → length left < k → nightSound n ≡ true → AreBytes left → Ends n left
+ends zero n left h sound bytes = absurd (omega arith)
+ends (suc k) n left h sound bytes = go (n .over) refl (λ m l g s b. ends k m l g s b)
+  where
+    go : (o : Bool) → n .over ≡ o → ((m : Night) (l : List ℕ) → length l < k → nightSound m ≡ true → AreBytes l → Ends m l) → Ends n left
+    go true e more = over n left e
+    go false e more =
+        calls n left e
+        (λ part buffer at hand room. after-call left (ranOf n part buffer at) (call-moves n buffer at sound e room left part hand)
+        (λ less. more _ _ (omega (arith, less, h)) (run-kept n part buffer at (part-bytes left part hand bytes) sound) (drop-bytes (ranOf n part buffer at .ran .used) left bytes)))
 
-  pub night-ends : (bytes : List ℕ) → AreBytes bytes → Ends started bytes
-  night-ends bytes are = ends (suc (length bytes)) started bytes (omega arith) started-sound are
+pub night-ends : (bytes : List ℕ) → AreBytes bytes → Ends started bytes
+night-ends bytes are = ends (suc (length bytes)) started bytes (omega arith) started-sound are
 
-  -- so the list of every file is written by some calls, and by the first theorem nothing else is
-  pub list-written : (bytes : List ℕ) → AreBytes bytes → Calls started bytes (listOf bytes)
-  list-written bytes are = let c = calls-made started bytes (night-ends bytes are) in subst (Calls started bytes) (night bytes are (c .0) (c .1)) (c .1)
+-- so the list of every file is written by some calls, and by the first theorem nothing else is
+pub list-written : (bytes : List ℕ) → AreBytes bytes → Calls started bytes (listOf bytes)
+list-written bytes are = let c = calls-made started bytes (night-ends bytes are) in subst (Calls started bytes) (night bytes are (c .0) (c .1)) (c .1)
 
-  -- all that the calls of a run print is in range
-  calls-fine : (n : Night) (left out : List ℕ) → Calls n left out → nightSound n ≡ true → AreBytes left → printable (leftIn n (fileFrom (blocksOf left))) ≡ true
-  unfolding printable
-  calls-fine n left _ (done _ _ e) sound bytes = rw e
-  calls-fine n left _ (call _ _ part buffer at more going hand room later) sound bytes =
-      call-fine n buffer at sound going room left part bytes hand
-      (calls-fine (ranOf n part buffer at .ran .night) (drop (ranOf n part buffer at .ran .used) left) more later
-      (run-kept n part buffer at (part-bytes left part hand bytes) sound) (drop-bytes (ranOf n part buffer at .ran .used) left bytes))
+-- all that the calls of a run print is in range
+calls-fine : (n : Night) (left out : List ℕ) → Calls n left out → nightSound n ≡ true → AreBytes left → printable (leftIn n (fileFrom (blocksOf left))) ≡ true
+unfolding printable
+calls-fine n left _ (done _ _ e) sound bytes = rw e
+calls-fine n left _ (call _ _ part buffer at more going hand room later) sound bytes =
+    call-fine n buffer at sound going room left part bytes hand
+    (calls-fine (ranOf n part buffer at .ran .night) (drop (ranOf n part buffer at .ran .used) left) more later
+    (run-kept n part buffer at (part-bytes left part hand bytes) sound) (drop-bytes (ranOf n part buffer at .ran .used) left bytes))
 
-  -- "Range: ..": every value of every line of a file's list
-  pub list-in-range : (bytes : List ℕ) → AreBytes bytes → printable (linesOf (printedOf bytes)) ≡ true
-  unfolding started printedOf
-  list-in-range bytes are = ap printable (sym (left-all (printedOf bytes))) ∙ calls-fine started bytes (listOf bytes) (list-written bytes are) started-sound are
+-- "Range: ..": every value of every line of a file's list
+pub list-in-range : (bytes : List ℕ) → AreBytes bytes → printable (linesOf (printedOf bytes)) ≡ true
+unfolding started printedOf
+list-in-range bytes are = ap printable (sym (left-all (printedOf bytes))) ∙ calls-fine started bytes (listOf bytes) (list-written bytes are) started-sound are
