@@ -19,21 +19,26 @@ pub some-number : (n : ℕ) → (n ≡ 0 → ⊥) → 1 ≤ n
 some-number zero e = absurd (e refl)
 some-number (suc n) e = omega arith
 
-module _ (p : Place) where
-  -- no block was read
-  pub none-inside : (c : ℕ) → p .number ≡ 0 → false ≡ stoppedInside p c
+module _ (p : Place) (c : ℕ) where
+  -- no cycle comes before the configuration block
+  pub early-inside : p .configured ≡ false → false ≡ stoppedInside p c
   unfolding stoppedInside
-  none-inside c e = rw e
+  early-inside k = rw k
 
-  pub ended-inside : (c : ℕ) → 1 ≤ p .number → p .ended ≡ true → false ≡ stoppedInside p c
+  -- no block was read
+  pub none-inside : p .configured ≡ true → p .number ≡ 0 → false ≡ stoppedInside p c
   unfolding stoppedInside
-  ended-inside c l e = rw (le-leb 1 (p .number) l, e)
+  none-inside k e = rw (k, e)
+
+  pub ended-inside : p .configured ≡ true → 1 ≤ p .number → p .ended ≡ true → false ≡ stoppedInside p c
+  unfolding stoppedInside
+  ended-inside k l e = rw (k, le-leb 1 (p .number) l, e)
 
   -- the search for the cycles before the last block
-  pub search-all : (c : ℕ) → 1 ≤ p .number → p .ended ≡ false
+  pub search-all : p .configured ≡ true → 1 ≤ p .number → p .ended ≡ false
       → within 7 (record { number = p .number - 1; configured = p .configured; ended = false }) c ≡ stoppedInside p c
   unfolding stoppedInside
-  search-all c l e = rw (le-leb 1 (p .number) l, e)
+  search-all k l e = rw (k, le-leb 1 (p .number) l, e)
 
 module _ (q : Place) where
   pub search-none : (n c : ℕ) → n ≡ 0 → false ≡ within n q c

@@ -24,9 +24,10 @@ unfoldable pub within : ℕ → Place → ℕ → Bool
 within zero q c = false
 within (suc n) q c = goodPlace q c || (leb 1 c && within n q (c - 1))
 
--- The run stopped in the last block at a cycle that was refused: of at most 7 cycles at most 6 were accepted.
+-- The run stopped in the last block at a cycle that was refused: it comes after the configuration block, and of at most 7 cycles at most
+-- 6 were accepted.
 unfoldable pub stoppedInside : Place → ℕ → Bool
-stoppedInside p c = leb 1 (p .number) && (not (p .ended) && within 7 (before p) c)
+stoppedInside p c = p .configured && (leb 1 (p .number) && (not (p .ended) && within 7 (before p) c))
 
 -- some file leads to this place with so many cycles accepted
 unfoldable pub placeRight : Place → ℕ → Bool → Bool

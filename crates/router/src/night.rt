@@ -42,6 +42,9 @@ impl Night {
 fn is_inside(place: Place, cycles: u64) -> bool
     ensures { λ r. ⌜ r ≡ stoppedInside place cycles ⌝ }
 {
+    if !place.configured {
+        return false;
+    }
     if place.number == 0 {
         return false;
     }
