@@ -28,7 +28,7 @@ use Rattle.trace.specs.Bytes.{bigEndian, zeros}
 use Rattle.trace.specs.Check.{sum, checkOf, checkHolds}
 use Rattle.trace.specs.Blocks.{bodyEnd}
 use Rattle.trace.specs.Place.{mayHold, goodPlace}
-use Rattle.trace.specs.Rules.{placeUnsound, blockShort, checkWrong, kindWrong, numberWrong, countWrong, unusedWrong, orderWrong, totalWrong, formWrong, blockWrong, fieldWrong}
+use Rattle.trace.specs.Rules.{placeUnsound, blockShort, checkWrong, kindWrong, numberWrong, countWrong, unusedWrong, orderWrong, totalWrong, formWrong, bytesFollow, blockWrong, fieldWrong}
 use Rattle.trace.specs.Judged.{readOf, taken, byField}
 use Rattle.trace.specs.Judged as trace
 use Rattle.listing.specs.Digits.{glyph, decimalWithin, decimal, lastDigits, hex}
@@ -82,3 +82,13 @@ line7 = 69 ∷ 32 ∷ 54 ∷ 32 ∷ 52 ∷ 10 ∷ []
 pub listing-printed : listOf listing ≡ line0 ++ line1 ++ line2 ++ line3 ++ line4 ++ line5 ++ line6 ++ line7
 unfolding xor firstFrom every orElse inRange firstIllegal illegalField flitOf kindOf destinationOf payloadOf startsKind endsKind nextInTurn pointerAfter blankFrom arbiter.known arbiter.usable arbiter.choice arbiter.moved arbiter.after arbiter.fresh arbiter.sound queueAt places wireOf homeOf flat total isNone all configurationLegal cyclesFit creditsWhole creditsAddUp legalFlit wirePlaceLegal wireLegal homeLegal queuesLegal outputCreditsFit namesAgree arbitersSound reading reads packetsRead channelsUnused slotsEmpty lineUnused arbitersUnused shaped clauses sound frontOf pushed movedUp popped overPorts rowZero noOffer legalOffer rowLegal advanced sendersPaid reported creditsReached outputsPaid creditsReturned landings landed offers offersTaken asks freeVc grantOf bindings wideMoved narrowMoved allocated isReady inputPick request outputPick switched winner departures leavingOf runFull rowWrong creditPastRoom outOfTurn noSenderCredit firstOf judged takenIn sentOut routerAfter replyOf stepOf freshRouter bigEndian zeros sum checkOf checkHolds bodyEnd mayHold goodPlace placeUnsound blockShort checkWrong kindWrong numberWrong countWrong unusedWrong orderWrong totalWrong formWrong blockWrong fieldWrong readOf taken byField trace.judged cyclesThen fileFrom cutInto printedOf listOf glyph decimalWithin decimal lastDigits hex spaced print text byPort creditLine flitLine cycleLines flitLines letterOf
 listing-printed = refl
+
+-- "input ends before the end block": an empty file is `R 9 0 0`
+pub nothing-printed : listOf [] ≡ 82 ∷ 32 ∷ 57 ∷ 32 ∷ 48 ∷ 32 ∷ 48 ∷ 10 ∷ []
+unfolding xor firstFrom every orElse inRange firstIllegal illegalField flitOf kindOf destinationOf payloadOf startsKind endsKind nextInTurn pointerAfter blankFrom arbiter.known arbiter.usable arbiter.choice arbiter.moved arbiter.after arbiter.fresh arbiter.sound queueAt places wireOf homeOf flat total isNone all configurationLegal cyclesFit creditsWhole creditsAddUp legalFlit wirePlaceLegal wireLegal homeLegal queuesLegal outputCreditsFit namesAgree arbitersSound reading reads packetsRead channelsUnused slotsEmpty lineUnused arbitersUnused shaped clauses sound frontOf pushed movedUp popped overPorts rowZero noOffer legalOffer rowLegal advanced sendersPaid reported creditsReached outputsPaid creditsReturned landings landed offers offersTaken asks freeVc grantOf bindings wideMoved narrowMoved allocated isReady inputPick request outputPick switched winner departures leavingOf runFull rowWrong creditPastRoom outOfTurn noSenderCredit firstOf judged takenIn sentOut routerAfter replyOf stepOf freshRouter bigEndian zeros sum checkOf checkHolds bodyEnd mayHold goodPlace placeUnsound blockShort checkWrong kindWrong numberWrong countWrong unusedWrong orderWrong totalWrong formWrong blockWrong fieldWrong readOf taken byField trace.judged cyclesThen fileFrom cutInto printedOf listOf glyph decimalWithin decimal lastDigits hex spaced print text byPort creditLine flitLine cycleLines flitLines letterOf
+nothing-printed = refl
+
+-- "Any byte after the end block, however few follow, gives 8.": `R 8 6 0` in place of the E line
+pub byte-after-printed : listOf (listing ++ 0 ∷ []) ≡ line0 ++ line1 ++ line2 ++ line3 ++ line4 ++ line5 ++ line6 ++ (82 ∷ 32 ∷ 56 ∷ 32 ∷ 54 ∷ 32 ∷ 48 ∷ 10 ∷ [])
+unfolding xor firstFrom every orElse inRange firstIllegal illegalField flitOf kindOf destinationOf payloadOf startsKind endsKind nextInTurn pointerAfter blankFrom arbiter.known arbiter.usable arbiter.choice arbiter.moved arbiter.after arbiter.fresh arbiter.sound queueAt places wireOf homeOf flat total isNone all configurationLegal cyclesFit creditsWhole creditsAddUp legalFlit wirePlaceLegal wireLegal homeLegal queuesLegal outputCreditsFit namesAgree arbitersSound reading reads packetsRead channelsUnused slotsEmpty lineUnused arbitersUnused shaped clauses sound frontOf pushed movedUp popped overPorts rowZero noOffer legalOffer rowLegal advanced sendersPaid reported creditsReached outputsPaid creditsReturned landings landed offers offersTaken asks freeVc grantOf bindings wideMoved narrowMoved allocated isReady inputPick request outputPick switched winner departures leavingOf runFull rowWrong creditPastRoom outOfTurn noSenderCredit firstOf judged takenIn sentOut routerAfter replyOf stepOf freshRouter bigEndian zeros sum checkOf checkHolds bodyEnd mayHold goodPlace placeUnsound blockShort checkWrong kindWrong numberWrong countWrong unusedWrong orderWrong totalWrong formWrong bytesFollow blockWrong fieldWrong readOf taken byField trace.judged cyclesThen fileFrom cutInto printedOf listOf glyph decimalWithin decimal lastDigits hex spaced print text byPort creditLine flitLine cycleLines flitLines letterOf
+byte-after-printed = refl

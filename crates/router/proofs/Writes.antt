@@ -2,11 +2,10 @@
 -- Assumes nothing.
 use mathlib.Core.Path.{_≡_, refl, sym, ap, ap₂, subst, _∙_}
 use mathlib.Core.Bool.{Bool, true, false, cond, not}
-use mathlib.Core.List.{List, [], _∷_, _++_}
+use mathlib.Core.List.{List, [], _∷_}
 use Prim.Native.Nat.{ℕ, _+_, _-_, _≤_, _<_}
 use native.Mathlib.Omega.{arith}
-use lib.ListN.{length, take, drop, length-append, length-drop}
-use lib.Seq.{length-take-le}
+use lib.ListN.{length}
 use Rattle.base.specs.Numbers.{done, noRoom, outOfRange, room}
 use Rattle.listing.specs.declared.Written.{Written}
 use Rattle.listing.specs.declared.Written.the-variants.{Lines, NoRoom, OutOfRange}
@@ -15,6 +14,7 @@ use Rattle.listing.specs.Writing.{Outcome, put, lacksRoom, refusedWith, written
 use Rattle.listing.proofs.Ports.{text-one}
 use Rattle.listing.proofs.Lengths.{finish-length, refusal-length}
 use Rattle.listing.proofs.Outcomes.{room-there}
+use Rattle.listing.proofs.Stores.{put-length}
 use Rattle.router.specs.Running.{Writing, wrote}
 use Rattle.router.specs.Inside.{Within}
 
@@ -40,14 +40,6 @@ module _ (b : List ℕ) (at : ℕ) (lines : List Line) (fit : Fitting lines) whe
   abbrev Fits : Outcome → Type 0
   Fits o = (at + o .bytes ≤ length b) × (length (o .buffer) ≡ length b)
 
-  put-length : at + length (text lines) ≤ length b → length (put b at (text lines)) ≡ length b
-  unfolding put
-  put-length l =
-      let y = length-append (take at b) (text lines) in
-      let z = length-take-le at b (omega arith) in
-      let u = length-drop (at + length (text lines)) b in
-      length-append (take at b ++ text lines) (drop (at + length (text lines)) b) ∙ omega (arith, y, z, u, l)
-
   refused-fits : at ≤ length b → (number : ℕ) → Fits (refusedWith number b)
   refused-fits l number = (omega arith, refl)
 
@@ -61,7 +53,7 @@ module _ (b : List ℕ) (at : ℕ) (lines : List Line) (fit : Fitting lines) whe
       go : (p : Bool) → printable lines ≡ p → (q : Bool) → lacksRoom b at ≡ q
           → Fits (cond p (cond q (refusedWith noRoom b) (record { number = done; bytes = length (text lines); buffer = put b at (text lines) })) (refusedWith outOfRange b))
       go true e true f = refused-fits l noRoom
-      go true e false f = (laid e f, put-length (laid e f))
+      go true e false f = (laid e f, put-length b (text lines) at (laid e f))
       go false e q f = refused-fits l outOfRange
 
 -- the place after a write is inside the buffer after it

@@ -88,7 +88,8 @@ byOutcome none o block w = endedBy (refusal (o .number) (w .night .router .cycle
 byOutcome (some r) o block w = byRead r block (onNight (withPlace (o .place)) w)
 
 unfoldable pub blockTaken : List ℕ → Writing → Writing
-blockTaken block w = byOutcome (judged (w .night .place) (w .night .router .cycle) block .read) (judged (w .night .place) (w .night .router .cycle) block) block w
+blockTaken block w =
+    byOutcome (judged (w .night .place) (w .night .router .cycle) block .read) (judged (w .night .place) (w .night .router .cycle) block) block w
 
 -- The blocks of a part handed over: 512 bytes each, the last perhaps shorter; an empty part is one empty block, the end of the input.
 abbrev pub blocksIn : List ℕ → ℕ
