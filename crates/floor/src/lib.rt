@@ -8,4 +8,5 @@ pub use input::Filled;
 pub use input::fill;
 pub use output::put;
 pub use passing::Passed;
+pub use passing::hand;
 pub use passing::pass;

@@ -1,6 +1,8 @@
 // Handing a part over to the run entry and writing its lines.
 use crate::output;
 use router::Night;
+ghost use Prim.Native.Nat.{_≤_};
+ghost use lib.ListN.{length};
 
 // The run after a part, or that its list could not be written on.
 pub struct Passed {
@@ -41,4 +43,47 @@ pub fn pass(night: Night, part: &[u8], out: &mut [u8], to: i32) -> Passed {
         night: run,
         failed: true,
     }
+}
+
+// The last piece, behind the whole blocks, where the buffer is not full: then the input has ended.
+fn finish(passed: Passed, buf: &[u8], from: usize, bytes: usize, out: &mut [u8], to: i32) -> Passed
+    requires { ⌜ (from ≤ bytes) × (bytes ≤ length (now buf)) ⌝ }
+{
+    if passed.failed {
+        return passed;
+    }
+    if bytes == buf.len() {
+        return passed;
+    }
+    let night = passed.night;
+    if night.over {
+        return passed;
+    }
+    pass(night, &buf[from..bytes], out, to)
+}
+
+// Hands over what was read: the whole blocks, and then the last, shorter, perhaps empty piece.
+pub fn hand(night: Night, buf: &[u8], bytes: usize, out: &mut [u8], to: i32) -> Passed {
+    if buf.len() < bytes {
+        return Passed {
+            night,
+            failed: true,
+        };
+    }
+    let whole = bytes / 512 * 512;
+    if whole == 0 {
+        return finish(
+            Passed {
+                night,
+                failed: false,
+            },
+            buf,
+            0,
+            bytes,
+            out,
+            to,
+        );
+    }
+    let passed = pass(night, &buf[0..whole], out, to);
+    finish(passed, buf, whole, bytes, out, to)
 }

@@ -5,7 +5,6 @@ use mathlib.Core.Bool.{xor}
 use mathlib.Core.List.{List, [], _∷_, _++_}
 use Prim.Native.Nat.{ℕ, _-_}
 use lib.ListN.{length, replicate}
-use Rattle.base.specs.declared.flit.Flit.{Flit}
 use Rattle.base.specs.Flit.{flitOf, kindOf, destinationOf, payloadOf, startsKind, endsKind, letterOf}
 use Rattle.base.specs.Search.{firstFrom, every, orElse}
 use Rattle.base.specs.Sizes.{inRange, firstIllegal, illegalField}

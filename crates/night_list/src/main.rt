@@ -16,7 +16,7 @@ fn main() {
             messages::read_failed();
             return;
         }
-        let passed = floor::pass(night, &buf[..filled.bytes], &mut out, libc::STDOUT_FILENO);
+        let passed = floor::hand(night, &buf, filled.bytes, &mut out, libc::STDOUT_FILENO);
         if passed.failed {
             messages::write_failed();
             return;

@@ -1,11 +1,10 @@
 -- One cycle of a run, and the cycles of a block one after another.
 -- Assumes nothing.
 use mathlib.Core.Path.{_≡_, refl, sym, ap, _∙_}
-use mathlib.Core.Bool.{Bool, true, false, cond, _&&_}
-use mathlib.Core.List.{List, [], _∷_}
+use mathlib.Core.Bool.{true, false}
+use mathlib.Core.List.{List}
 use Prim.Native.Nat.{ℕ, zero, suc, _+_, _-_, _≤_, _<_}
 use native.Mathlib.Omega.{arith}
-use lib.Dec.{leb, ltb}
 use lib.ListN.{length}
 use borrow.Author.Tests.{le-leb, lt-ltb}
 use Rattle.base.specs.declared.config.Config.{Config}
@@ -24,7 +23,7 @@ use Rattle.rules.specs.Step.{stepOf}
 use Rattle.rules.proofs.Exactness.{refused-leaves}
 use Rattle.router.specs.declared.acting.Parts.{Parts}
 use Rattle.router.specs.declared.running.Went.{Went}
-use Rattle.router.specs.Running.{Writing, endedBy, byVerdict, cycled, partAt, cyclesFrom}
+use Rattle.router.specs.Running.{Writing, endedBy, cycled, partAt, cyclesFrom}
 use Rattle.router.specs.Inside.{writingOf}
 use Rattle.router.specs.Whole.{routerOf}
 use Rattle.router.proofs.Writes.{wrote-is}

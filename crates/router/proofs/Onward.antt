@@ -1,6 +1,6 @@
 -- Block after block of a part: when a call stops, when it goes on, and that its place only moves on.
 -- Assumes nothing.
-use mathlib.Core.Path.{_≡_, refl, sym, ap, ap₂, _∙_}
+use mathlib.Core.Path.{_≡_, refl, ap, _∙_}
 use mathlib.Core.Bool.{Bool, true, false, cond, _||_}
 use mathlib.Core.List.{List, [], _∷_}
 use mathlib.Core.Option.{Option, some, none}
@@ -13,7 +13,7 @@ use Rattle.listing.specs.Lines.{Line}
 use Rattle.rules.specs.declared.Verdict.{Verdict}
 use Rattle.rules.specs.declared.Verdict.the-variants.{Accepted, Refused}
 use Rattle.rules.specs.Step.{stepOf}
-use Rattle.router.specs.Running.{Writing, wrote, onNight, endedBy, byVerdict, cycled, partAt, cyclesFrom, byOutcome, blockTaken, blockAt, lacksBlockRoom, Call, goesOn}
+use Rattle.router.specs.Running.{Writing, wrote, endedBy, byVerdict, cycled, partAt, cyclesFrom, byOutcome, blockTaken, blockAt, lacksBlockRoom, Call, goesOn}
 
 module _ (part : List ℕ) (n : ℕ) (c : Call) where
   abbrev next : Call

@@ -1,23 +1,19 @@
 -- A call of the run entry: refused with 2, with 11, or block after block; and what the test of a run gives.
 -- Assumes nothing.
-use mathlib.Core.Path.{_≡_, refl, sym, ap, subst, _∙_}
+use mathlib.Core.Path.{_≡_, refl, sym, ap, _∙_}
 use mathlib.Core.Bool.{Bool, true, false, cond, not, _&&_, _||_, true≢false}
 use mathlib.Core.List.{List}
-use mathlib.Core.Option.{none}
-use Prim.Native.Nat.{ℕ, _+_, _-_, _*_, _≤_, _<_}
+use Prim.Native.Nat.{ℕ, _-_, _*_, _≤_, _<_}
 use native.Mathlib.Nat.{mul-le-mul-right}
 use native.Mathlib.Omega.{arith}
 use lib.Dec.{eqb, leb, ltb}
 use lib.ListN.{length}
-use borrow.Author.Tests.{ltb-false, leb-true, eqb-true, not-false, not-true}
+use borrow.Author.Tests.{ltb-false, leb-true, eqb-true}
 use Rattle.base.specs.Numbers.{notSound, noRoom}
-use Rattle.base.specs.Sizes.{illegalField}
 use Rattle.base.proofs.Configurations.{legal-exact}
 use Rattle.base.proofs.Search.{both, neither}
-use Rattle.state.specs.declared.Router.{Router}
 use Rattle.state.specs.Blank.{blank}
-use Rattle.state.specs.Fresh.{freshRouter}
-use Rattle.state.specs.Sound.{sound, Sound}
+use Rattle.state.specs.Sound.{sound}
 use Rattle.state.proofs.Exact.{passed-sound}
 use Rattle.state.proofs.FreshIsSound.{fresh-is-sound}
 use Rattle.trace.specs.declared.place.Place.{Place}
@@ -27,10 +23,9 @@ use Rattle.trace.specs.Judged.{Outcome, judged}
 use Rattle.trace.proofs.Found.{FoundAs, refuses, configures, holds, ends, is-over, found-as}
 use Rattle.router.specs.declared.night.Night.{Night}
 use Rattle.router.specs.Night.{stoppedInside, placeRight, nightSound}
-use Rattle.router.specs.Running.{Writing, wrote, onNight, finished, endedBy, byOutcome, blockTaken, lacksBlockRoom, blocksIn, Call, goesOn, refusedWith, answered, ranOf}
-use Rattle.router.specs.Inside.{Within, GoesOn, Ongoing}
+use Rattle.router.specs.Running.{Writing, wrote, endedBy, byOutcome, blockTaken, lacksBlockRoom, blocksIn, goesOn, refusedWith, answered, ranOf}
+use Rattle.router.specs.Inside.{Within, Ongoing}
 use Rattle.router.proofs.SoundFits.{sound-sized}
-use Rattle.router.proofs.Going.{sound-cycle}
 
 module _ (n : Night) (part buffer : List ℕ) (at : ℕ) where
   abbrev handed : Writing

@@ -1,8 +1,8 @@
 -- A block of a run: what it is found to be decides what becomes of the run.
 -- Assumes nothing.
-use mathlib.Core.Path.{_≡_, refl, sym, ap, _∙_}
-use mathlib.Core.Bool.{Bool, true, false, true≢false}
-use mathlib.Core.List.{List, [], _∷_}
+use mathlib.Core.Path.{_≡_, sym, ap, _∙_}
+use mathlib.Core.Bool.{true, false}
+use mathlib.Core.List.{List}
 use mathlib.Core.Option.{Option, some, none}
 use Prim.Native.Nat.{ℕ, _≤_}
 use native.Mathlib.Omega.{arith}
@@ -12,12 +12,11 @@ use Rattle.base.specs.Sizes.{illegalField}
 use Rattle.state.specs.Fresh.{freshRouter}
 use Rattle.trace.specs.declared.place.Place.{Place}
 use Rattle.trace.specs.Blocks.{heldOf}
-use Rattle.trace.specs.Bytes.{AreBytes}
 use Rattle.trace.specs.Judged.{Outcome, Read, aConfiguration, someCycles, theEnd, noMore, accepted, refused, judged}
 use Rattle.trace.specs.Way.{cyclesIn}
 use Rattle.trace.proofs.Found.{FoundAs, refuses, configures, holds, ends, is-over, found-as}
 use Rattle.listing.specs.Lines.{finish, refusal}
-use Rattle.router.specs.Running.{Writing, onNight, withPlace, withRouter, endedBy, cyclesFrom, byOutcome, blockTaken}
+use Rattle.router.specs.Running.{Writing, onNight, withPlace, withRouter, endedBy, cyclesFrom, blockTaken}
 
 module _ (block : List ℕ) (w : Writing) where
   abbrev p : Place

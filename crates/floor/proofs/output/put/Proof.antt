@@ -1,8 +1,6 @@
 -- `floor::output::put` stays inside its buffer and ends.
 -- Assumes nothing.
-use mathlib.Core.Path.{_≡_, refl, sym, ap, _∙_}
-use native.Mathlib.Omega.{arith}
-use Prim.Native.Nat.{ℕ, _+_, _-_, _*_, _/_, _≤_, _<_}
+use Prim.Native.Nat.{_+_, _-_, _≤_}
 use borrow.Author.Needs.{needs}
 use Rattle.floor.proofs.output.put.Statement.{statement}
 use Rattle.floor.proofs.output.put.Tie as tie

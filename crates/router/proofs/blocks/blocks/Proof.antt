@@ -1,14 +1,14 @@
 -- `router::blocks::blocks` meets its contract: block after block, until the part is used up, the run is over or the room is too little.
 -- Assumes nothing.
 use mathlib.Core.Path.{_≡_, refl, sym, ap, ap₂, subst, _∙_}
-use mathlib.Core.Bool.{true, false}
+use mathlib.Core.Bool.{true}
 use mathlib.Core.List.{List}
-use Prim.Native.Nat.{ℕ, _+_, _-_, _≤_, _<_}
+use Prim.Native.Nat.{ℕ, _-_, _≤_}
 use native.Mathlib.Omega.{arith}
-use lib.ListN.{length, drop}
+use lib.ListN.{length}
 use borrow.Author.Needs.{needs}
 use borrow.Author.Tests.{not-true, not-false}
-use Rattle.router.specs.Running.{Writing, lacksBlockRoom, blockAt, blockTaken, Call, goesOn}
+use Rattle.router.specs.Running.{Writing, blockAt, blockTaken, Call, goesOn}
 use Rattle.router.specs.Inside.{GoesOn, Ongoing, writingOf}
 use Rattle.router.proofs.Going.{piece-bytes, block-goes-on}
 use Rattle.router.proofs.Onward.{goes-none, goes-over, goes-full, goes-more, piece-is}

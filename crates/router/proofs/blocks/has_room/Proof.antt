@@ -1,13 +1,8 @@
 -- `router::blocks::has_room` meets its contract.
 -- Assumes nothing.
-use mathlib.Core.Path.{_≡_, refl, sym, ap, ap₂, _∙_}
-use mathlib.Core.Bool.{Bool, true, false, not, _||_}
-use Prim.Native.Nat.{ℕ, _-_, _≤_, _<_, _^_}
-use native.Mathlib.Omega.{arith}
-use lib.Dec.{leb, ltb}
+use Prim.Native.Nat.{_<_}
 use lib.ListN.{length}
 use borrow.Author.Needs.{needs}
-use Rattle.router.specs.Running.{lacksBlockRoom}
 use Rattle.router.proofs.Rooms.{no-place, room-left}
 use Rattle.router.proofs.blocks.has_room.Statement.{statement}
 use Rattle.router.proofs.blocks.has_room.Tie as tie

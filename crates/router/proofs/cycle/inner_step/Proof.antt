@@ -1,6 +1,6 @@
 -- `router::cycle::inner_step` meets its contract: judged, and acted on if no rule refuses the cycle.
 -- Assumes nothing.
-use mathlib.Core.Path.{_≡_, refl, _∙_}
+use mathlib.Core.Path.{_≡_}
 use mathlib.Core.Bool.{true}
 use mathlib.Core.List.{List}
 use Prim.Native.Nat.{ℕ}

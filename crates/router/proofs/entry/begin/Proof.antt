@@ -1,18 +1,16 @@
 -- `router::entry::begin` meets its contract: the first block of a file is the configuration block, or is refused.
 -- Assumes nothing.
-use mathlib.Core.Path.{_≡_, refl, sym, ap, subst, _∙_}
+use mathlib.Core.Path.{_≡_, sym, ap, _∙_}
 use mathlib.Core.Bool.{true, true≢false}
 use mathlib.Core.List.{List, [], _∷_}
 use Prim.Native.Nat.{ℕ}
 use native.Mathlib.Omega.{arith}
 use borrow.Author.Needs.{needs}
-use Rattle.state.specs.declared.building.Built.{Built}
-use Rattle.state.specs.Fresh.{builtOf}
 use Rattle.trace.specs.declared.judging.Found.{Found}
 use Rattle.trace.specs.Judged.{someCycles, theEnd, noMore, meaning, judged}
 use Rattle.listing.specs.Lines.{refusal}
-use Rattle.router.specs.Running.{Writing, onNight, finished, endedBy}
-use Rattle.router.proofs.Writes.{wrote-is, place-fits, refusal-fits}
+use Rattle.router.specs.Running.{Writing}
+use Rattle.router.proofs.Writes.{place-fits, refusal-fits}
 use Rattle.router.proofs.Taken.{taken-refused, taken-configuration, configuration-first, others-follow}
 use Rattle.router.proofs.Beginning.{built-router, first-refused}
 use Rattle.router.proofs.entry.begin.Statement.{statement}

@@ -1,6 +1,6 @@
 -- `router::entry::go` meets its contract: the run taken apart, its blocks, and the run put together.
 -- Assumes nothing.
-use mathlib.Core.Path.{_≡_, sym, ap, subst, _∙_}
+use mathlib.Core.Path.{sym, ap, subst}
 use Prim.Native.Nat.{ℕ, _≤_}
 use native.Mathlib.Nat.{le-trans}
 use borrow.Author.Needs.{needs}

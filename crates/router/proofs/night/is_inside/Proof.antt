@@ -1,12 +1,11 @@
 -- `router::night::is_inside` meets its contract: the search that is left is the whole search.
 -- Assumes nothing.
 use mathlib.Core.Path.{_≡_, refl, sym, _∙_}
-use mathlib.Core.Bool.{Bool, false}
-use Prim.Native.Nat.{ℕ, _-_, _≤_}
+use mathlib.Core.Bool.{false}
+use Prim.Native.Nat.{_-_, _≤_}
 use native.Mathlib.Omega.{arith}
 use borrow.Author.Needs.{needs}
 use borrow.Author.Tests.{not-true, not-false}
-use Rattle.trace.specs.declared.place.Place.{Place}
 use Rattle.router.specs.Night.{within, stoppedInside}
 use Rattle.router.proofs.NightTests.{some-number, early-inside, none-inside, ended-inside, search-all, search-none, search-found, search-least, search-on}
 use Rattle.router.proofs.night.is_inside.Statement.{statement}

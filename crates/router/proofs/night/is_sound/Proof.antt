@@ -1,7 +1,6 @@
 -- `router::night::is_sound` meets its contract: clause after clause.
 -- Assumes nothing.
 use mathlib.Core.Path.{sym, _∙_}
-use native.Mathlib.Omega.{arith}
 use borrow.Author.Needs.{needs}
 use borrow.Author.Tests.{not-true, not-false}
 use Rattle.state.proofs.Exact.{passed-sound}

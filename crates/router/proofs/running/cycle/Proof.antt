@@ -1,14 +1,10 @@
 -- `router::running::cycle` meets its contract: stepped, and its lines written.
 -- Assumes nothing.
-use mathlib.Core.Path.{_≡_, refl, sym, ap, _∙_}
-use mathlib.Core.List.{List, [], _∷_}
-use Prim.Native.Nat.{ℕ}
+use mathlib.Core.Path.{_∙_}
 use native.Mathlib.Omega.{arith}
 use borrow.Author.Needs.{needs}
 use Rattle.listing.specs.Lines.{cycleLines}
 use Rattle.listing.proofs.Lengths.{cycle-length}
-use Rattle.rules.specs.declared.Verdict.the-variants.{Accepted}
-use Rattle.router.specs.Inside.{writingOf}
 use Rattle.router.proofs.Cycling.{refused-run, accepted-run}
 use Rattle.router.proofs.Writes.{place-fits}
 use Rattle.router.proofs.Going.{sound-cycle}

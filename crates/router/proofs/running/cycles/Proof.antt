@@ -2,14 +2,13 @@
 -- Assumes nothing.
 use mathlib.Core.Path.{_≡_, refl, sym, ap, subst, _∙_}
 use mathlib.Core.List.{List}
-use Prim.Native.Nat.{ℕ, _+_, _-_, _*_, _≤_, _<_}
+use Prim.Native.Nat.{ℕ, _+_, _-_, _*_, _≤_}
 use native.Mathlib.Nat.{sub-zero}
 use native.Mathlib.Omega.{arith}
 use lib.ListN.{length}
 use borrow.Author.Needs.{needs}
-use Rattle.trace.specs.Bytes.{AreBytes}
 use Rattle.trace.specs.Cycles.{Slice, sliceOf}
-use Rattle.router.specs.Running.{Writing, cycled, partAt, cyclesFrom}
+use Rattle.router.specs.Running.{cycled, partAt, cyclesFrom}
 use Rattle.router.specs.Inside.{GoesOn, writingOf}
 use Rattle.router.proofs.Going.{cycled-goes-on, piece-bytes}
 use Rattle.router.proofs.Cycling.{part-shown, cycles-over, cycles-none, cycles-more}

@@ -1,12 +1,8 @@
 -- `router::running::flits_of` meets its contract: the F lines of the outputs so far.
 -- Assumes nothing.
-use mathlib.Core.Path.{_≡_, refl, sym, ap, _∙_}
-use Prim.Native.Nat.{ℕ, _+_, _-_, _≤_, _<_}
+use Prim.Native.Nat.{_-_, _≤_}
 use native.Mathlib.Omega.{arith}
 use borrow.Author.Needs.{needs}
-use Rattle.base.specs.declared.reply.Reply.{Reply}
-use Rattle.listing.specs.Lines.{byPort, flitLine, flitLines}
-use Rattle.listing.proofs.Counting.{flit-lines-more, flit-none, flit-one, flits-most, cycle-flit-lines}
 use Rattle.router.proofs.FlitCount.{CountIs, none-counted, one-counted, count-none, counted}
 use Rattle.router.proofs.running.flits_of.Statement.{statement}
 use Rattle.router.proofs.running.flits_of.Tie as tie

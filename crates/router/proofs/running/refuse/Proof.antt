@@ -1,6 +1,5 @@
 -- `router::running::refuse` meets its contract: the R line, and nothing after it.
 -- Assumes nothing.
-use mathlib.Core.Path.{_≡_}
 use mathlib.Core.List.{[], _∷_}
 use native.Mathlib.Omega.{arith}
 use borrow.Author.Needs.{needs}
