@@ -1,9 +1,9 @@
 -- Phase 5: what an output grants.
 -- Assumes nothing.
-use mathlib.Core.Path.{_≡_, sym, ap, _∙_}
+use mathlib.Core.Path.{_≡_, refl, sym, ap, _∙_}
 use mathlib.Core.Bool.{Bool, true, false}
 use mathlib.Core.List.{List}
-use mathlib.Core.Option.{Option, none}
+use mathlib.Core.Option.{Option, some, none}
 use Prim.Native.Nat.{ℕ, _+_, _*_, _<_, _≤_}
 use native.Mathlib.Numerals.{add-one}
 use native.Mathlib.Omega.{arith}
@@ -13,13 +13,14 @@ use borrow.Author.Count.{below-more}
 use borrow.Author.Tests.{lt-ltb, le-ltb}
 use Rattle.base.specs.declared.config.Config.{Config}
 use Rattle.base.specs.Bits.{bit}
+use Rattle.base.proofs.Bits.{bit-zero}
 use Rattle.base.proofs.Search.{first-at, first-none}
 use Rattle.arbiter.specs.declared.Wide.{Wide}
 use Rattle.arbiter.specs.declared.Pick.{Pick}
 use Rattle.arbiter.specs.declared.Pick.the-variants.{Nobody, Winner}
 use Rattle.arbiter.specs.Requests.{winnerOf}
 use Rattle.arbiter.specs.Arbiter.{Arbiter, ofWide, choice}
-use Rattle.arbiter.proofs.Winners.{winner-asks}
+use Rattle.arbiter.proofs.Winners.{winner-asks, no-request-no-winner}
 use Rattle.state.specs.declared.OutputVc.{OutputVc}
 use Rattle.state.specs.Fresh.{pastWide}
 use Rattle.state.specs.Sound.{isFree}
@@ -60,6 +61,10 @@ module _ (n vc : ℕ) (free : Option ℕ) (is : below n vc ≡ free) where
       → grantIn (record { requester = x + 1; vc = vc }) ≡ granted free winner
   grant-winner p winner x e q h = rw (sym is, lt-ltb vc n h, sym e, q, add-one x)
 
+granted-none : (free : Option ℕ) → none ≡ granted free none
+granted-none none = refl
+granted-none (some w) = refl
+
 -- a winner is one of the n
 pub winner-below : (code n set : ℕ) (a : Arbiter) (p : Pick) (x : ℕ) → winnerOf p ≡ choice 32 code n (bit set) a → p ≡ Winner x → x < n
 winner-below code n set a p x e q = winner-asks 32 code n (bit set) a x (sym e ∙ ap winnerOf q) .0
@@ -68,6 +73,16 @@ winner-below code n set a p x e q = winner-asks 32 code n (bit set) a x (sym e �
 abbrev pub grantTo : Config → List OutputVc → List Wide → List ℕ → ℕ → Option Grant
 grantTo c outputs vcs sets o =
     granted (freeVc c outputs o) (choice 32 (c .arbiter) (c .ports * c .vcs) (bit (getD sets o 0)) (ofWide (getD vcs o pastWide)))
+
+-- nobody asks at output o: it grants nothing
+pub grant-unasked : (c : Config) (outputs : List OutputVc) (vcs : List Wide) (sets : List ℕ) (o : ℕ) (g : Granted)
+    → g ≡ record { requester = 0; vc = 0 } → getD sets o 0 ≡ 0 → grantIn g ≡ grantTo c outputs vcs sets o
+grant-unasked c outputs vcs sets o g f e =
+    let n = c .ports * c .vcs in
+    let a = ofWide (getD vcs o pastWide) in
+    ap grantIn f ∙ granted-none (freeVc c outputs o)
+    ∙ ap (granted (freeVc c outputs o))
+    (sym (ap (λ (s : ℕ). choice 32 (c .arbiter) n (bit s) a) e ∙ no-request-no-winner 32 (c .arbiter) n (bit 0) a (λ i h. bit-zero i)))
 
 -- one output more
 pub granted-more : (f : ℕ → Option Grant) (made : List Granted) (o : ℕ) (g : Granted) → o < length made

@@ -133,7 +133,16 @@ fn grant(config: Config, outputs: [OutputVc; 32], arbiter: Wide, o: usize, set: 
     }
 }
 
-// What each output grants. Nothing is bound yet.
+fn no_grant() -> Granted
+    ensures { λ r. ⌜ r ≡ record { requester = 0; vc = 0 } ⌝ }
+{
+    Granted {
+        requester: 0,
+        vc: 0,
+    }
+}
+
+// What each output grants; where nobody asks no arbiter is copied. Nothing is bound yet.
 pub(crate) fn grants(
     config: Config,
     outputs: [OutputVc; 32],
@@ -149,8 +158,14 @@ pub(crate) fn grants(
     }; 8];
     let mut o: usize = 0;
     while o < config.ports as usize {
+        let set = sets[o];
+        if set == 0 {
+            made[o] = no_grant();
+            o += 1;
+            continue;
+        }
         let arbiter = vcs[o];
-        made[o] = grant(config, outputs, arbiter, o, sets[o]);
+        made[o] = grant(config, outputs, arbiter, o, set);
         o += 1;
     }
     made
