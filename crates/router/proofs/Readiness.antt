@@ -33,11 +33,6 @@ module _ (c : Config) (outputs : List OutputVc) (x : InputVc) where
   unbound-waits e = rw e
 
   module _ (to : OutVc) (b : x .binding ≡ Bound to) where
-    -- it is bound past the array
-    pub astray-waits : length outputs ≤ channel c (to .output) (to .vc) → false ≡ isReady c outputs x
-    unfolding isReady
-    astray-waits far = rw (b, List·getD-eq-default outputs (freshOutput 0) far)
-
     -- something is queued: the credit decides
     pub credit-decides : (x .queued ≡ 0 → ⊥) → (y : ℕ) → y ≡ channel c (to .output) (to .vc)
         → not (eqb (getD outputs y (freshOutput 0) .credit) 0) ≡ isReady c outputs x
@@ -45,6 +40,18 @@ module _ (c : Config) (outputs : List OutputVc) (x : InputVc) where
     credit-decides n y e =
         rw (b, e, ne-eqb (x .queued) 0 n)
         (sym (and-true (not (eqb (getD outputs (channel c (to .output) (to .vc)) (freshOutput 0) .credit) 0))))
+
+-- past the array there is no credit
+pub no-credit-past : (outputs : List OutputVc) (y : ℕ) → length outputs ≤ y → not (eqb (getD outputs y (freshOutput 0) .credit) 0) ≡ false
+no-credit-past outputs y far = rw (List·getD-eq-default outputs (freshOutput 0) far)
+
+-- whether there is credit
+module _ (outputs : List OutputVc) (y : ℕ) where
+  pub spent : getD outputs y (freshOutput 0) .credit ≡ 0 → not (eqb (getD outputs y (freshOutput 0) .credit) 0) ≡ false
+  spent e = rw e
+
+  pub unspent : (getD outputs y (freshOutput 0) .credit ≡ 0 → ⊥) → not (eqb (getD outputs y (freshOutput 0) .credit) 0) ≡ true
+  unspent n = rw (ne-eqb (getD outputs y (freshOutput 0) .credit) 0 n)
 
 -- whether the input VC at place x is ready
 abbrev pub readyAt : Config → List InputVc → List OutputVc → ℕ → Bool

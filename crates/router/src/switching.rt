@@ -9,34 +9,31 @@ use state::Binding;
 use state::InputVc;
 use state::OutputVc;
 ghost use mathlib.Core.Path.{_≡_};
-ghost use mathlib.Core.Bool.{false};
+ghost use mathlib.Core.Bool.{false, not};
+ghost use mathlib.Core.List.{List};
 ghost use Prim.Native.Nat.{ℕ, _*_, _/_, _^_, _≤_, _<_};
 ghost use lib.Dec.{eqb};
 ghost use lib.ListN.{length, getD};
 ghost use Rattle.base.specs.Bits.{bit, wordOf};
 ghost use Rattle.arbiter.specs.Arbiter.{ofNarrow, choice};
-ghost use Rattle.state.specs.Fresh.{freshInput, pastNarrow};
+ghost use Rattle.state.specs.Fresh.{freshInput, freshOutput, pastNarrow};
 ghost use Rattle.rules.specs.Ports.{named};
 ghost use Rattle.rules.specs.Allocation.{isReady, picked, narrowMoved};
 ghost use Rattle.router.specs.Picks.{pickIn, asksIn};
 
-// "A bound input VC (also one bound just now) is ready when its queue is not empty and its output VC has credit."
-fn is_ready(config: Config, outputs: [OutputVc; 32], input: InputVc) -> bool
-    ensures { λ r. ⌜ r ≡ isReady config outputs input ⌝ }
+// "A bound input VC (also one bound just now) is ready when its queue is not empty and its output VC has credit.": the channel whose credit
+// decides; 32, where there is none, if it is not bound or its queue is empty.
+fn waits_for(config: Config, input: InputVc) -> usize
+    ensures { λ r. ⌜ ((outputs : List OutputVc) → length outputs ≡ 32 → isReady config outputs input ≡ not (eqb (getD outputs r (freshOutput 0) .credit) 0)) ⌝ }
 {
     if input.queued == 0 {
-        return false;
+        return 32;
     }
     let binding = input.binding;
     let Binding::Bound(to) = binding else {
-        return false;
+        return 32;
     };
-    let y = channel::number(config, counts::wide(to.output), counts::wide(to.vc));
-    if 32 <= y {
-        return false;
-    }
-    let output = outputs[y];
-    output.credit != 0
+    channel::number(config, counts::wide(to.output), counts::wide(to.vc))
 }
 
 // Who is ready, as a set of channels.
@@ -45,14 +42,21 @@ pub(crate) fn ready(config: Config, inputs: [InputVc; 32], outputs: [OutputVc; 3
     ensures { λ r. ⌜ r ≡ wordOf (λ (x : ℕ). isReady config outputs (getD inputs x (freshInput 0))) (config .ports * config .vcs) ⌝ }
 {
     let mut set: u32 = 0;
-    let mut x: usize = 0;
-    while x < (config.ports as usize) * (config.vcs as usize) {
+    let mut next: usize = 0;
+    while next < (config.ports as usize) * (config.vcs as usize) {
+        let x = next;
+        next += 1;
         let input = inputs[x];
-        if is_ready(config, outputs, input) {
-            let one: u32 = 1;
-            set = set + (one << (x as u32));
+        let y = waits_for(config, input);
+        if 32 <= y {
+            continue;
         }
-        x += 1;
+        let output = outputs[y];
+        if output.credit == 0 {
+            continue;
+        }
+        let one: u32 = 1;
+        set = set + (one << (x as u32));
     }
     set
 }
