@@ -3,7 +3,7 @@
 use mathlib.Core.Path.{_≡_, refl, sym}
 use mathlib.Core.Bool.{Bool, true, false, cond, not, Bool·beq}
 use mathlib.Core.List.{List}
-use Prim.Native.Nat.{ℕ, _+_, _-_, _*_, _≤_}
+use Prim.Native.Nat.{ℕ, _-_, _≤_}
 use lib.Dec.{eqb, ltb}
 use lib.ListN.{length, getD, List·getD-eq-default}
 use borrow.Author.Tests.{eqb-true, eqb-false, eq-eqb, ne-eqb}
@@ -13,10 +13,8 @@ use Rattle.state.specs.declared.InputVc.{InputVc}
 use Rattle.state.specs.declared.OutputVc.{OutputVc}
 use Rattle.state.specs.Fresh.{freshInput, freshOutput}
 use Rattle.state.specs.Views.{channel}
-use Rattle.trace.specs.Bytes.{byte}
-use Rattle.rules.specs.Rows.{rowLegal, rowZero, creditAt}
+use Rattle.rules.specs.Rows.{rowLegal, rowZero, kindAt, vcAt, creditAt}
 use Rattle.rules.specs.Numbers.{rowWrong, creditPastRoom, outOfTurn, noSenderCredit}
-use Rattle.router.proofs.RowBytes.{kind-is}
 
 -- a test of equality, either way round
 eqb-turned : (a b : ℕ) → eqb a b ≡ eqb b a
@@ -56,38 +54,38 @@ module _ (c : Config) (outputs : List OutputVc) (part : List ℕ) (o : ℕ) wher
   unfolding creditPastRoom
   past-in k e n y g = rw (← e, ne-eqb k 0 n, ← g)
 
-module _ (c : Config) (inputs : List InputVc) (part : List ℕ) (i : ℕ) where
+module _ (c : Config) (inputs : List InputVc) (part : List ℕ) (i k : ℕ) (kind : k ≡ kindAt part i) where
   -- no flit comes
-  pub turn-none : byte part (8 * i) ≡ 0 → false ≡ outOfTurn c inputs part i
+  pub turn-none : k ≡ 0 → false ≡ outOfTurn c inputs part i
   unfolding outOfTurn
-  turn-none e = rw (kind-is part i, e)
+  turn-none e = rw (← kind, e)
 
   -- a flit on a VC that there is not
-  pub turn-out : (byte part (8 * i) ≡ 0 → ⊥) → (s : Bool) → s ≡ startsKind (byte part (8 * i)) → (x : ℕ)
-      → x ≡ channel c i (byte part (8 * i + 1)) → length inputs ≤ x → not s ≡ outOfTurn c inputs part i
+  pub turn-out : (k ≡ 0 → ⊥) → (s : Bool) → s ≡ startsKind k → (v : ℕ) → v ≡ vcAt part i → (x : ℕ) → x ≡ channel c i v
+      → length inputs ≤ x → not s ≡ outOfTurn c inputs part i
   unfolding outOfTurn
-  turn-out n s e x g l =
-      rw (kind-is part i, ne-eqb (byte part (8 * i)) 0 n, ← e, ← g, List·getD-eq-default inputs (freshInput 0) l) (beq-false s)
+  turn-out n s e v f x g l =
+      rw (← kind, ne-eqb k 0 n, ← e, ← f, ← g, List·getD-eq-default inputs (freshInput 0) l) (beq-false s)
 
   -- a flit on one that there is
-  pub turn-in : (byte part (8 * i) ≡ 0 → ⊥) → (s : Bool) → s ≡ startsKind (byte part (8 * i)) → (x : ℕ)
-      → x ≡ channel c i (byte part (8 * i + 1)) → Bool·beq s (getD inputs x (freshInput 0) .inside) ≡ outOfTurn c inputs part i
+  pub turn-in : (k ≡ 0 → ⊥) → (s : Bool) → s ≡ startsKind k → (v : ℕ) → v ≡ vcAt part i → (x : ℕ) → x ≡ channel c i v
+      → Bool·beq s (getD inputs x (freshInput 0) .inside) ≡ outOfTurn c inputs part i
   unfolding outOfTurn
-  turn-in n s e x g = rw (kind-is part i, ne-eqb (byte part (8 * i)) 0 n, ← e, ← g)
+  turn-in n s e v f x g = rw (← kind, ne-eqb k 0 n, ← e, ← f, ← g)
 
   -- no flit comes
-  pub credit-none : byte part (8 * i) ≡ 0 → false ≡ noSenderCredit c inputs part i
+  pub credit-none : k ≡ 0 → false ≡ noSenderCredit c inputs part i
   unfolding noSenderCredit
-  credit-none e = rw (kind-is part i, e)
+  credit-none e = rw (← kind, e)
 
   -- a flit on a VC that there is not
-  pub credit-out : (byte part (8 * i) ≡ 0 → ⊥) → (x : ℕ) → x ≡ channel c i (byte part (8 * i + 1)) → length inputs ≤ x
+  pub credit-out : (k ≡ 0 → ⊥) → (v : ℕ) → v ≡ vcAt part i → (x : ℕ) → x ≡ channel c i v → length inputs ≤ x
       → true ≡ noSenderCredit c inputs part i
   unfolding noSenderCredit
-  credit-out n x g l = rw (kind-is part i, ne-eqb (byte part (8 * i)) 0 n, ← g, List·getD-eq-default inputs (freshInput 0) l)
+  credit-out n v f x g l = rw (← kind, ne-eqb k 0 n, ← f, ← g, List·getD-eq-default inputs (freshInput 0) l)
 
   -- a flit on one that there is
-  pub credit-in : (byte part (8 * i) ≡ 0 → ⊥) → (x : ℕ) → x ≡ channel c i (byte part (8 * i + 1))
+  pub credit-in : (k ≡ 0 → ⊥) → (v : ℕ) → v ≡ vcAt part i → (x : ℕ) → x ≡ channel c i v
       → eqb (getD inputs x (freshInput 0) .credit) 0 ≡ noSenderCredit c inputs part i
   unfolding noSenderCredit
-  credit-in n x g = rw (kind-is part i, ne-eqb (byte part (8 * i)) 0 n, ← g)
+  credit-in n v f x g = rw (← kind, ne-eqb k 0 n, ← f, ← g)

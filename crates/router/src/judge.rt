@@ -24,59 +24,9 @@ ghost use Rattle.rules.specs.Numbers.{rowWrong, creditPastRoom, outOfTurn, noSe
 ghost use Rattle.rules.specs.Numbers as numbers;
 ghost use Rattle.router.specs.Picks.{below};
 
-// 6: "downstream credit where that output VC already has E"
-fn is_past_room(config: Config, outputs: [OutputVc; 32], part: &[u8], o: usize) -> bool
-    requires { ⌜ (length (now part) ≡ 64) × (o < 8) ⌝ }
-    ensures { λ r. ⌜ r ≡ creditPastRoom config outputs (now (part .entry)) o ⌝ }
-{
-    let credit = counts::wide(rows::credit_of(part, o));
-    if credit == 0 {
-        return false;
-    }
-    let y = channel::number(config, o, credit - 1);
-    if 32 <= y {
-        return config.downstream == 0;
-    }
-    let output = outputs[y];
-    output.credit == config.downstream
-}
+// The first port of each test; 8 where there is none. One input or output VC is read for a port, not a copy of all handed on.
 
-// 4: "B or T with no packet open at that sender VC, or H or S with one open"
-fn is_out_of_turn(config: Config, inputs: [InputVc; 32], part: &[u8], i: usize) -> bool
-    requires { ⌜ (length (now part) ≡ 64) × (i < 8) ⌝ }
-    ensures { λ r. ⌜ r ≡ outOfTurn config inputs (now (part .entry)) i ⌝ }
-{
-    let at = 8 * i;
-    let kind = part[at];
-    if kind == 0 {
-        return false;
-    }
-    let x = channel::number(config, i, part[at + 1] as usize);
-    if 32 <= x {
-        return !starts(kind);
-    }
-    let input = inputs[x];
-    starts(kind) == input.inside
-}
-
-// 5: "no sender credit, after phase 1"
-fn lacks_credit(config: Config, paid: [InputVc; 32], part: &[u8], i: usize) -> bool
-    requires { ⌜ (length (now part) ≡ 64) × (i < 8) ⌝ }
-    ensures { λ r. ⌜ r ≡ noSenderCredit config paid (now (part .entry)) i ⌝ }
-{
-    let at = 8 * i;
-    if part[at] == 0 {
-        return false;
-    }
-    let x = channel::number(config, i, part[at + 1] as usize);
-    if 32 <= x {
-        return true;
-    }
-    let input = paid[x];
-    input.credit == 0
-}
-
-// The first port of each test; 8 where there is none.
+// 3: "row breaks the byte rules above, or VC, destination or credit too large"
 fn first_wrong_row(config: Config, part: &[u8]) -> usize
     requires { ⌜ length (now part) ≡ 64 ⌝ }
     ensures { λ r. ⌜ below 8 r ≡ firstFrom (rowWrong config (now (part .entry))) 8 0 ⌝ }
@@ -91,44 +41,87 @@ fn first_wrong_row(config: Config, part: &[u8]) -> usize
     8
 }
 
+// 6: "downstream credit where that output VC already has E"
 fn first_past_room(config: Config, outputs: [OutputVc; 32], part: &[u8]) -> usize
     requires { ⌜ (config .ports ≤ 8) × (length (now part) ≡ 64) ⌝ }
     ensures { λ r. ⌜ below 8 r ≡ firstFrom (creditPastRoom config outputs (now (part .entry))) (config .ports) 0 ⌝ }
 {
-    let mut o: usize = 0;
-    while o < config.ports as usize {
-        if is_past_room(config, outputs, part, o) {
+    let mut next: usize = 0;
+    while next < config.ports as usize {
+        let o = next;
+        next += 1;
+        let credit = counts::wide(rows::credit_of(part, o));
+        if credit == 0 {
+            continue;
+        }
+        let y = channel::number(config, o, credit - 1);
+        if 32 <= y {
+            let past = config.downstream == 0;
+            if past {
+                return o;
+            }
+            continue;
+        }
+        let output = outputs[y];
+        let past = output.credit == config.downstream;
+        if past {
             return o;
         }
-        o += 1;
     }
     8
 }
 
+// 4: "B or T with no packet open at that sender VC, or H or S with one open"
 fn first_out_of_turn(config: Config, inputs: [InputVc; 32], part: &[u8]) -> usize
     requires { ⌜ (config .ports ≤ 8) × (length (now part) ≡ 64) ⌝ }
     ensures { λ r. ⌜ below 8 r ≡ firstFrom (outOfTurn config inputs (now (part .entry))) (config .ports) 0 ⌝ }
 {
-    let mut i: usize = 0;
-    while i < config.ports as usize {
-        if is_out_of_turn(config, inputs, part, i) {
+    let mut next: usize = 0;
+    while next < config.ports as usize {
+        let i = next;
+        next += 1;
+        let kind = rows::kind_of(part, i);
+        if kind == 0 {
+            continue;
+        }
+        let x = channel::number(config, i, counts::wide(rows::vc_of(part, i)));
+        let first = starts(kind);
+        if 32 <= x {
+            if first {
+                continue;
+            }
             return i;
         }
-        i += 1;
+        let input = inputs[x];
+        let wrong = first == input.inside;
+        if wrong {
+            return i;
+        }
     }
     8
 }
 
+// 5: "no sender credit, after phase 1"
 fn first_without_credit(config: Config, paid: [InputVc; 32], part: &[u8]) -> usize
     requires { ⌜ (config .ports ≤ 8) × (length (now part) ≡ 64) ⌝ }
     ensures { λ r. ⌜ below 8 r ≡ firstFrom (noSenderCredit config paid (now (part .entry))) (config .ports) 0 ⌝ }
 {
-    let mut i: usize = 0;
-    while i < config.ports as usize {
-        if lacks_credit(config, paid, part, i) {
+    let mut next: usize = 0;
+    while next < config.ports as usize {
+        let i = next;
+        next += 1;
+        if rows::kind_of(part, i) == 0 {
+            continue;
+        }
+        let x = channel::number(config, i, counts::wide(rows::vc_of(part, i)));
+        if 32 <= x {
             return i;
         }
-        i += 1;
+        let input = paid[x];
+        let none = input.credit == 0;
+        if none {
+            return i;
+        }
     }
     8
 }

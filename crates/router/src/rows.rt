@@ -8,7 +8,7 @@ ghost use mathlib.Core.Bool.{not, cond};
 ghost use Prim.Native.Nat.{_<_};
 ghost use lib.Dec.{ltb};
 ghost use lib.ListN.{length};
-ghost use Rattle.rules.specs.Rows.{kindAt, creditAt, payloadAt, noOffer, rowZero, legalOffer, rowLegal};
+ghost use Rattle.rules.specs.Rows.{kindAt, vcAt, creditAt, payloadAt, noOffer, rowZero, legalOffer, rowLegal};
 ghost use Rattle.router.specs.Rows.{offerOf, offerAt};
 
 // A flit that a port brings, and on which VC.
@@ -56,6 +56,13 @@ pub(crate) fn kind_of(part: &[u8], i: usize) -> u8
     ensures { λ r. ⌜ r ≡ kindAt (now (part .entry)) i ⌝ }
 {
     part[8 * i]
+}
+
+pub(crate) fn vc_of(part: &[u8], i: usize) -> u8
+    requires { ⌜ (length (now part) ≡ 64) × (i < 8) ⌝ }
+    ensures { λ r. ⌜ r ≡ vcAt (now (part .entry)) i ⌝ }
+{
+    part[8 * i + 1]
 }
 
 // "credit (0 none, else 1 + output VC)"

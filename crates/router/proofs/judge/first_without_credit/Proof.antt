@@ -1,39 +1,82 @@
 -- `router::judge::first_without_credit` meets its contract.
 -- Assumes nothing.
-use native.Mathlib.Omega.{arith}
-use borrow.Author.Needs.{needs}
-use mathlib.Core.Path.{sym, _∙_}
+use mathlib.Core.Path.{_≡_, sym, _∙_}
 use Prim.Native.Nat.{_-_, _≤_}
+use lib.ListN.{length}
+use borrow.Author.Needs.{needs}
+use Rattle.state.proofs.Exact.{length-any}
 use Rattle.rules.specs.Numbers.{noSenderCredit}
 use Rattle.router.proofs.FirstPort.{Left, left-all, left-next, left-found, left-none}
-use Rattle.router.proofs.Numbers.{fewer, more}
+use Rattle.router.proofs.Numbers.{more}
+use Rattle.router.proofs.PortTests.{credit-none, credit-out, credit-in}
 use Rattle.router.proofs.judge.first_without_credit.Statement.{statement}
 use Rattle.router.proofs.judge.first_without_credit.Tie as tie
 
 abbrev Inv-loop : tie.InvT-loop
-Inv-loop config paid part i₀ i = (i ≤ config .ports) × Left (noSenderCredit config paid part) (config .ports) i
+Inv-loop config part paid next₀ next = (next ≤ config .ports) × Left (noSenderCredit config paid part) (config .ports) next
 
 abbrev μ-loop : tie.MeasureT-loop
-μ-loop config paid part i₀ i = config .ports - i
+μ-loop config part paid next₀ next = config .ports - next
 
 loop-holds : tie.Need-loop-holds Inv-loop μ-loop
 loop-holds c = (search needs, left-all _ _)
 
+-- no flit comes
+loop-again : tie.Need-loop-again Inv-loop μ-loop
+loop-again c =
+    let l = c .before .before .before .before .loop in
+    let a = c .before .before .before .before .before .before .args in
+    (
+      more (a .config .ports) (l .next) (c .before .before .if1 .taken),
+      left-next _ _ _ (c .before .before .if1 .taken) (l .inv .1) (sym (credit-none _ _ _ _ _ (c .before .kind-of .ensures) (c .if2 .taken))),
+    )
+
+-- a flit on a VC that there is not
 returns : tie.Need-returns Inv-loop μ-loop
 returns c =
-    left-found _ _ _ (c .before .before .if1 .taken) (c .before .before .before .before .before .before .pre .0)
-    (c .before .before .before .before .loop .inv .1) (sym (c .before .lacks-credit .ensures) ∙ c .if2 .taken)
+    let l = c .before .before .before .before .before .before .before .before .loop in
+    let a = c .before .before .before .before .before .before .before .before .before .before .args in
+    let long : length (a .t2) ≡ 32 = search (needs, length-any) in
+    left-found _ _ _ (c .before .before .before .before .before .before .if1 .taken) (c .before .before .before .before .before .before .before .before .before .before .pre .0) (l .inv .1) (sym (credit-out _ _ _ _ _ (c .before .before .before .before .before .kind-of .ensures) (c .before .before .before .before .if2 .left) _ (c .before .before .wide .ensures .0 ∙ c .before .before .before .vc-of .ensures) _ (c .before .number .ensures) (rw long (c .if3 .taken))))
 
-loop-again : tie.Need-loop-again Inv-loop μ-loop
-loop-again c = (
-  more (c .before .before .before .before .before .before .args .config .ports) (c .before .before .before .before .loop .i) (c .before .before .if1 .taken),
-  left-next _ _ _ (c .before .before .if1 .taken) (c .before .before .before .before .loop .inv .1)
-      (sym (c .before .lacks-credit .ensures) ∙ c .if2 .left),
-)
-
+-- a flit on one that there is
 returns-2 : tie.Need-returns-2 Inv-loop μ-loop
-returns-2 c = left-none _ _ _ (c .if1 .left) (c .before .before .loop .inv .1)
+returns-2 c =
+    let l = c .before .before .before .before .before .before .before .before .before .before .before .loop in
+    let a = c .before .before .before .before .before .before .before .before .before .before .before .before .before .args in
+    left-found _ _ _ (c .before .before .before .before .before .before .before .before .before .if1 .taken) (c .before .before .before .before .before .before .before .before .before .before .before .before .before .pre .0) (l .inv .1) (sym (credit-in _ _ _ _ _ (c .before .before .before .before .before .before .before .before .kind-of .ensures) (c .before .before .before .before .before .before .before .if2 .left) _ (c .before .before .before .before .before .wide .ensures .0 ∙ c .before .before .before .before .before .before .vc-of .ensures) _ (c .before .before .before .before .number .ensures)) ∙ c .if4 .taken)
+
+loop-again-2 : tie.Need-loop-again-2 Inv-loop μ-loop
+loop-again-2 c =
+    let l = c .before .before .before .before .before .before .before .before .before .before .before .loop in
+    let a = c .before .before .before .before .before .before .before .before .before .before .before .before .before .args in
+    (
+      more (a .config .ports) (l .next) (c .before .before .before .before .before .before .before .before .before .if1 .taken),
+      left-next _ _ _ (c .before .before .before .before .before .before .before .before .before .if1 .taken) (l .inv .1) (sym (credit-in _ _ _ _ _ (c .before .before .before .before .before .before .before .before .kind-of .ensures) (c .before .before .before .before .before .before .before .if2 .left) _ (c .before .before .before .before .before .wide .ensures .0 ∙ c .before .before .before .before .before .before .vc-of .ensures) _ (c .before .before .before .before .number .ensures)) ∙ c .if4 .left),
+    )
+
+returns-3 : tie.Need-returns-3 Inv-loop μ-loop
+returns-3 c = left-none _ _ _ (c .if1 .left) (c .before .before .loop .inv .1)
 
 pub first-without-credit-spec : {M : Type 1} → statement M
 first-without-credit-spec =
-    tie.close (tie.spec Inv-loop μ-loop loop-holds (λ c. search needs) (λ c κs. search needs) returns (λ c. let h0 = c .if2 .left in let h1 = c .before .before .if1 .taken in let h2 = c .before .before .before .before .before .before .pre .0 in record { fits = omega arith }) (λ c. fewer (c .before .before .before .before .before .before .args .config .ports) (c .before .before .before .before .loop .i) (c .before .before .if1 .taken)) loop-again returns-2)
+    tie.close
+    (tie.spec
+    Inv-loop
+    μ-loop
+    loop-holds
+    (λ c. search needs)
+    (λ c. search needs)
+    (λ c κs. search needs)
+    (λ c. search needs)
+    loop-again
+    (λ c κs. search needs)
+    (λ c κs. search needs)
+    (λ c κs. search needs)
+    returns
+    (λ c. search needs)
+    (λ c. search needs)
+    returns-2
+    (λ c. search needs)
+    loop-again-2
+    returns-3)
