@@ -18,8 +18,6 @@ use Rattle.base.proofs.Bits.{bit-word}
 use Rattle.arbiter.specs.declared.Narrow.{Narrow}
 use Rattle.arbiter.specs.Arbiter.{ofNarrow, choice}
 use Rattle.arbiter.proofs.ByKind.{choice-same}
-use Rattle.state.specs.declared.OutVc.{OutVc}
-use Rattle.state.specs.declared.Binding.the-variants.{Unbound, Bound}
 use Rattle.state.specs.declared.InputVc.{InputVc}
 use Rattle.state.specs.Fresh.{freshInput, pastNarrow}
 use Rattle.state.specs.Views.{channel}
@@ -43,12 +41,9 @@ module _ (c : Config) (inputs : List InputVc) (i pick : ℕ) where
         ne-eqb 8 o (omega arith) ∙ ap (λ (y : InputVc). isFor o (y .binding)) (sym (List·getD-eq-default inputs (freshInput 0) far))
         ∙ asks-as-bound o
 
-    pub not-bound : getD inputs x (freshInput 0) .binding ≡ Unbound → (o : ℕ) → o < 8 → eqb 8 o ≡ picked c inputs i o (named pick)
-    not-bound e o h = ne-eqb 8 o (omega arith) ∙ ap (isFor o) (sym e) ∙ asks-as-bound o
-
-    pub bound-to : (to : OutVc) → getD inputs x (freshInput 0) .binding ≡ Bound to → (r : ℕ) → r ≡ to .output
+    pub as-bound : (r : ℕ) → ((o : ℕ) → o < 8 → eqb r o ≡ isFor o (getD inputs x (freshInput 0) .binding))
         → (o : ℕ) → o < 8 → eqb r o ≡ picked c inputs i o (named pick)
-    bound-to to e r q o h = ap (λ (k : ℕ). eqb k o) q ∙ ap (isFor o) (sym e) ∙ asks-as-bound o
+    as-bound r f o h = f o h ∙ asks-as-bound o
 
 -- whether input i asks at output o
 abbrev pub asksAt : List (List ℕ) → ℕ → ℕ → Bool

@@ -18,7 +18,7 @@ ghost use Rattle.base.specs.Bits.{bit, wordOf};
 ghost use Rattle.arbiter.specs.Arbiter.{ofNarrow, choice};
 ghost use Rattle.state.specs.Fresh.{freshInput, freshOutput, pastNarrow};
 ghost use Rattle.rules.specs.Ports.{named};
-ghost use Rattle.rules.specs.Allocation.{isReady, picked, narrowMoved};
+ghost use Rattle.rules.specs.Allocation.{isReady, isFor, picked, narrowMoved};
 ghost use Rattle.router.specs.Picks.{pickIn, asksIn};
 
 // "A bound input VC (also one bound just now) is ready when its queue is not empty and its output VC has credit.": the channel whose credit
@@ -90,19 +90,10 @@ pub(crate) fn pick_inputs(config: Config, ready: u32, arbiters: [Narrow; 8]) -> 
     picks
 }
 
-// The output that a pick of input i asks for, with its VC; 8 for none.
-fn asked_by(config: Config, inputs: [InputVc; 32], i: usize, pick: u8) -> usize
-    requires { ⌜ i < 8 ⌝ }
-    ensures { λ r. ⌜ ((o : ℕ) → o < 8 → eqb r o ≡ picked config inputs i o (named pick)) ⌝ }
+// The output that an input VC is bound to; 8 where it is not bound.
+fn output_of(input: InputVc) -> usize
+    ensures { λ r. ⌜ ((o : ℕ) → o < 8 → eqb r o ≡ isFor o (input .binding)) ⌝ }
 {
-    if pick == 0 {
-        return 8;
-    }
-    let x = channel::number(config, i, counts::wide(pick - 1));
-    if 32 <= x {
-        return 8;
-    }
-    let input = inputs[x];
     let binding = input.binding;
     let Binding::Bound(to) = binding else {
         return 8;
@@ -117,14 +108,24 @@ pub(crate) fn table_of(config: Config, inputs: [InputVc; 32], picks: [u8; 8]) ->
     ensures beyond { λ r. ⌜ ((i o : ℕ) → config .ports ≤ i → asksIn r i o ≡ false) ⌝ }
 {
     let mut table = [[0u8; 8]; 8];
-    let mut i: usize = 0;
-    while i < config.ports as usize {
+    let mut next: usize = 0;
+    while next < config.ports as usize {
+        let i = next;
+        next += 1;
         let pick = picks[i];
-        let o = asked_by(config, inputs, i, pick);
-        if o < 8 {
-            table[i][o] = pick;
+        if pick == 0 {
+            continue;
         }
-        i += 1;
+        let x = channel::number(config, i, counts::wide(pick - 1));
+        if 32 <= x {
+            continue;
+        }
+        let input = inputs[x];
+        let o = output_of(input);
+        if 8 <= o {
+            continue;
+        }
+        table[i][o] = pick;
     }
     table
 }

@@ -1,58 +1,80 @@
 -- `router::switching::table_of` meets its contract.
 -- Assumes nothing.
-use mathlib.Core.Logic.{⊎-elim}
+use mathlib.Core.Path.{_≡_}
 use Prim.Native.Nat.{_-_, _<_, _≤_}
 use native.Mathlib.Omega.{arith}
+use lib.ListN.{length, getD}
 use borrow.Author.Needs.{needs}
-use Rattle.router.proofs.Columns.{RowsSoFar, asks-not, rows-none, rows-same, rows-with}
-use Rattle.router.proofs.Numbers.{fewer, more}
+use Rattle.state.proofs.Exact.{length-any}
+use Rattle.router.proofs.Columns.{RowsSoFar, asks-not, no-pick, past-the-end, as-bound, rows-none, rows-same, rows-with}
+use Rattle.router.proofs.Numbers.{more}
 use Rattle.router.proofs.switching.table_of.Statement.{statement}
 use Rattle.router.proofs.switching.table_of.Tie as tie
 
 abbrev Inv-loop : tie.InvT-loop
-Inv-loop config inputs picks table₀ i₀ table i = (i ≤ config .ports) × RowsSoFar config inputs picks table i
+Inv-loop config inputs picks table₀ next₀ table next = (next ≤ config .ports) × RowsSoFar config inputs picks table next
 
 abbrev μ-loop : tie.MeasureT-loop
-μ-loop config inputs picks table₀ i₀ table i = config .ports - i
+μ-loop config inputs picks table₀ next₀ table next = config .ports - next
 
 loop-holds : tie.Need-loop-holds Inv-loop μ-loop
-loop-holds c = (search needs, rows-none (c .args .config) (c .args .inputs) (c .args .t3))
+loop-holds c = (search needs, rows-none (c .args .config) (c .args .t2) (c .args .t3))
 
-cast-if1 : tie.Need-cast-if1 Inv-loop μ-loop
-cast-if1 c = search needs
-
-array-read-pick : tie.Need-array-read-pick Inv-loop μ-loop
-array-read-pick c = let h0 = c .if1 .taken in let h1 = c .before .before .before .pre in omega arith
-
-asked-by-requires : tie.Need-asked-by-requires Inv-loop μ-loop
-asked-by-requires c κs = search needs
-
-mul-table : tie.Need-mul-table Inv-loop μ-loop
-mul-table c = let h0 = c .if2 .taken in let h1 = c .before .before .if1 .taken in let h2 = c .before .before .before .before .before .pre in record { fits = omega arith }
-
-index-1-table : tie.Need-index-1-table Inv-loop μ-loop
-index-1-table c = search needs
-
-index-2-table : tie.Need-index-2-table Inv-loop μ-loop
-index-2-table c = search needs
-
-add-i : tie.Need-add-i Inv-loop μ-loop
-add-i c = let h0 = c .before .before .if1 .taken in let h1 = c .before .before .before .before .before .pre in record { fits = omega arith }
-
-loop-less : tie.Need-loop-less Inv-loop μ-loop
-loop-less c = fewer (c .before .before .before .before .before .args .config .ports) (c .before .before .before .before .loop .i) (c .before .before .if1 .taken)
-
+-- it picked none
 loop-again : tie.Need-loop-again Inv-loop μ-loop
 loop-again c =
-    let l = c .before .before .before .before .loop in
-    let a = c .before .before .before .before .before .args in
-    let r = c .before .asked-by in
-    let low : l .i < 8 = let p = c .before .before .before .before .before .pre in omega arith in (
-      more (c .before .before .before .before .before .args .config .ports) (c .before .before .before .before .loop .i) (c .before .before .if1 .taken),
-      ⊎-elim
-          (λ w. rw (w .1) (rows-with (a .config) (a .inputs) (a .t3) (l .table) (l .i) (r .result) (l .inv .1) (r .ensures) low (w .0 .taken)))
-          (λ w. rw (w .1) (rows-same (a .config) (a .inputs) (a .t3) (l .table) (l .i) (r .result) (l .inv .1) (r .ensures) (w .0 .left)))
-          (c .if2 .came),
+    let l = c .before .before .before .loop in
+    let a = c .before .before .before .before .args in
+    (
+      more (a .config .ports) (l .next) (c .before .if1 .taken),
+      rows-same (a .config) (a .t2) (a .t3) (l .table) (l .next) 8 (l .inv .1)
+          (no-pick (a .config) (a .t2) (l .next) (getD (a .t3) (l .next) 0) (c .if2 .taken)) (omega arith),
+    )
+
+-- it picked a VC that there is not
+loop-again-2 : tie.Need-loop-again-2 Inv-loop μ-loop
+loop-again-2 c =
+    let l = c .before .before .before .before .before .before .loop in
+    let a = c .before .before .before .before .before .before .before .args in
+    let n = c .before .number in
+    let v = c .before .before .wide in
+    let long : length (a .t2) ≡ 32 = search (needs, length-any) in
+    let far : length (a .t2) ≤ n .result = rw long (c .if3 .taken) in
+    (
+      more (a .config .ports) (l .next) (c .before .before .before .before .if1 .taken),
+      rows-same (a .config) (a .t2) (a .t3) (l .table) (l .next) 8 (l .inv .1)
+          (past-the-end (a .config) (a .t2) (l .next) (getD (a .t3) (l .next) 0) (c .before .before .before .if2 .left) (v .result) (v .ensures .0) (n .result) (n .ensures) far)
+          (omega arith),
+    )
+
+-- it picked one that is not bound
+loop-again-3 : tie.Need-loop-again-3 Inv-loop μ-loop
+loop-again-3 c =
+    let l = c .before .before .before .before .before .before .before .before .before .loop in
+    let a = c .before .before .before .before .before .before .before .before .before .before .args in
+    let r = c .before .output-of in
+    let n = c .before .before .before .before .number in
+    let v = c .before .before .before .before .before .wide in
+    (
+      more (a .config .ports) (l .next) (c .before .before .before .before .before .before .before .if1 .taken),
+      rows-same (a .config) (a .t2) (a .t3) (l .table) (l .next) (r .result) (l .inv .1)
+          (as-bound (a .config) (a .t2) (l .next) (getD (a .t3) (l .next) 0) (c .before .before .before .before .before .before .if2 .left) (v .result) (v .ensures .0) (n .result) (n .ensures)
+          (r .result) (r .ensures)) (c .if4 .taken),
+    )
+
+loop-again-4 : tie.Need-loop-again-4 Inv-loop μ-loop
+loop-again-4 c =
+    let l = c .before .before .before .before .before .before .before .before .before .loop in
+    let a = c .before .before .before .before .before .before .before .before .before .before .args in
+    let r = c .before .output-of in
+    let n = c .before .before .before .before .number in
+    let v = c .before .before .before .before .before .wide in
+    let low : l .next < 8 = let h = c .before .before .before .before .before .before .before .if1 .taken in let p = c .before .before .before .before .before .before .before .before .before .before .pre in omega arith in
+    (
+      more (a .config .ports) (l .next) (c .before .before .before .before .before .before .before .if1 .taken),
+      rows-with (a .config) (a .t2) (a .t3) (l .table) (l .next) (r .result) (l .inv .1)
+          (as-bound (a .config) (a .t2) (l .next) (getD (a .t3) (l .next) 0) (c .before .before .before .before .before .before .if2 .left) (v .result) (v .ensures .0) (n .result) (n .ensures)
+          (r .result) (r .ensures)) low (c .if4 .left),
     )
 
 returns : tie.Need-returns Inv-loop μ-loop
@@ -66,4 +88,28 @@ returns c =
 pub table-of-spec : {M : Type 1} → statement M
 table-of-spec =
     tie.close
-    (tie.spec Inv-loop μ-loop loop-holds cast-if1 array-read-pick asked-by-requires mul-table index-1-table index-2-table add-i loop-less loop-again returns)
+    (tie.spec
+    Inv-loop
+    μ-loop
+    loop-holds
+    (λ c. search needs)
+    (λ c. search needs)
+    (λ c. search needs)
+    (λ c. search needs)
+    loop-again
+    (λ c. search needs)
+    (λ c κs. search needs)
+    (λ c κs. search needs)
+    (λ c. search needs)
+    loop-again-2
+    (λ c. search needs)
+    (λ c. search needs)
+    (λ c κs. search needs)
+    (λ c. search needs)
+    loop-again-3
+    (λ c. search needs)
+    (λ c. search needs)
+    (λ c. search needs)
+    (λ c. search needs)
+    loop-again-4
+    returns)
