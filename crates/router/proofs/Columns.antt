@@ -62,12 +62,13 @@ pub record RowsSoFar (c : Config) (inputs : List InputVc) (picks : List ℕ) (ta
   pub made : (j o : ℕ) → j < i → o < 8 → asksIn table j o ≡ picked c inputs j o (pickIn picks j)
   pub blank : (j o : ℕ) → i ≤ j → getD (getD table j []) o 0 ≡ 0
 
-blank-row : (n o : ℕ) → _≡_ {A = ℕ} (getD (replicate n 0) o 0) 0
+-- nothing is in the empty table
+pub blank-row : (n o : ℕ) → _≡_ {A = ℕ} (getD (replicate n 0) o 0) 0
 blank-row zero o = refl
 blank-row (suc n) zero = refl
 blank-row (suc n) (suc o) = blank-row n o
 
-blank-rows : (n j o : ℕ) → _≡_ {A = ℕ} (getD (getD (replicate n (replicate 8 0)) j []) o 0) 0
+pub blank-rows : (n j o : ℕ) → _≡_ {A = ℕ} (getD (getD (replicate n (replicate 8 0)) j []) o 0) 0
 blank-rows zero j o = refl
 blank-rows (suc n) zero o = blank-row 8 o
 blank-rows (suc n) (suc j) o = blank-rows n j o

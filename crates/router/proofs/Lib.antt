@@ -16,6 +16,7 @@ pub mod Readiness
 pub mod Choosing
 pub mod Moving
 pub mod Columns
+pub mod Resting
 pub mod Agreeing
 pub mod Phases
 pub mod SoundFits

@@ -29,6 +29,7 @@ use Rattle.router.specs.Whole.{routerOf, boundOf}
 use Rattle.router.proofs.Agreeing.{grants-agree, picks-agree, table-agrees, rows-agree, winners-agree}
 use Rattle.router.proofs.Choosing.{inputChoice}
 use Rattle.router.proofs.Phases.{taken-in, allocated-is, sent-out}
+use Rattle.router.proofs.Resting.{noPicks, noRequests, picks-rest, requests-rest, rows-rest, arbiters-rest, nothing-leaves}
 
 -- after phase 4, after phase 5
 module _ (c : Config) (few : c .ports ≤ 8) (p : Parts) (part store wire home : List ℕ) where
@@ -89,3 +90,24 @@ module _ (c : Config) (few : c .ports ≤ 8) (p : Parts) (part store wire home :
             → _≡_ {A = Reply} (record { senders = senders; outputs = l .left })
             (record { senders = reported c home; outputs = leavingOf (boundOf c n p store wire home part) .left })
         reply-is senders es n = rw (es, sent n .1 ∙ ap (λ (s : Router). leavingOf s .left) (fifth-is n))
+
+      -- nobody is ready: phases 6 and 7 change nothing
+      module _ (set : ℕ) (er : set ≡ wordOf (λ (x : ℕ). isReady c outputs₅ (getD inputs₅ x (freshInput 0))) (c .ports * c .vcs)) (rest : set ≡ 0) where
+        abbrev stays : Leaving
+        stays = record { inputs = inputs₅; outputs = outputs₅; store = store₃; home = home₁; left = replicate 8 (record { left = left.Nothing }) }
+
+        pub router-rests : (n : ℕ)
+            → routerOf c (n + 1) (record { inputs = inputs₅; outputs = outputs₅; vcs = vcs; ins = p .ins; outs = p .outs }) store₃ wire₄ home₁
+            ≡ sentOut (boundOf c n p store wire home part)
+        router-rests =
+            router-is set noPicks noPicks noRequests (p .ins) (p .outs) stays er (λ i h. picks-rest c set (p .ins) rest i)
+            (λ i o h g. requests-rest c inputs₅ i o) (λ o h. rows-rest c (p .outs) o) (arbiters-rest c (c .vcs) (p .ins))
+            (arbiters-rest c (c .ports) (p .outs)) (nothing-leaves c stays)
+
+        pub reply-rests : (senders : List Sender) → senders ≡ reported c home → (n : ℕ)
+            → _≡_ {A = Reply} (record { senders = senders; outputs = replicate 8 (record { left = left.Nothing }) })
+            (record { senders = reported c home; outputs = leavingOf (boundOf c n p store wire home part) .left })
+        reply-rests =
+            reply-is set noPicks noPicks noRequests (p .ins) (p .outs) stays er (λ i h. picks-rest c set (p .ins) rest i)
+            (λ i o h g. requests-rest c inputs₅ i o) (λ o h. rows-rest c (p .outs) o) (arbiters-rest c (c .vcs) (p .ins))
+            (arbiters-rest c (c .ports) (p .outs)) (nothing-leaves c stays)

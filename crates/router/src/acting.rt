@@ -8,6 +8,8 @@ use crate::switching;
 use arbiter::Narrow;
 use arbiter::Wide;
 use base::Config;
+use base::Left;
+use base::Output;
 use base::Reply;
 use state::InputVc;
 use state::OutputVc;
@@ -73,6 +75,25 @@ pub(crate) fn act(
     let inputs5 = named.inputs;
     let outputs5 = named.outputs;
     let ready = switching::ready(config, inputs5, outputs5);
+    // nobody is ready: phases 6 and 7 change nothing
+    if ready == 0 {
+        let left = [Output {
+            left: Left::Nothing,
+        }; 8];
+        return Acted {
+            parts: Parts {
+                inputs: inputs5,
+                outputs: outputs5,
+                vcs,
+                ins: ins0,
+                outs: outs0,
+            },
+            reply: Reply {
+                senders,
+                outputs: left,
+            },
+        };
+    }
     let picks = switching::pick_inputs(config, ready, ins0);
     let table = switching::table_of(config, inputs5, picks);
     let rows = switching::pick_outputs(config, &table, outs0);

@@ -25,8 +25,7 @@ loop-holds c = (search needs, left-all _ _)
 loop-again : tie.Need-loop-again Inv-loop μ-loop
 loop-again c =
     let l = c .before .before .before .before .before .loop in
-    let a = c .before .before .before .before .before .before .before .args in
-    (
+    let a = c .before .before .before .before .before .before .before .args in (
       more (a .config .ports) (l .next) (c .before .before .before .if1 .taken),
       left-next _ _ _ (c .before .before .before .if1 .taken) (l .inv .1) (sym (past-none _ _ _ _ (sym (c .before .wide .ensures .0 ∙ c .before .before .credit-of .ensures) ∙ c .if2 .taken))),
     )
@@ -43,8 +42,7 @@ loop-again-2 : tie.Need-loop-again-2 Inv-loop μ-loop
 loop-again-2 c =
     let l = c .before .before .before .before .before .before .before .before .before .loop in
     let a = c .before .before .before .before .before .before .before .before .before .before .before .args in
-    let long : length (a .t2) ≡ 32 = search (needs, length-any) in
-    (
+    let long : length (a .t2) ≡ 32 = search (needs, length-any) in (
       more (a .config .ports) (l .next) (c .before .before .before .before .before .before .before .if1 .taken),
       left-next _ _ _ (c .before .before .before .before .before .before .before .if1 .taken) (l .inv .1) (sym (past-out _ _ _ _ _ (c .before .before .before .before .before .wide .ensures .0 ∙ c .before .before .before .before .before .before .credit-of .ensures) (c .before .before .before .before .if2 .left) _ (c .before .before .before .number .ensures) (rw long (c .before .before .if3 .taken))) ∙ c .if4 .left),
     )
@@ -59,8 +57,7 @@ returns-2 c =
 loop-again-3 : tie.Need-loop-again-3 Inv-loop μ-loop
 loop-again-3 c =
     let l = c .before .before .before .before .before .before .before .before .before .before .before .loop in
-    let a = c .before .before .before .before .before .before .before .before .before .before .before .before .before .args in
-    (
+    let a = c .before .before .before .before .before .before .before .before .before .before .before .before .before .args in (
       more (a .config .ports) (l .next) (c .before .before .before .before .before .before .before .before .before .if1 .taken),
       left-next _ _ _ (c .before .before .before .before .before .before .before .before .before .if1 .taken) (l .inv .1) (sym (past-in _ _ _ _ _ (c .before .before .before .before .before .before .before .wide .ensures .0 ∙ c .before .before .before .before .before .before .before .before .credit-of .ensures) (c .before .before .before .before .before .before .if2 .left) _ (c .before .before .before .before .before .number .ensures)) ∙ c .if5 .left),
     )

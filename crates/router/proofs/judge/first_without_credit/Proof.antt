@@ -25,8 +25,7 @@ loop-holds c = (search needs, left-all _ _)
 loop-again : tie.Need-loop-again Inv-loop μ-loop
 loop-again c =
     let l = c .before .before .before .before .loop in
-    let a = c .before .before .before .before .before .before .args in
-    (
+    let a = c .before .before .before .before .before .before .args in (
       more (a .config .ports) (l .next) (c .before .before .if1 .taken),
       left-next _ _ _ (c .before .before .if1 .taken) (l .inv .1) (sym (credit-none _ _ _ _ _ (c .before .kind-of .ensures) (c .if2 .taken))),
     )
@@ -49,8 +48,7 @@ returns-2 c =
 loop-again-2 : tie.Need-loop-again-2 Inv-loop μ-loop
 loop-again-2 c =
     let l = c .before .before .before .before .before .before .before .before .before .before .before .loop in
-    let a = c .before .before .before .before .before .before .before .before .before .before .before .before .before .args in
-    (
+    let a = c .before .before .before .before .before .before .before .before .before .before .before .before .before .args in (
       more (a .config .ports) (l .next) (c .before .before .before .before .before .before .before .before .before .if1 .taken),
       left-next _ _ _ (c .before .before .before .before .before .before .before .before .before .if1 .taken) (l .inv .1) (sym (credit-in _ _ _ _ _ (c .before .before .before .before .before .before .before .before .kind-of .ensures) (c .before .before .before .before .before .before .before .if2 .left) _ (c .before .before .before .before .before .wide .ensures .0 ∙ c .before .before .before .before .before .before .vc-of .ensures) _ (c .before .before .before .before .number .ensures)) ∙ c .if4 .left),
     )

@@ -24,8 +24,7 @@ loop-holds c = (search needs, rows-none (c .args .config) (c .args .t2) (c .args
 loop-again : tie.Need-loop-again Inv-loop μ-loop
 loop-again c =
     let l = c .before .before .before .loop in
-    let a = c .before .before .before .before .args in
-    (
+    let a = c .before .before .before .before .args in (
       more (a .config .ports) (l .next) (c .before .if1 .taken),
       rows-same (a .config) (a .t2) (a .t3) (l .table) (l .next) 8 (l .inv .1)
           (no-pick (a .config) (a .t2) (l .next) (getD (a .t3) (l .next) 0) (c .if2 .taken)) (omega arith),
@@ -39,8 +38,7 @@ loop-again-2 c =
     let n = c .before .number in
     let v = c .before .before .wide in
     let long : length (a .t2) ≡ 32 = search (needs, length-any) in
-    let far : length (a .t2) ≤ n .result = rw long (c .if3 .taken) in
-    (
+    let far : length (a .t2) ≤ n .result = rw long (c .if3 .taken) in (
       more (a .config .ports) (l .next) (c .before .before .before .before .if1 .taken),
       rows-same (a .config) (a .t2) (a .t3) (l .table) (l .next) 8 (l .inv .1)
           (past-the-end (a .config) (a .t2) (l .next) (getD (a .t3) (l .next) 0) (c .before .before .before .if2 .left) (v .result) (v .ensures .0) (n .result) (n .ensures) far)
@@ -54,8 +52,7 @@ loop-again-3 c =
     let a = c .before .before .before .before .before .before .before .before .before .before .args in
     let r = c .before .output-of in
     let n = c .before .before .before .before .number in
-    let v = c .before .before .before .before .before .wide in
-    (
+    let v = c .before .before .before .before .before .wide in (
       more (a .config .ports) (l .next) (c .before .before .before .before .before .before .before .if1 .taken),
       rows-same (a .config) (a .t2) (a .t3) (l .table) (l .next) (r .result) (l .inv .1)
           (as-bound (a .config) (a .t2) (l .next) (getD (a .t3) (l .next) 0) (c .before .before .before .before .before .before .if2 .left) (v .result) (v .ensures .0) (n .result) (n .ensures)
@@ -69,8 +66,7 @@ loop-again-4 c =
     let r = c .before .output-of in
     let n = c .before .before .before .before .number in
     let v = c .before .before .before .before .before .wide in
-    let low : l .next < 8 = let h = c .before .before .before .before .before .before .before .if1 .taken in let p = c .before .before .before .before .before .before .before .before .before .before .pre in omega arith in
-    (
+    let low : l .next < 8 = let h = c .before .before .before .before .before .before .before .if1 .taken in let p = c .before .before .before .before .before .before .before .before .before .before .pre in omega arith in (
       more (a .config .ports) (l .next) (c .before .before .before .before .before .before .before .if1 .taken),
       rows-with (a .config) (a .t2) (a .t3) (l .table) (l .next) (r .result) (l .inv .1)
           (as-bound (a .config) (a .t2) (l .next) (getD (a .t3) (l .next) 0) (c .before .before .before .before .before .before .if2 .left) (v .result) (v .ensures .0) (n .result) (n .ensures)
