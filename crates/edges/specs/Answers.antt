@@ -1,27 +1,22 @@
 -- What a write answers, and what then stands in a buffer that was all zero.
 -- Assumes nothing.
 use mathlib.Core.Path.{_≡_}
-use mathlib.Core.List.{List}
+use mathlib.Core.List.{List, []}
 use Prim.Native.Nat.{ℕ, _-_, _≤_}
 use lib.ListN.{length, take, drop, replicate, set}
 use Rattle.base.specs.declared.reply.Reached.the-variants.{Vc}
 use Rattle.base.specs.declared.reply.Left.the-variants.{Flit}
 use Rattle.base.specs.declared.reply.Reply.{Reply}
-use Rattle.base.specs.Numbers.{done, noRoom, outOfRange}
 use Rattle.base.specs.Reply.{emptyReply}
 use Rattle.listing.specs.declared.Written.{Written}
-use Rattle.listing.specs.declared.Written.the-variants.{Lines, NoRoom, OutOfRange}
-use Rattle.listing.specs.Writing.{Outcome}
+use Rattle.listing.specs.Writing.{Outcome, outcomeOf}
 
+-- by listing's own definition of an answer; the buffer has no part in either
 abbrev pub numberOf : Written → ℕ
-numberOf (Lines bytes) = done
-numberOf NoRoom = noRoom
-numberOf OutOfRange = outOfRange
+numberOf w = outcomeOf w [] .number
 
 abbrev pub bytesOf : Written → ℕ
-bytesOf (Lines bytes) = bytes
-bytesOf NoRoom = 0
-bytesOf OutOfRange = 0
+bytesOf w = outcomeOf w [] .bytes
 
 -- this number, and this line from place 0 on with zeros behind it; no line where the write is refused
 pub record Answers (o : Outcome) (number : ℕ) (line : List ℕ) : Type 0 where

@@ -1,8 +1,6 @@
 // Reading from a descriptor.
+use crate::TRIES;
 ghost use Rattle.io.specs.Counts.{Counts};
-
-// How often a read that answers less than nothing is tried again: a signal may have interrupted it, and the answer does not say so.
-const TRIES: u32 = 100;
 
 // The bytes at the start of a buffer that were read, and whether the input could not be read on.
 pub struct Filled {

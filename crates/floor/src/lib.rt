@@ -10,3 +10,6 @@ pub use output::put;
 pub use passing::Passed;
 pub use passing::hand;
 pub use passing::pass;
+
+// How often a read or a write that moves nothing is tried again: a signal may have interrupted it, and the answer does not say so.
+pub(crate) const TRIES: u32 = 100;

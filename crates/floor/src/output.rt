@@ -1,7 +1,5 @@
 // Writing to a descriptor.
-
-// How often a write that answers less than nothing is tried again: a signal may have interrupted it.
-const TRIES: u32 = 100;
+use crate::TRIES;
 
 // Writes the first bytes of a buffer, or answers false.
 pub fn put(to: i32, buf: &[u8], bytes: usize) -> bool {
