@@ -1,6 +1,5 @@
 pub mod ByKind
 pub mod Champion
-pub mod Examples
 pub mod OrderTest
 pub mod RankTest
 pub mod Ranks

@@ -9,6 +9,4 @@ pub mod Entry
 pub mod RunIs
 pub mod Demand3
 pub mod Times
-pub mod Example
-pub mod Contention
 pub mod Printable

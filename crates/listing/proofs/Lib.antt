@@ -1,7 +1,6 @@
 pub mod Bytes
 pub mod Decimals
 pub mod Exactness
-pub mod Examples
 pub mod Laying
 pub mod Lengths
 pub mod Counting

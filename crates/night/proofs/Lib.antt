@@ -1,4 +1,3 @@
-pub mod Example
 pub mod Added
 pub mod InRange
 pub mod Left

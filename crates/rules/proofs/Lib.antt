@@ -1,6 +1,5 @@
 pub mod Folds
 pub mod Exactness
-pub mod Listing
 pub mod Channels
 pub mod Turns
 pub mod Lines

@@ -14,5 +14,4 @@ pub mod Queues
 pub mod Reading
 pub mod Slots
 pub mod SoundStates
-pub mod SoundTable
 pub mod Tests

@@ -7,7 +7,6 @@ pub mod Places
 pub mod Reading
 pub mod Order
 pub mod Runs
-pub mod Examples
 pub mod Longer
 pub mod Exactness
 pub mod Passing

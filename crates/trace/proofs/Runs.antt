@@ -1,10 +1,10 @@
--- A block judged in one walk along its bytes: what a closed block's check and its unused bytes are computed by.
+-- A block judged by one walk along its unused bytes.
 -- Assumes nothing.
 use mathlib.Core.Path.{_≡_, refl, sym, ap, _∙_}
 use mathlib.Core.Bool.{Bool, true, false, _&&_, _||_}
 use mathlib.Core.List.{List, [], _∷_}
-use Prim.Native.Nat.{ℕ, zero, suc, _+_, _-_, _*_, _%_, _≤_, _<_}
-use native.Mathlib.Nat.{mul-zero, add-zero, zero-add, add-suc, suc-add, add-comm, not-suc-le-zero}
+use Prim.Native.Nat.{ℕ, zero, suc, _+_, _-_, _≤_, _<_}
+use native.Mathlib.Nat.{not-suc-le-zero}
 use native.Mathlib.Omega.{arith}
 use lib.Dec.{eqb}
 use lib.ListN.{length, drop}
@@ -13,56 +13,13 @@ use borrow.Author.Tests.{eqb-true}
 use Rattle.base.proofs.Search.{both}
 use Rattle.base.proofs.Zeros.{all-blank}
 use Rattle.trace.specs.declared.place.Place.{Place}
-use Rattle.trace.specs.Bytes.{byte, bigEndian, zeros}
+use Rattle.trace.specs.Bytes.{byte, zeros}
 use Rattle.trace.specs.Blocks.{bodyEnd}
-use Rattle.trace.specs.Check.{sum, weighed, checkOf, checkHolds}
+use Rattle.trace.specs.Check.{checkHolds}
 use Rattle.trace.specs.Place.{goodPlace}
 use Rattle.trace.specs.Rules.{kindWrong, numberWrong, countWrong, unusedWrong, orderWrong, totalWrong, formWrong, fieldWrong}
 use Rattle.trace.specs.Judged.{byField, judged}
 use Rattle.trace.proofs.Order.{judged-read}
-use Rattle.trace.proofs.Sums.{sum-ext}
-
--- ---- the check
-
--- the first n bytes, the first of weight k, on top of s
-abbrev pub run : ℕ → ℕ → ℕ → List ℕ → ℕ
-run zero k s l = s
-run (suc n) k s [] = s
-run (suc n) k s (a ∷ l) = run n (suc k) (s + k * a) l
-
--- the first number of a sum
-sum-first : (n : ℕ) (f : ℕ → ℕ) → sum (suc n) f ≡ f 0 + sum n (λ (i : ℕ). f (suc i))
-unfolding sum
-sum-first zero f = omega arith
-sum-first (suc n) f = let e = sum-first n f in omega arith
-
-sum-none : (n k : ℕ) → sum n (λ (i : ℕ). (k + i) * byte [] i) ≡ 0
-unfolding sum
-sum-none zero k = refl
-sum-none (suc n) k = let e = sum-none n k in let z = mul-zero (k + n) in omega arith
-
-run-sum : (n k s : ℕ) (l : List ℕ) → run n k s l ≡ s + sum n (λ (i : ℕ). (k + i) * byte l i)
-unfolding sum
-run-sum zero k s l = sym (add-zero s)
-run-sum (suc n) k s [] = let z = sum-none (suc n) k in omega arith
-run-sum (suc n) k s (a ∷ l) =
-    let rest = run-sum n (suc k) (s + k * a) l in
-    let split = sum-first n (λ (i : ℕ). (k + i) * byte (a ∷ l) i) in
-    let same : sum n (λ (i : ℕ). (suc k + i) * byte l i) ≡ sum n (λ (i : ℕ). (k + suc i) * byte l i) = sum-ext n _ _ (λ i h. ap (λ (w : ℕ). w * byte l i) (suc-add k i ∙ sym (add-suc k i))) in
-    let here = ap (λ (w : ℕ). w * a) (add-zero k) in
-    omega arith
-
--- the check by one walk
-pub check-run : (l : List ℕ) → checkOf l ≡ run 510 1 0 l % 65521
-unfolding checkOf
-check-run l =
-    let e = run-sum 510 1 0 l in
-    let same : sum 510 (weighed l) ≡ sum 510 (λ (i : ℕ). (1 + i) * byte l i) = sum-ext 510 _ _ (λ i h. ap (λ (w : ℕ). w * byte l i) (add-comm i 1)) in
-    ap (λ (x : ℕ). x % 65521) (same ∙ sym (e ∙ zero-add (sum 510 (λ (i : ℕ). (1 + i) * byte l i))))
-
-pub check-holds-run : (l : List ℕ) → eqb (run 510 1 0 l % 65521) (bigEndian l 510 2) ≡ true → checkHolds l ≡ true
-unfolding checkHolds
-check-holds-run l e = rw (check-run l) e
 
 -- ---- the unused bytes
 

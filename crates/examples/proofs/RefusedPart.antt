@@ -26,13 +26,13 @@ use Rattle.rules.specs.Allocation.{asks, freeVc, grantOf, bindings, wideMoved, 
 use Rattle.rules.specs.Departures.{departures, leavingOf}
 use Rattle.rules.specs.Numbers.{runFull, rowWrong, creditPastRoom, outOfTurn, noSenderCredit, firstOf, judged}
 use Rattle.rules.specs.Step.{takenIn, sentOut, routerAfter, replyOf, stepOf}
-use Rattle.rules.proofs.Listing.{config, partOf}
 use Rattle.history.specs.Run.{entryOf, Ran, runFrom, runOf}
 use Rattle.history.specs.Demand3.{storedCredits, buffered, onWire, goingHome}
+use Rattle.examples.specs.Listing.{config, cycle0, cycle1, cycle2, cycle3, cycle4, cycle5}
 
 -- a part that isn't 64 bytes long is refused
 abbrev parts : List (List ℕ)
-parts = partOf 0 ∷ partOf 1 ∷ partOf 2 ∷ [] ∷ partOf 3 ∷ partOf 4 ∷ partOf 5 ∷ []
+parts = cycle0 ∷ cycle1 ∷ cycle2 ∷ [] ∷ cycle3 ∷ cycle4 ∷ cycle5 ∷ []
 
 -- of a run: its accepted cycles, what input 0 sent and what of it left, and the counts of input 0
 pub record Seen : Type 0 where

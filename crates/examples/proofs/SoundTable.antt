@@ -2,32 +2,31 @@
 -- reaches and that are not fresh.
 -- Assumes nothing.
 use mathlib.Core.Path.{_≡_, refl, sym, ap, ap₂, _∙_}
-use mathlib.Core.Bool.{Bool, true, false, xor, _&&_, false≢true}
+use mathlib.Core.Bool.{Bool, true, false, xor, _&&_}
 use mathlib.Core.List.{List, [], _∷_}
 use mathlib.Core.Logic.{inr}
 use Prim.Native.Nat.{ℕ, suc, _+_, _^_, _≤_}
 use native.Mathlib.Omega.{arith}
-use lib.Dec.{eqb}
 use lib.ListN.{getD-replicate}
-use borrow.Author.Tests.{eqb-true}
 use Rattle.base.specs.Bits.{bit, wordOf, withBit}
 use Rattle.base.specs.Flit.{flitOf, kindOf, destinationOf, startsKind, endsKind}
 use Rattle.base.specs.Search.{every}
 use Rattle.base.specs.Sizes.{illegalField, firstIllegal, inRange}
-use Rattle.base.proofs.Search.{both, all-every}
+use Rattle.base.proofs.Search.{all-every}
 use Rattle.arbiter.specs.Arbiter as arbiter
 use Rattle.arbiter.specs.Arbiter.{ofNarrow, ofWide}
 use Rattle.arbiter.proofs.ByKind.{Known}
 use Rattle.arbiter.proofs.Soundness as arbiters
 use Rattle.arbiter.specs.RoundRobin.{pointerAfter}
 use Rattle.arbiter.specs.Matrix.{beats, raised, defeated, listOf, freshRow, freshRows, totalOrder, within, blankFrom}
 use Rattle.state.specs.declared.Router.{Router}
 use Rattle.state.specs.Fresh.{freshOutput, asNarrow, asWide, pastNarrow, pastWide, freshRouter}
 use Rattle.state.specs.Views.{queueAt, wireOf, homeOf, places, flat, total}
 use Rattle.state.specs.Sound
 use Rattle.state.specs.Sound.{isNone, all, configurationLegal, cyclesFit, creditsWhole, creditsAddUp, legalFlit, wirePlaceLegal, wireLegal, homeLegal, queuesLegal, outputCreditsFit, namesAgree, arbitersSound, reading, reads, packetsRead, channelsUnused, slotsEmpty, lineUnused, arbitersUnused, shaped, clauses, sound}
 use Rattle.state.proofs.Exact.{sound-passes}
+use Rattle.examples.proofs.Same.{same, same-is}
 use Rattle.state.proofs.SoundStates.{withCycle, withInput, withOutput, withSlot, withStore, withWire, withHome, withVcArbiter, withInputArbiter, withOutputArbiter, withArbiters, withConfig, config, turns, orders, unbound, bound, held, head, single, body, tail, on, pointerWide, pointerNarrow, orderWide, stored, queue, middle, fronted, fullWire, homing, deep, picked, pickedArbiters, large}
 
 -- the numbers of the clauses that a state breaks
 brokenFrom : ℕ → List Bool → List ℕ
@@ -46,14 +45,8 @@ pub record Row : Type 0 where
 row : Router → List ℕ → Row
 row s k = record { state = s; breaks = k }
 
-sameList : List ℕ → List ℕ → Bool
-sameList [] [] = true
-sameList [] (y ∷ ys) = false
-sameList (x ∷ xs) [] = false
-sameList (x ∷ xs) (y ∷ ys) = eqb x y && sameList xs ys
-
 pub right : Row → Bool
-right r = sameList (broken (r .state)) (r .breaks)
+right r = same (broken (r .state)) (r .breaks)
 
 -- all but the large router
 others : List Row
@@ -123,18 +116,10 @@ others =
     row (withOutputArbiter 7 (pointerNarrow 1) orders) (14 ∷ []) ∷ []
 
 others-right : all right others ≡ true
-unfolding xor all right sameList broken brokenFrom clauses others row withCycle withInput withOutput withSlot withStore withWire withHome withVcArbiter withInputArbiter withOutputArbiter withArbiters withConfig config turns orders unbound bound held head single body tail on pointerWide pointerNarrow orderWide stored queue middle fronted fullWire homing deep configurationLegal isNone illegalField firstIllegal inRange cyclesFit creditsAddUp creditsWhole legalFlit wirePlaceLegal wireLegal homeLegal queuesLegal outputCreditsFit namesAgree arbitersSound reading reads packetsRead channelsUnused slotsEmpty lineUnused arbitersUnused shaped every freshRouter queueAt wireOf homeOf places flat total flitOf kindOf destinationOf startsKind endsKind bit wordOf withBit arbiter.sound arbiter.known arbiter.fresh beats listOf freshRow freshRows totalOrder within blankFrom
+unfolding xor all right broken brokenFrom clauses others row withCycle withInput withOutput withSlot withStore withWire withHome withVcArbiter withInputArbiter withOutputArbiter withArbiters withConfig config turns orders unbound bound held head single body tail on pointerWide pointerNarrow orderWide stored queue middle fronted fullWire homing deep configurationLegal isNone illegalField firstIllegal inRange cyclesFit creditsAddUp creditsWhole legalFlit wirePlaceLegal wireLegal homeLegal queuesLegal outputCreditsFit namesAgree arbitersSound reading reads packetsRead channelsUnused slotsEmpty lineUnused arbitersUnused shaped every freshRouter queueAt wireOf homeOf places flat total flitOf kindOf destinationOf startsKind endsKind bit wordOf withBit arbiter.sound arbiter.known arbiter.fresh beats listOf freshRow freshRows totalOrder within blankFrom
 others-right = refl
 
 -- so the test of soundness accepts just the rows that break none
-sameList-is : (xs ys : List ℕ) → sameList xs ys ≡ true → xs ≡ ys
-unfolding sameList
-sameList-is [] [] e = refl
-sameList-is [] (y ∷ ys) e = absurd (false≢true e)
-sameList-is (x ∷ xs) [] e = absurd (false≢true e)
-sameList-is (x ∷ xs) (y ∷ ys) e =
-    let p = both (eqb x y) (sameList xs ys) e in ap₂ _∷_ (eqb-true x y (p .0)) (sameList-is xs ys (p .1))
-
 unfoldable pub none : List ℕ → Bool
 none [] = true
 none (k ∷ ks) = false
@@ -147,7 +132,7 @@ all-none k (false ∷ bs) = refl
 
 pub right-sound : (r : Row) → right r ≡ true → sound (r .state) ≡ none (r .breaks)
 unfolding right broken sound
-right-sound r e = all-none 0 (clauses (r .state)) ∙ ap none (sameList-is (broken (r .state)) (r .breaks) e)
+right-sound r e = all-none 0 (clauses (r .state)) ∙ ap none (same-is (broken (r .state)) (r .breaks) e)
 
 -- picks keep a matrix sound
 picks : (places n : ℕ) (ws : List ℕ) → Known places 2 n → arbiters.Sound places 2 n (picked places n ws)
@@ -195,14 +180,14 @@ large-sound =
       shape = refl;
     }
 
-sameList-none : (xs : List ℕ) → sameList xs [] ≡ none xs
-unfolding sameList none
-sameList-none [] = refl
-sameList-none (x ∷ xs) = refl
+same-none : (xs : List ℕ) → same xs [] ≡ none xs
+unfolding none
+same-none [] = refl
+same-none (x ∷ xs) = refl
 
 large-right : right (row large []) ≡ true
 unfolding right row broken sound
-large-right = sameList-none (broken large) ∙ sym (all-none 0 (clauses large)) ∙ sound-passes large large-sound
+large-right = same-none (broken large) ∙ sym (all-none 0 (clauses large)) ∙ sound-passes large large-sound
 
 pub table : List Row
 table = row large [] ∷ others

@@ -1,13 +1,11 @@
 -- Inputs contend for output 1, under either arbiter, on a router of 3 ports with 2 VCs, D = E = F = B = 2: 11 parts, of which one is refused
 -- with 5 and one with 6 in the middle. What is expected is worked out by hand from document 01's phases; the run computes the same.
 -- Assumes nothing.
-use mathlib.Core.Path.{_≡_, refl, ap₂}
-use mathlib.Core.Bool.{Bool, true, false, cond, xor, _&&_, false≢true}
+use mathlib.Core.Path.{_≡_, refl}
+use mathlib.Core.Bool.{Bool, true, cond, xor, _&&_}
 use mathlib.Core.List.{List, [], _∷_, _++_, map}
 use Prim.Native.Nat.{ℕ, suc}
-use lib.Dec.{eqb}
 use lib.ListN.{length, replicate}
-use borrow.Author.Tests.{eqb-true}
 use Rattle.base.specs.Bits.{bit, wordOf, withBit}
 use Rattle.base.specs.declared.config.Config.{Config}
 use Rattle.base.specs.declared.flit.Flit.{Flit}
@@ -38,8 +36,9 @@ use Rattle.rules.specs.Allocation.{asks, freeVc, grantOf, bindings, wideMoved, 
 use Rattle.rules.specs.Departures.{departures, leavingOf}
 use Rattle.rules.specs.Numbers.{numberOf, portOf, refusing, runFull, rowWrong, creditPastRoom, outOfTurn, noSenderCredit, firstOf, judged}
 use Rattle.rules.specs.Step.{takenIn, sentOut, routerAfter, replyOf, stepOf}
 use Rattle.history.specs.Run.{entryOf, Ran, runFrom, runOf}
 use Rattle.history.specs.Demand3.{storedCredits, buffered, onWire, goingHome}
+use Rattle.examples.proofs.Same.{same, same-is}
 
 abbrev config : ℕ → Config
 config code = record { ports = 3; vcs = 2; depth = 2; downstream = 2; forward = 2; back = 2; arbiter = code }
@@ -166,7 +165,7 @@ byMatrix =
       two-one = 0 ∷ 1 ∷ 1 ∷ 0 ∷ [];
     }
 
--- All numbers of what is seen, compared by one test: where a definition is wrong, a test that fails costs far less than two records that differ.
+-- all numbers of what is seen
 abbrev bindingNumbers : Binding → List ℕ
 bindingNumbers Unbound = 0 ∷ 0 ∷ 0 ∷ []
 bindingNumbers (Bound b) = 1 ∷ b .output ∷ b .vc ∷ []
@@ -186,20 +185,6 @@ numbersOf x =
     x .cycles ∷ numberOf (x .unpaid) ∷ portOf (x .unpaid) ∷ numberOf (x .overpaid) ∷ portOf (x .overpaid)
     ∷ (bindingNumbers (x .waiting .binding)
     ++ (x .waiting .credit ∷ cond (x .waiting .inside) 1 0 ∷ x .waiting .queued ∷ (x .zero-zero ++ (x .two-one ++ lineNumbers (x .lines)))))
-
-abbrev same : List ℕ → List ℕ → Bool
-same [] [] = true
-same [] (y ∷ ys) = false
-same (x ∷ xs) [] = false
-same (x ∷ xs) (y ∷ ys) = eqb x y && same xs ys
-
-same-is : (xs ys : List ℕ) → same xs ys ≡ true → xs ≡ ys
-same-is [] [] e = refl
-same-is [] (y ∷ ys) e = absurd (false≢true e)
-same-is (x ∷ xs) [] e = absurd (false≢true e)
-same-is (x ∷ xs) (y ∷ ys) e =
-    let p = search.both (eqb x y) (same xs ys) e in
-    ap₂ (λ (z : ℕ) (zs : List ℕ). z ∷ zs) (eqb-true x y (p .0)) (same-is xs ys (p .1))
 
 abbrev agrees : ℕ → Seen → Bool
 agrees code expected = same (numbersOf (seenIn (config code))) (numbersOf expected)

@@ -1,0 +1,7 @@
+pub mod Same
+pub mod Table
+pub mod Files
+pub mod Rooms
+pub mod RefusedPart
+pub mod Contention
+pub mod SoundTable
