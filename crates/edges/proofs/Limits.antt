@@ -19,7 +19,7 @@ use Rattle.state.specs.declared.Router.{Router}
 use Rattle.state.specs.Fresh.{freshRouter}
 use Rattle.state.specs.Views.{queueAt, places, wireOf, homeOf, flat, total}
 use Rattle.state.specs.Sound.{isNone, all, configurationLegal, cyclesFit, creditsWhole, creditsAddUp, legalFlit, wirePlaceLegal, wireLegal, homeLegal, queuesLegal, outputCreditsFit, namesAgree, arbitersSound, reading, reads, packetsRead, channelsUnused, slotsEmpty, lineUnused, arbitersUnused, shaped, clauses, sound}
-use Rattle.state.specs.Store.{frontOf, pushed, movedUp, popped}
+use Rattle.store.specs.Store.{frontOf, pushed, movedUp, popped}
 use Rattle.state.proofs.SoundStates.{withCycle, withInput, withOutput, withSlot, withWire, withHome, config, turns, unbound, bound, held, head, single, body, on}
 use Rattle.trace.specs.Bytes.{bigEndian}
 use Rattle.rules.specs.declared.Stepped.{Stepped}

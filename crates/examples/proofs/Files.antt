@@ -13,7 +13,7 @@ use Rattle.arbiter.specs.Arbiter as arbiter
 use Rattle.state.specs.Fresh.{freshRouter}
 use Rattle.state.specs.Views.{queueAt, places, wireOf, homeOf, flat, total}
 use Rattle.state.specs.Sound.{isNone, all, configurationLegal, cyclesFit, creditsWhole, creditsAddUp, legalFlit, wirePlaceLegal, wireLegal, homeLegal, queuesLegal, outputCreditsFit, namesAgree, arbitersSound, reading, reads, packetsRead, channelsUnused, slotsEmpty, lineUnused, arbitersUnused, shaped, clauses, sound}
-use Rattle.state.specs.Store.{frontOf, pushed, movedUp, popped}
+use Rattle.store.specs.Store.{frontOf, pushed, movedUp, popped}
 use Rattle.rules.specs.Ports.{overPorts}
 use Rattle.rules.specs.Rows.{rowZero, noOffer, legalOffer, rowLegal}
 use Rattle.rules.specs.Intake.{advanced, sendersPaid, reported, creditsReached, outputsPaid, creditsReturned, landings, landed, offers, offersTaken}

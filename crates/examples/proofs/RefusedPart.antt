@@ -17,7 +17,7 @@ use Rattle.model.specs.History.{accepted, leftFrom, flits}
 use Rattle.state.specs.Fresh.{freshRouter}
 use Rattle.state.specs.Views.{queueAt, places, wireOf, homeOf, flat, total}
 use Rattle.state.specs.Sound.{isNone, all, configurationLegal, cyclesFit, creditsWhole, creditsAddUp, legalFlit, wirePlaceLegal, wireLegal, homeLegal, queuesLegal, outputCreditsFit, namesAgree, arbitersSound, reading, reads, packetsRead, channelsUnused, slotsEmpty, lineUnused, arbitersUnused, shaped, clauses, sound}
-use Rattle.state.specs.Store.{frontOf, pushed, movedUp, popped}
+use Rattle.store.specs.Store.{frontOf, pushed, movedUp, popped}
 use Rattle.trace.specs.Bytes.{bigEndian}
 use Rattle.rules.specs.Ports.{overPorts}
 use Rattle.rules.specs.Rows.{rowZero, noOffer, legalOffer, rowLegal}

@@ -18,7 +18,7 @@ use Rattle.rules.specs.Numbers.{refusing}
 use Rattle.rules.specs.Step.{stepOf}
 use Rattle.history.specs.Run.{runOf}
 use Rattle.history.specs.Demand3.{storedCredits, buffered, onWire, goingHome}
-use Rattle.router.specs.Night.{started}
+use Rattle.standing.specs.Night.{started}
 use Rattle.night.specs.Calls.{Calls}
 use Rattle.night.specs.File.{listOf}
 use Rattle.examples.specs.Listing.{config, cycle0, cycle1, cycle2, cycle3, cycle4, cycle5, block0, block2, file, printed}

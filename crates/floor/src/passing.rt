@@ -1,6 +1,6 @@
 // Handing a part over to the run entry and writing its lines.
 use crate::output;
-use router::Night;
+use standing::Night;
 ghost use Prim.Native.Nat.{_≤_};
 ghost use lib.ListN.{length};
 

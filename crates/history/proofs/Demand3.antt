@@ -18,7 +18,7 @@ use Rattle.model.proofs.Demand3 as model-law
 use Rattle.state.specs.declared.Router.{Router}
 use Rattle.state.specs.Channels.{ChannelView, channelView}
 use Rattle.state.specs.Sound.{Sound}
-use Rattle.state.specs.Store.{firstSlot}
+use Rattle.store.specs.Store.{firstSlot}
 use Rattle.state.specs.Views.{channel, inputAt, slotFlit, queueAt, wireOf, homeOf, flat, total}
 use Rattle.trace.specs.Bytes.{AreBytes}
 use Rattle.rules.specs.declared.Verdict.the-variants.{Accepted}

@@ -24,7 +24,7 @@ use Rattle.state.specs.declared.Router.{Router}
 use Rattle.state.specs.Channels.{ChannelView, boundTo, isThere}
 use Rattle.state.specs.Fresh.{freshInput}
 use Rattle.state.specs.Sound.{Sound, frontIsFor}
-use Rattle.state.specs.Store.{firstSlot}
+use Rattle.store.specs.Store.{firstSlot}
 use Rattle.state.specs.Views.{channel, inputAt, outputAt, queueAt}
 use Rattle.trace.specs.Bytes.{AreBytes}
 use Rattle.rules.specs.declared.Verdict.the-variants.{Accepted}

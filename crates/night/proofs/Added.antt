@@ -15,7 +15,7 @@ use Rattle.listing.specs.Writing.{Outcome, put, lacksRoom, written}
 use Rattle.listing.proofs.Exactness.{put-before, put-there, put-after}
 use Rattle.listing.proofs.Ports.{text-append, printable-append}
 use Rattle.listing.proofs.Stores.{sets-append, put-length}
-use Rattle.router.specs.declared.night.Night.{Night}
+use Rattle.standing.specs.declared.Night.{Night}
 use Rattle.router.specs.Running.{Writing, wrote, onNight}
 
 -- what is put is what is stored byte by byte

@@ -11,7 +11,7 @@ use Rattle.trace.specs.Judged.{Read, aConfiguration, someCycles, theEnd, noMore
 use Rattle.rules.specs.declared.Verdict.{Verdict}
 use Rattle.rules.specs.declared.Verdict.the-variants.{Accepted, Refused}
 use Rattle.rules.specs.Step.{stepOf}
-use Rattle.router.specs.declared.night.Night.{Night}
+use Rattle.standing.specs.declared.Night.{Night}
 use Rattle.router.specs.Running.{Writing, wrote, withPlace, onNight, endedBy, byVerdict, cycled, partAt, cyclesFrom, byOutcome, blockTaken}
 use Rattle.router.specs.Inside.{Within, GoesOn}
 use Rattle.router.proofs.Going.{cycled-goes-on}

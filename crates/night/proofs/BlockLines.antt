@@ -17,9 +17,10 @@ use Rattle.trace.specs.Blocks.{heldOf, configOf}
 use Rattle.trace.specs.Judged.{Outcome, nextPlace, judged}
 use Rattle.trace.proofs.Found.{FoundAs, refuses, configures, holds, ends, is-over, found-as}
 use Rattle.listing.specs.Lines.{finish, refusal, flitLines}
-use Rattle.router.specs.declared.night.Night.{Night}
+use Rattle.standing.specs.declared.Night.{Night}
 use Rattle.router.specs.Running.{Writing, wrote, withPlace, onNight, endedBy, cyclesFrom, byOutcome, blockTaken, blockRoom}
-use Rattle.router.proofs.Going.{sound-cycle, block-goes-on}
+use Rattle.state.proofs.Legal.{sound-cycle}
+use Rattle.router.proofs.Going.{block-goes-on}
 use Rattle.router.proofs.RunLaws.{begun-ongoing}
 use Rattle.router.proofs.Writes.{refusal-fits, finish-fits}
 use Rattle.night.specs.File.{Printed, cyclesThen, blockThen}

@@ -13,8 +13,8 @@ use Rattle.trace.specs.Bytes.{AreBytes}
 use Rattle.trace.specs.Place.{goodPlace}
 use Rattle.listing.specs.Lines.{Line, text, printable}
 use Rattle.listing.proofs.Ports.{text-append}
-use Rattle.router.specs.declared.night.Night.{Night}
-use Rattle.router.specs.Night.{stoppedInside, placeRight, nightSound}
+use Rattle.standing.specs.declared.Night.{Night}
+use Rattle.standing.specs.Night.{stoppedInside, placeRight, nightSound}
 use Rattle.router.specs.Running.{Writing, blockTaken, blockRoom, blocksIn, lacksBlockRoom, Call, goesOn, Outcome, answered, ranOf}
 use Rattle.router.proofs.RunLaws.{run-goes, configured-ongoing, unconfigured-none}
 use Rattle.night.specs.File.{Printed, fileFrom, cutInto, blocksOf}

@@ -16,7 +16,8 @@ use Rattle.rules.specs.declared.Verdict.the-variants.{Accepted, Refused}
 use Rattle.rules.specs.declared.Stepped.{Stepped}
 use Rattle.rules.specs.Step.{stepOf}
 use Rattle.router.specs.Running.{Writing, wrote, withRouter, withFlits, finished, endedBy, byVerdict, cycled, partAt, cyclesFrom}
-use Rattle.router.proofs.Going.{sound-cycle, cycled-place, piece-bytes}
+use Rattle.state.proofs.Legal.{sound-cycle}
+use Rattle.router.proofs.Going.{cycled-place, piece-bytes}
 use Rattle.router.proofs.Writes.{Fitting, refusal-fits}
 use Rattle.history.proofs.Printable.{reply-printable, reply-fits}
 use Rattle.night.specs.File.{Printed, cycleThen, cyclesThen}

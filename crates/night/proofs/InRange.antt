@@ -30,7 +30,7 @@ use Rattle.rules.proofs.Exactness.{First, this, later, refused-exactly}
 use Rattle.router.specs.Running.{Writing}
 use Rattle.router.specs.Inside.{GoesOn}
 use Rattle.router.proofs.SoundFits.{sound-sized}
-use Rattle.router.proofs.Going.{sound-cycle}
+use Rattle.state.proofs.Legal.{sound-cycle}
 use Rattle.history.proofs.Printable.{reply-printable}
 use Rattle.night.proofs.Added.{written-done}
 

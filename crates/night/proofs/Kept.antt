@@ -30,10 +30,11 @@ use Rattle.trace.proofs.Exactness.{accepted-taken}
 use Rattle.trace.proofs.Found.{FoundAs, refuses, configures, holds, ends, is-over, found-as}
 use Rattle.trace.proofs.Places.{Good, nothing, after, good-is}
 use Rattle.trace.proofs.Ways.{accepted-leads-on}
-use Rattle.router.specs.declared.night.Night.{Night}
-use Rattle.router.specs.Night.{started, before, within, stoppedInside, placeRight, nightSound}
+use Rattle.standing.specs.declared.Night.{Night}
+use Rattle.standing.specs.Night.{started, before, within, stoppedInside, placeRight, nightSound}
 use Rattle.router.specs.Running.{Writing, wrote, onNight, withPlace, withRouter, finished, endedBy, cyclesFrom, byOutcome, blockTaken, blocksIn, blockAt, lacksBlockRoom, Call, goesOn, refusedWith, answered, ranOf}
-use Rattle.router.proofs.Going.{sound-cycle, piece-bytes}
+use Rattle.state.proofs.Legal.{sound-cycle}
+use Rattle.router.proofs.Going.{piece-bytes}
 use Rattle.night.proofs.Standing.{Stands, Ran, through, stopped, cycles-ran}
 
 -- before the first block of a file

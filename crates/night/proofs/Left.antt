@@ -10,7 +10,7 @@ use Rattle.state.specs.declared.Router.{Router}
 use Rattle.trace.specs.declared.place.Place.{Place}
 use Rattle.listing.specs.Lines.{Line, finish, refusal, flitLines}
 use Rattle.listing.proofs.Counting.{flit-lines-append}
-use Rattle.router.specs.declared.night.Night.{Night}
+use Rattle.standing.specs.declared.Night.{Night}
 use Rattle.night.specs.File.{Ending, finishes, refuses, Printed, after, lastLine, linesOf}
 
 -- the last line, with these flits

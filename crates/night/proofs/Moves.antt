@@ -12,8 +12,8 @@ use Rattle.base.specs.Numbers.{done}
 use Rattle.trace.specs.Blocks.{blockLength}
 use Rattle.trace.specs.Place.{goodPlace}
 use Rattle.trace.specs.Judged.{noMore, accepted, refused}
-use Rattle.router.specs.declared.night.Night.{Night}
-use Rattle.router.specs.Night.{nightSound}
+use Rattle.standing.specs.declared.Night.{Night}
+use Rattle.standing.specs.Night.{nightSound}
 use Rattle.router.specs.Running.{Writing, wrote, endedBy, byOutcome, blockTaken, blocksIn, blockAt, lacksBlockRoom, Call, goesOn, Outcome, answered, ranOf}
 use Rattle.router.proofs.Onward.{goes-over}
 use Rattle.router.proofs.RunLaws.{run-goes}

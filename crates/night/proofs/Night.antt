@@ -11,8 +11,8 @@ use lib.ListN.{length, take, drop, replicate, length-take, length-drop, length-r
 use borrow.Author.Tests.{ltb-true, ltb-false}
 use Rattle.trace.specs.Bytes.{AreBytes}
 use Rattle.listing.specs.Lines.{text, printable}
-use Rattle.router.specs.declared.night.Night.{Night}
-use Rattle.router.specs.Night.{started, nightSound}
+use Rattle.standing.specs.declared.Night.{Night}
+use Rattle.standing.specs.Night.{started, nightSound}
 use Rattle.router.specs.Running.{blockRoom, lacksBlockRoom, Outcome, ranOf}
 use Rattle.router.proofs.Going.{piece-bytes}
 use Rattle.night.specs.File.{fileFrom, blocksOf, linesOf, printedOf, listOf}

@@ -21,7 +21,7 @@ use Rattle.rules.specs.Step.{stepOf}
 use Rattle.rules.proofs.ChosenStep.{config-stays, cycle-steps}
 use Rattle.rules.proofs.StepSound.{accepted-after}
 use Rattle.history.proofs.Printable.{flits-at-most-ports}
-use Rattle.router.specs.declared.night.Night.{Night}
+use Rattle.standing.specs.declared.Night.{Night}
 use Rattle.router.specs.Running.{Writing, wrote, finished, endedBy, byVerdict, cycled, partAt, cyclesFrom}
 use Rattle.router.proofs.Cycling.{cycles-over}
 use Rattle.router.proofs.Going.{piece-bytes}

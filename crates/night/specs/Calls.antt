@@ -7,7 +7,7 @@ use mathlib.Core.List.{List, [], _++_}
 use Prim.Native.Nat.{ℕ, _*_, _≤_, _<_}
 use lib.ListN.{length, take, drop}
 use Rattle.trace.specs.Blocks.{blockLength}
-use Rattle.router.specs.declared.night.Night.{Night}
+use Rattle.standing.specs.declared.Night.{Night}
 use Rattle.router.specs.Running.{Outcome, lacksBlockRoom, ranOf}
 
 -- the part that may be handed over where these bytes are left: some whole blocks, or all of them where they are less than a block

@@ -2,7 +2,7 @@
 // read and what is written is the run entry's business.
 mod messages;
 
-use router::Night;
+use standing::Night;
 
 // A proved loop has to end, so the parts are counted down.
 fn main() {

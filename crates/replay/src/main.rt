@@ -1,7 +1,7 @@
 // Stored traces through the run entry, cut into parts of any number of blocks. Standard input is a row of parts: two bytes with a part's
 // length, the higher first, and its bytes; a part of no bytes is the end of a trace, and the next part begins another. The lists go to
 // standard output one after another. Traces and lists are the second model's (docs/FORMATS.md says how they are made).
-use router::Night;
+use standing::Night;
 
 // A part's length, from the two bytes before it.
 fn length(high: u8, low: u8) -> usize {

@@ -23,9 +23,9 @@ use Rattle.state.specs.declared.Binding.the-variants.{Unbound, Bound}
 use Rattle.state.specs.declared.InputVc.{InputVc}
 use Rattle.state.specs.Fresh.{freshInput}
 use Rattle.state.specs.Sound.{isUnbound, frontIsFor}
-use Rattle.state.specs.Store.{firstSlot, frontOf}
+use Rattle.store.specs.Store.{firstSlot, frontOf}
 use Rattle.state.specs.Views.{slotFlit, queueAt, places}
-use Rattle.state.proofs.Slots.{front-there}
+use Rattle.store.proofs.Slots.{front-there}
 use Rattle.rules.proofs.Lines.{places-ext}
 use Rattle.rules.specs.Allocation.{asks}
 

@@ -21,7 +21,7 @@ use Rattle.state.specs.declared.Binding.the-variants.{Unbound, Bound}
 use Rattle.state.specs.declared.InputVc.{InputVc}
 use Rattle.state.specs.declared.OutputVc.{OutputVc}
 use Rattle.state.specs.Fresh.{freshInput, freshOutput}
-use Rattle.state.specs.Store.{frontOf, popped}
+use Rattle.store.specs.Store.{frontOf, popped}
 use Rattle.state.specs.Views.{channel}
 use Rattle.rules.specs.Ports.{overPorts}
 use Rattle.rules.specs.Intake.{newest}

@@ -10,9 +10,8 @@ use native.Mathlib.Omega.{arith}
 use lib.Dec.{ltb}
 use lib.ListN.{length, take, drop, getD, length-take, List·getD-eq-default}
 use lib.Seq.{getD-take, getD-drop}
-use borrow.Author.Tests.{ltb-true, ltb-false, leb-true}
+use borrow.Author.Tests.{ltb-true, ltb-false}
 use Rattle.state.specs.declared.Router.{Router}
-use Rattle.state.specs.Sound.{cyclesFit, Sound}
 use Rattle.trace.specs.Bytes.{AreBytes}
 use Rattle.trace.specs.declared.place.Place.{Place}
 use Rattle.trace.specs.Blocks.{heldOf, cycleLength, cycleStart}
@@ -30,11 +29,6 @@ use Rattle.rules.proofs.ChosenStep.{cycle-steps}
 use Rattle.router.specs.Running.{Writing, wrote, withPlace, withRouter, withFlits, onNight, finished, endedBy, byVerdict, cycled, partAt, cyclesFrom, byOutcome, blockTaken}
 use Rattle.router.specs.Inside.{GoesOn}
 use Rattle.router.proofs.Writes.{Fitting, wrote-within, refusal-fits, finish-fits}
-
--- a sound router has at most so many cycles
-pub sound-cycle : {s : Router} → Sound s → s .cycle ≤ 1000000000
-unfolding cyclesFit
-sound-cycle {s} z = leb-true (s .cycle) 1000000000 (z .cycles)
 
 -- the last line does no harm
 pub ended-goes-on : (line : Line) (w : Writing) → Fitting (line ∷ []) → GoesOn w → GoesOn (endedBy line w)

@@ -12,9 +12,9 @@ use borrow.Author.Tests.{eq-eqb, ne-eqb}
 use Rattle.base.specs.declared.config.Config.{Config}
 use Rattle.state.specs.declared.InputVc.{InputVc}
 use Rattle.state.specs.Fresh.{freshInput}
-use Rattle.state.specs.Store.{pushed}
+use Rattle.store.specs.Store.{pushed}
 use Rattle.state.specs.Views.{channel, wirePlace, wireVc, wireFlit}
-use Rattle.state.proofs.Slots.{push-beyond, push-length}
+use Rattle.store.proofs.Slots.{push-beyond, push-length}
 use Rattle.rules.specs.Ports.{overPorts}
 use Rattle.rules.specs.Intake.{oneMoreQueued, Queues, joined, landedAt, landings}
 use Rattle.rules.proofs.Folds.{over-keeps}

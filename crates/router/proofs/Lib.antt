@@ -29,6 +29,5 @@ pub mod Taken
 pub mod FlitCount
 pub mod Rooms
 pub mod Beginning
-pub mod NightTests
 pub mod Onward
 pub mod RunLaws

@@ -21,8 +21,8 @@ use Rattle.trace.specs.Blocks.{configOf}
 use Rattle.trace.specs.Place.{goodPlace, withoutCycles, mayHold}
 use Rattle.trace.specs.Judged.{Outcome, judged}
 use Rattle.trace.proofs.Found.{FoundAs, refuses, configures, holds, ends, is-over, found-as}
-use Rattle.router.specs.declared.night.Night.{Night}
-use Rattle.router.specs.Night.{stoppedInside, placeRight, nightSound}
+use Rattle.standing.specs.declared.Night.{Night}
+use Rattle.standing.specs.Night.{stoppedInside, placeRight, nightSound}
 use Rattle.router.specs.Running.{Writing, wrote, endedBy, byOutcome, blockTaken, lacksBlockRoom, blocksIn, goesOn, refusedWith, answered, ranOf}
 use Rattle.router.specs.Inside.{Within, Ongoing}
 use Rattle.router.proofs.SoundFits.{sound-sized}

@@ -3,6 +3,5 @@ pub mod Rows
 pub mod Picks
 pub mod Grants
 pub mod Whole
-pub mod Night
 pub mod Running
 pub mod Inside

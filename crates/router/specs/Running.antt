@@ -20,9 +20,9 @@ use Rattle.rules.specs.declared.Verdict.{Verdict}
 use Rattle.rules.specs.declared.Verdict.the-variants.{Accepted, Refused}
 use Rattle.rules.specs.declared.Stepped.{Stepped}
 use Rattle.rules.specs.Step.{stepOf}
-use Rattle.router.specs.declared.night.Night.{Night}
+use Rattle.standing.specs.declared.Night.{Night}
 use Rattle.router.specs.declared.entry.Ran.{Ran}
-use Rattle.router.specs.Night.{nightSound}
+use Rattle.standing.specs.Night.{nightSound}
 
 -- a run, the caller's buffer, and the place in it where the next line comes
 pub record Writing : Type 0 where

@@ -22,7 +22,7 @@ ghost use Rattle.base.specs.Bits.{bit, wordOf};
 ghost use Rattle.arbiter.specs.Arbiter.{ofWide, choice};
 ghost use Rattle.state.specs.Fresh.{pastWide};
 ghost use Rattle.state.specs.Sound.{isFree, isUnbound, frontIsFor};
-ghost use Rattle.state.specs.Store.{firstSlot};
+ghost use Rattle.store.specs.Store.{firstSlot};
 ghost use Rattle.state.specs.Views.{places, queueAt};
 ghost use Rattle.rules.specs.Allocation.{asks, freeVc, granted, Grant, boundTo, heldBy, Names, bindings, requesterOf, wideMoved};
 ghost use Rattle.router.specs.Grants.{grantIn, grantAt, inputsBound, outputsHeld};
@@ -52,7 +52,7 @@ fn asked_by(input: InputVc, x: usize, store: &[u64; 512]) -> usize
     if input.queued == 0 {
         return 8;
     }
-    let front = state::front(x, store);
+    let front = store::front(x, store);
     let kind = front.kind();
     if !starts(kind) {
         return 8;

@@ -1,12 +1,11 @@
 // The run entry: the blocks of a part of a trace, their lines into the caller's buffer. The run handed in is tested once a call.
 use crate::acting::Parts;
 use crate::blocks;
-use crate::night;
-use crate::night::Night;
 use crate::running;
 use crate::running::Went;
 use base::NO_ROOM;
 use base::NOT_SOUND;
+use standing::Night;
 use state::Arbiters;
 use state::Router;
 use trace::Found;
@@ -155,7 +154,7 @@ fn begin(night: Night, block: &[u8], buf: &mut [u8], at: usize) -> Begun
 pub fn run(night: Night, part: &[u8], buf: &mut [u8], at: usize) -> Ran
     ensures { λ r. ⌜ _≡_ {A = Outcome} (record { ran = r; buffer = now (buf .exit) }) (ranOf night (now (part .entry)) (now (buf .entry)) at) ⌝ }
 {
-    if !night::is_sound(night) {
+    if !standing::is_sound(night) {
         return Ran {
             number: NOT_SOUND,
             night,

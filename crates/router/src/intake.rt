@@ -149,7 +149,7 @@ pub(crate) fn land(
         let flit = Flit {
             word: place % 274877906944,
         };
-        state::push(x, input.queued, flit, store);
+        store::push(x, input.queued, flit, store);
         inputs[x] = with_one_more_queued(input);
     }
     inputs

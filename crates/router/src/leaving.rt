@@ -17,7 +17,7 @@ ghost use Prim.Native.Nat.{ℕ, _-_, _≤_, _<_};
 ghost use lib.Dec.{eqb};
 ghost use lib.ListN.{getD, set, replicate};
 ghost use Rattle.base.specs.Flit.{kindOf, endsKind};
-ghost use Rattle.state.specs.Store.{frontOf, popped};
+ghost use Rattle.store.specs.Store.{frontOf, popped};
 ghost use Rattle.state.specs.Views.{channel};
 ghost use Rattle.rules.specs.Intake.{newest};
 ghost use Rattle.base.specs.declared.reply.Left.the-variants as left;
@@ -105,7 +105,7 @@ fn winning(config: Config, rows: [u8; 8], picks: [u8; 8], o: usize) -> usize
 fn ends_packet(x: usize, store: &[u64; 512]) -> bool
     ensures { λ r. ⌜ r ≡ endsKind (kindOf (frontOf (now (store .entry)) x)) ⌝ }
 {
-    let flit = state::front(x, store);
+    let flit = store::front(x, store);
     ends(flit.kind())
 }
 
@@ -125,8 +125,8 @@ fn let_go(
         × (now (store .exit) ≡ popped (now (store .entry)) x)
         × (now (home .exit) ≡ set (now (home .entry)) (newest (config .back) (getD rows o 0 - 1)) (getD picks (getD rows o 0 - 1) 0)) ⌝ }
 {
-    let flit = state::front(x, store);
-    state::pop(x, store);
+    let flit = store::front(x, store);
+    store::pop(x, store);
     let input = counts::less_one(rows[o]);
     let i = counts::wide(input);
     let pick = picks[i];

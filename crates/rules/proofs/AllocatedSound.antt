@@ -16,7 +16,7 @@ use Rattle.state.specs.declared.OutputVc.{OutputVc}
 use Rattle.state.specs.declared.Router.{Router}
 use Rattle.state.specs.Fresh.{freshInput, freshOutput}
 use Rattle.state.specs.Sound.{Sound, creditsAddUp, packetsRead, outputCreditsFit, frontIsFor, startsInside, reading, endsAs, reads}
-use Rattle.state.specs.Store.{firstSlot}
+use Rattle.store.specs.Store.{firstSlot}
 use Rattle.state.specs.Views.{channel, inputAt, queueAt, queueOf, wireOf, flat}
 use Rattle.state.proofs.Exact.{shape-is}
 use Rattle.rules.specs.Allocation.{grantOf, requesterOf, boundTo, heldBy, allocated}

@@ -17,11 +17,11 @@ use Rattle.base.specs.declared.flit.Flit.{Flit}
 use Rattle.base.proofs.Configurations.{Legal}
 use Rattle.state.specs.declared.InputVc.{InputVc}
 use Rattle.state.specs.Fresh.{freshInput}
-use Rattle.state.specs.Store.{firstSlot, pushed}
+use Rattle.store.specs.Store.{firstSlot, pushed}
 use Rattle.state.specs.Views.{channel, queueAt, wirePlace, wireVc, wireFlit, onVc, slotFlit}
 use Rattle.state.proofs.EmptySlots.{emptyIn, queuedAt, push-keeps-empty, push-keeps-empty-others}
 use Rattle.state.proofs.Queues.{queueIn, push-appends, push-keeps-others}
-use Rattle.state.proofs.Slots.{push-full, push-length}
+use Rattle.store.proofs.Slots.{push-full, push-length}
 use Rattle.rules.specs.Intake.{Queues, oneMoreQueued, joined, landedAt, landings}
 use Rattle.rules.proofs.Channels.{channel-below, channel-apart, channel-room}
 use Rattle.rules.proofs.Folds.{over-keeps}

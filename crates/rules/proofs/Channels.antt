@@ -1,9 +1,7 @@
 -- Channels by number: VC v of port i is number i·V+v, below P·V, and no other channel has that number.
 -- Assumes nothing.
 use mathlib.Core.Path.{_≡_, refl, sym, ap, _∙_}
-use mathlib.Core.Logic.{_≢_}
-use mathlib.Core.Bool.{Bool, true, false, false≢true}
-use mathlib.Core.Option.{Option, some, none}
+use mathlib.Core.Bool.{Bool, true, false}
 use Prim.Native.Nat.{ℕ, _*_, _/_, _%_, _≤_, _<_}
 use native.Mathlib.Nat.{mod-lt, div-add-mod', div-lt-iff-lt-mul}
 use native.Mathlib.Omega.{arith}
@@ -12,22 +10,12 @@ use lib.Dec.{eqb}
 use borrow.Author.Tests.{eqb-true, eqb-false, eq-eqb, ne-eqb}
 use Rattle.base.specs.declared.config.Config.{Config}
 use Rattle.base.specs.Search.{every}
-use Rattle.base.specs.Sizes.{illegalField}
-use Rattle.base.proofs.Configurations.{Legal, legal-exact}
+use Rattle.base.proofs.Configurations.{Legal}
 use Rattle.base.proofs.Search.{every-at, all-every, every-ext}
-use Rattle.state.specs.Sound.{isNone, everyChannel, configurationLegal}
+use Rattle.state.specs.Sound.{everyChannel}
 use Rattle.state.specs.Views.{channel}
 use Rattle.state.proofs.Made.{channels-fit}
 use Rattle.state.proofs.Naming.{channel-fits}
-
--- a configuration that passes its clause is legal
-pub configuration-legal : (c : Config) → configurationLegal c ≡ true → Legal c
-unfolding configurationLegal isNone
-configuration-legal c e = legal-exact c .0 (go (illegalField c) e)
-  where
-    go : (o : Option ℕ) → isNone o ≡ true → o ≡ none
-    go none e = refl
-    go (some k) e = absurd (false≢true e)
 
 module _ (c : Config) where
   -- a channel that there is has a number below P·V

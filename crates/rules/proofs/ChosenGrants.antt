@@ -23,7 +23,7 @@ use Rattle.state.specs.Channels.{isThere}
 use Rattle.state.specs.Fresh.{freshInput}
 use Rattle.state.specs.Sound as sound
 use Rattle.state.specs.Sound.{all, legalFlit, queuesLegal, frontIsFor}
-use Rattle.state.specs.Store.{firstSlot}
+use Rattle.store.specs.Store.{firstSlot}
 use Rattle.state.specs.Views.{channel, inputAt, outputAt, queueAt, queueOf}
 use Rattle.trace.specs.Bytes.{AreBytes}
 use Rattle.rules.specs.declared.Verdict.the-variants.{Accepted}

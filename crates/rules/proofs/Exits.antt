@@ -19,9 +19,9 @@ use Rattle.state.specs.declared.Binding.{Binding}
 use Rattle.state.specs.declared.Binding.the-variants.{Unbound, Bound}
 use Rattle.state.specs.declared.Router.{Router}
 use Rattle.state.specs.Fresh.{freshInput}
-use Rattle.state.specs.Store.{firstSlot, frontOf, popped}
+use Rattle.store.specs.Store.{firstSlot, frontOf, popped}
 use Rattle.state.specs.Views.{channel, inputAt}
-use Rattle.state.proofs.Slots.{pop-other-slot}
+use Rattle.store.proofs.Slots.{pop-other-slot}
 use Rattle.rules.specs.Ports.{overPorts}
 use Rattle.rules.specs.Allocation.{winner}
 use Rattle.rules.specs.Departures.{Leaving, departed, leaves, leavesBy, departures, leavingOf}

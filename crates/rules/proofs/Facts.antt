@@ -15,7 +15,8 @@ use Rattle.state.specs.declared.InputVc.{InputVc}
 use Rattle.state.specs.declared.Router.{Router}
 use Rattle.state.specs.Sound.{Sound, shaped, creditsAddUp, creditsWhole, homeLegal, wireLegal, wirePlaceLegal}
 use Rattle.state.specs.Views.{inputAt, homePlace, wirePlace, wireOf, homeOf, flat, total}
-use Rattle.rules.proofs.Channels.{configuration-legal, channel-at, all-channels, channels-room}
+use Rattle.state.proofs.Legal.{configuration-legal}
+use Rattle.rules.proofs.Channels.{channel-at, all-channels, channels-room}
 
 -- the arrays are as long as the struct has them
 pub record Lengths (s : Router) : Type 0 where

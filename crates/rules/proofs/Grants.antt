@@ -21,7 +21,7 @@ use Rattle.state.specs.declared.Holder.the-variants.{Nobody, Held}
 use Rattle.state.specs.declared.Router.{Router}
 use Rattle.state.specs.Fresh.{freshInput}
 use Rattle.state.specs.Sound.{isUnbound, isFree, frontIsFor}
-use Rattle.state.specs.Store.{firstSlot}
+use Rattle.store.specs.Store.{firstSlot}
 use Rattle.state.specs.Views.{outputAt, queueAt, vcArbiter}
 use Rattle.rules.specs.Allocation.{Grant, asks, freeVc, granted, grantOf}
 

@@ -19,7 +19,7 @@ use Rattle.state.specs.declared.Binding.the-variants.{Unbound, Bound}
 use Rattle.state.specs.declared.InputVc.{InputVc}
 use Rattle.state.specs.declared.Router.{Router}
 use Rattle.state.specs.Sound.{Sound, all, legalFlit, queuesLegal, reading, endsAs, frontIsFor, startsInside, reads, packetsRead}
-use Rattle.state.specs.Store.{frontOf}
+use Rattle.store.specs.Store.{frontOf}
 use Rattle.state.specs.Views.{channel, inputAt, queueOf, wireOf, homeOf, flat, total}
 use Rattle.state.proofs.Queues.{queueIn, front-is-first}
 use Rattle.rules.specs.Departures.{leavingOf}

@@ -11,10 +11,10 @@ use lib.Dec.{ltb}
 use lib.ListN.{length, getD, drop}
 use borrow.Author.Tests.{ltb-true, ltb-false}
 use Rattle.state.specs.declared.Router.{Router}
-use Rattle.state.specs.Store.{slot, popped}
+use Rattle.store.specs.Store.{slot, popped}
 use Rattle.state.specs.Views.{channel}
 use Rattle.state.proofs.Queues.{queueIn, slots-apart, pop-drops, pop-keeps-others}
-use Rattle.state.proofs.Slots.{pop-length, pop-slot, pop-last-slot, pop-other-slot, pop-beyond}
+use Rattle.store.proofs.Slots.{pop-length, pop-slot, pop-last-slot, pop-other-slot, pop-beyond}
 use Rattle.rules.specs.Ports.{overPorts}
 use Rattle.rules.specs.Departures.{Leaving, leavingOf}
 use Rattle.rules.proofs.Folds.{over-keeps}

@@ -15,7 +15,7 @@ use Rattle.state.specs.declared.InputVc.{InputVc}
 use Rattle.state.specs.declared.OutputVc.{OutputVc}
 use Rattle.state.specs.declared.Router.{Router}
 use Rattle.state.specs.Sound.{Sound, cyclesFit, outputCreditsFit, slotsEmpty, channelsUnused}
-use Rattle.state.specs.Store.{slot}
+use Rattle.store.specs.Store.{slot}
 use Rattle.state.specs.Views.{channel, outputAt, homePlace}
 use Rattle.state.proofs.EmptySlots.{emptyIn, empty-at, at-empty, queuedAt}
 use Rattle.state.proofs.Exact.{shape-is}

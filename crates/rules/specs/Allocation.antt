@@ -21,7 +21,7 @@ use Rattle.state.specs.declared.Arbiters.{Arbiters}
 use Rattle.state.specs.declared.Router.{Router}
 use Rattle.state.specs.Fresh.{freshInput, asNarrow, asWide, pastNarrow, pastWide}
 use Rattle.state.specs.Sound.{isUnbound, isFree, frontIsFor}
-use Rattle.state.specs.Store.{firstSlot}
+use Rattle.store.specs.Store.{firstSlot}
 use Rattle.state.specs.Views.{channel, inputAt, outputAt, queueAt, vcArbiter, inputArbiter, outputArbiter}
 use Rattle.rules.specs.Ports.{overPorts}
 

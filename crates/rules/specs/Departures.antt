@@ -19,7 +19,7 @@ use Rattle.state.specs.declared.Holder.the-variants.{Nobody}
 use Rattle.state.specs.declared.InputVc.{InputVc}
 use Rattle.state.specs.declared.OutputVc.{OutputVc}
 use Rattle.state.specs.declared.Router.{Router}
-use Rattle.state.specs.Store.{frontOf, popped}
+use Rattle.store.specs.Store.{frontOf, popped}
 use Rattle.state.specs.Views.{channel, inputAt, outputAt}
 use Rattle.rules.specs.Ports.{overPorts}
 use Rattle.rules.specs.Intake.{newest}

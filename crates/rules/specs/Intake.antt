@@ -15,7 +15,7 @@ use Rattle.base.specs.Flit.{endsKind}
 use Rattle.state.specs.declared.InputVc.{InputVc}
 use Rattle.state.specs.declared.OutputVc.{OutputVc}
 use Rattle.state.specs.declared.Router.{Router}
-use Rattle.state.specs.Store.{pushed}
+use Rattle.store.specs.Store.{pushed}
 use Rattle.state.specs.Views.{channel, inputAt, outputAt, homePlace, wirePlace, wireVc, wireFlit}
 use Rattle.rules.specs.Ports.{overPorts, named}
 use Rattle.rules.specs.Rows.{creditAt, brings, kindAt, vcAt, flitAt}

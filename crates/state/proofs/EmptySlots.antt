@@ -14,11 +14,11 @@ use Rattle.base.specs.Search.{every}
 use Rattle.base.proofs.Search.{every-at, all-every, every-ext}
 use Rattle.state.specs.declared.InputVc.{InputVc}
 use Rattle.state.specs.Fresh.{freshInput}
-use Rattle.state.specs.Store.{firstSlot, slot, pushed, popped}
+use Rattle.store.specs.Store.{firstSlot, slot, pushed, popped}
 use Rattle.state.specs.Sound.{slotsEmpty}
 use Rattle.state.proofs.Clauses.{emptyBehind, behind-zero}
 use Rattle.state.proofs.Queues.{slots-apart}
-use Rattle.state.proofs.Slots.{push-other-slot, pop-other-slot, pop-slot, pop-last-slot}
+use Rattle.store.proofs.Slots.{push-other-slot, pop-other-slot, pop-slot, pop-last-slot}
 
 -- the slots of channel x behind its queue of q are zero
 abbrev pub emptyIn : List ℕ → ℕ → ℕ → Bool

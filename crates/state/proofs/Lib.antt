@@ -6,12 +6,12 @@ pub mod Exact
 pub mod Filled
 pub mod FreshIsSound
 pub mod FreshViews
+pub mod Legal
 pub mod Made
 pub mod Naming
 pub mod Pairs
 pub mod Places
 pub mod Queues
 pub mod Reading
-pub mod Slots
 pub mod SoundStates
 pub mod Tests

@@ -9,9 +9,9 @@ use native.Mathlib.Omega.{arith}
 use lib.ListN.{length, getD, take, drop, length-drop}
 use lib.Seq.{length-take-le, take-take, drop-cons, getD-take, getD-drop, ext-getD, drop-set-add, take-suc-set}
 use Rattle.base.specs.declared.flit.Flit.{Flit}
-use Rattle.state.specs.Store.{firstSlot, slot, frontOf, pushed, popped}
+use Rattle.store.specs.Store.{firstSlot, slot, frontOf, pushed, popped}
 use Rattle.state.specs.Views.{slotFlit, queueAt}
-use Rattle.state.proofs.Slots.{front-there, push-there, push-length, push-other-slot, pop-length, pop-other-slot, pop-slot}
+use Rattle.store.proofs.Slots.{front-there, push-there, push-length, push-other-slot, pop-length, pop-other-slot, pop-slot}
 
 -- the queue of channel x, where q are queued
 abbrev pub queueIn : List ℕ → ℕ → ℕ → List Flit

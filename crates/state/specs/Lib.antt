@@ -2,6 +2,5 @@ pub mod Blank
 pub mod Channels
 pub mod Fresh
 pub mod Sound
-pub mod Store
 pub mod Testing
 pub mod Views

@@ -27,7 +27,7 @@ use Rattle.state.specs.declared.OutputVc.{OutputVc}
 use Rattle.state.specs.declared.Arbiters.{Arbiters}
 use Rattle.state.specs.declared.Router.{Router}
 use Rattle.state.specs.Fresh.{freshInput, freshOutput, asNarrow, asWide}
-use Rattle.state.specs.Store.{slot}
+use Rattle.store.specs.Store.{slot}
 use Rattle.state.specs.Views.{inputAt, outputAt, queueOf, wirePlace, wireFlit, wireVc, wireOf, homeOf, homePlace, flat, total, vcArbiter, inputArbiter, outputArbiter}
 
 unfoldable pub isNone : Option ℕ → Bool

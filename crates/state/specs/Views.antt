@@ -13,7 +13,7 @@ use Rattle.state.specs.declared.InputVc.{InputVc}
 use Rattle.state.specs.declared.OutputVc.{OutputVc}
 use Rattle.state.specs.declared.Arbiters.{Arbiters}
 use Rattle.state.specs.Fresh.{freshInput, freshOutput, pastNarrow, pastWide}
-use Rattle.state.specs.Store.{firstSlot}
+use Rattle.store.specs.Store.{firstSlot}
 
 -- "requester number i·V+v": the place of a channel in the arrays
 abbrev pub channel : Config → ℕ → ℕ → ℕ

@@ -15,15 +15,11 @@ mod lines;
 mod names;
 mod packets;
 mod soundness;
-mod store;
 
 pub use blankness::is_blank;
 pub use building::Built;
 pub use building::fresh;
 pub use soundness::is_sound;
-pub use store::front;
-pub use store::pop;
-pub use store::push;
 
 // One VC of one output.
 pub struct OutVc {

@@ -9,7 +9,7 @@ use Rattle.replay.proofs.replay.Tie as tie
 use Rattle.floor.proofs.fill.Reads as fill-reads
 use Rattle.floor.proofs.pass.Reads as pass-reads
 use Rattle.replay.proofs.length.Reads as length-reads
-use Rattle.router.proofs.night.Night.start.Reads as start-reads
+use Rattle.standing.proofs.Night.start.Reads as start-reads
 
 abbrev Inv-loop : tie.InvT-loop
 Inv-loop head₀ buf₀ out₀ night₀ parts₀ head buf out night parts = (length head ≡ length head₀) × (length buf ≡ length buf₀) × (length out ≡ length out₀)

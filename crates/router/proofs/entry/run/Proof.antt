@@ -8,7 +8,7 @@ use native.Mathlib.Nat.{le-refl}
 use native.Mathlib.Omega.{arith}
 use borrow.Author.Needs.{needs}
 use borrow.Author.Tests.{not-true, not-false}
-use Rattle.router.specs.Night.{nightSound}
+use Rattle.standing.specs.Night.{nightSound}
 use Rattle.router.specs.Running.{Writing, lacksBlockRoom, blockAt, blockTaken, answered, goesOn}
 use Rattle.router.specs.Inside.{Within, Ongoing}
 use Rattle.router.proofs.Onward.{goes-more, piece-is, block-on}

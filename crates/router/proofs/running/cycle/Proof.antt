@@ -7,7 +7,7 @@ use Rattle.listing.specs.Lines.{cycleLines}
 use Rattle.listing.proofs.Lengths.{cycle-length}
 use Rattle.router.proofs.Cycling.{refused-run, accepted-run}
 use Rattle.router.proofs.Writes.{place-fits}
-use Rattle.router.proofs.Going.{sound-cycle}
+use Rattle.state.proofs.Legal.{sound-cycle}
 use Rattle.router.proofs.running.cycle.Statement.{statement}
 use Rattle.router.proofs.running.cycle.Tie as tie
 

@@ -1,9 +1,9 @@
--- `state::store::push` meets its contract.
+-- `store::push` meets its contract.
 -- Assumes nothing.
 use borrow.Author.Needs.{needs}
-use Rattle.state.proofs.Slots.{push-there, push-full, push-beyond}
-use Rattle.state.proofs.store.push.Statement.{statement}
-use Rattle.state.proofs.store.push.Tie as tie
+use Rattle.store.proofs.Slots.{push-there, push-full, push-beyond}
+use Rattle.store.proofs.push.Statement.{statement}
+use Rattle.store.proofs.push.Tie as tie
 
 returns : tie.Need-returns
 returns c = push-beyond (c .before .args .store .now) (c .before .args .channel) (c .before .args .queued) (c .before .args .flit) (c .if1 .taken)

@@ -11,8 +11,8 @@ use Rattle.state.specs.Blank.{blank}
 use Rattle.state.specs.Sound.{sound}
 use Rattle.trace.specs.declared.place.Place.{Place}
 use Rattle.trace.specs.Place.{goodPlace}
-use Rattle.router.specs.declared.night.Night.{Night}
-use Rattle.router.specs.Night.{within, stoppedInside, placeRight, nightSound}
+use Rattle.standing.specs.declared.Night.{Night}
+use Rattle.standing.specs.Night.{within, stoppedInside, placeRight, nightSound}
 
 -- a number that is not 0
 pub some-number : (n : ℕ) → (n ≡ 0 → ⊥) → 1 ≤ n

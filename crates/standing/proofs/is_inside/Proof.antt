@@ -1,4 +1,4 @@
--- `router::night::is_inside` meets its contract: the search that is left is the whole search.
+-- `standing::is_inside` meets its contract: the search that is left is the whole search.
 -- Assumes nothing.
 use mathlib.Core.Path.{_≡_, refl, sym, _∙_}
 use mathlib.Core.Bool.{false}
@@ -6,10 +6,10 @@ use Prim.Native.Nat.{_-_, _≤_}
 use native.Mathlib.Omega.{arith}
 use borrow.Author.Needs.{needs}
 use borrow.Author.Tests.{not-true, not-false}
-use Rattle.router.specs.Night.{within, stoppedInside}
-use Rattle.router.proofs.NightTests.{some-number, early-inside, none-inside, ended-inside, search-all, search-none, search-found, search-least, search-on}
-use Rattle.router.proofs.night.is_inside.Statement.{statement}
-use Rattle.router.proofs.night.is_inside.Tie as tie
+use Rattle.standing.specs.Night.{within, stoppedInside}
+use Rattle.standing.proofs.Tests.{some-number, early-inside, none-inside, ended-inside, search-all, search-none, search-found, search-least, search-on}
+use Rattle.standing.proofs.is_inside.Statement.{statement}
+use Rattle.standing.proofs.is_inside.Tie as tie
 
 abbrev Inv-loop : tie.InvT-loop
 Inv-loop cycles before left₀ tries₀ left tries = (tries ≤ 7) × (within tries before left ≡ within 7 before cycles)

@@ -1,14 +1,13 @@
--- `router::night::is_sound` meets its contract: clause after clause.
+-- `standing::is_sound` meets its contract: clause after clause.
 -- Assumes nothing.
 use mathlib.Core.Path.{sym, _∙_}
 use borrow.Author.Needs.{needs}
 use borrow.Author.Tests.{not-true, not-false}
 use Rattle.state.proofs.Exact.{passed-sound}
-use Rattle.router.proofs.SoundFits.{sound-sized}
-use Rattle.router.proofs.Going.{sound-cycle}
-use Rattle.router.proofs.NightTests.{flits-fit, night-lost, night-unblank, night-unconfigured, night-unsound, night-few}
-use Rattle.router.proofs.night.is_sound.Statement.{statement}
-use Rattle.router.proofs.night.is_sound.Tie as tie
+use Rattle.state.proofs.Legal.{configuration-legal, sound-cycle}
+use Rattle.standing.proofs.Tests.{flits-fit, night-lost, night-unblank, night-unconfigured, night-unsound, night-few}
+use Rattle.standing.proofs.is_sound.Statement.{statement}
+use Rattle.standing.proofs.is_sound.Tie as tie
 
 returns : tie.Need-returns
 returns c = night-lost (c .before .before .before .before .args .night) (sym (c .before .is-place-right .ensures) ∙ not-true (c .before .is-place-right .result) (c .if1 .taken))
@@ -31,7 +30,7 @@ returns-4 c =
 mul-result : tie.Need-mul-result
 mul-result c =
     let s = passed-sound (c .before .before .before .before .before .before .before .before .before .before .before .args .night .router) (sym (c .before .before .before .before .is-sound .ensures) ∙ not-false (c .before .before .before .before .is-sound .result) (c .before .before .before .if4 .left)) in
-    record { fits = flits-fit (sound-sized (c .before .before .before .before .before .before .before .before .before .before .before .args .night .router) s .ports) (sound-cycle s) }
+    record { fits = flits-fit (configuration-legal (c .before .before .before .before .before .before .before .before .before .before .before .args .night .router .config) (s .configuration) .ports .1) (sound-cycle s) }
 
 returns-5 : tie.Need-returns-5
 returns-5 c =

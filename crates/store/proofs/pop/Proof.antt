@@ -1,13 +1,13 @@
--- `state::store::pop` meets its contract: so many slots are moved so far.
+-- `store::pop` meets its contract: so many slots are moved so far.
 -- Assumes nothing.
 use mathlib.Core.Path.{_≡_, refl}
 use Prim.Native.Nat.{_*_, _-_, _≤_}
 use native.Mathlib.Omega.{arith}
 use borrow.Author.Needs.{needs}
-use Rattle.state.specs.Store.{movedUp}
-use Rattle.state.proofs.Slots.{moved-more, pop-there, pop-beyond}
-use Rattle.state.proofs.store.pop.Statement.{statement}
-use Rattle.state.proofs.store.pop.Tie as tie
+use Rattle.store.specs.Store.{movedUp}
+use Rattle.store.proofs.Slots.{moved-more, pop-there, pop-beyond}
+use Rattle.store.proofs.pop.Statement.{statement}
+use Rattle.store.proofs.pop.Tie as tie
 
 abbrev Inv-loop : tie.InvT-loop
 Inv-loop channel store₀ base k₀ store k = (k ≤ 15) × (store ≡ movedUp k store₀ channel)

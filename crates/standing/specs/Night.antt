@@ -9,7 +9,7 @@ use Rattle.state.specs.Sound.{sound}
 use Rattle.trace.specs.declared.place.Place.{Place}
 use Rattle.trace.specs.Place as place
 use Rattle.trace.specs.Place.{goodPlace}
-use Rattle.router.specs.declared.night.Night.{Night}
+use Rattle.standing.specs.declared.Night.{Night}
 
 -- before the first block of a file: no router yet, nothing read, nothing printed
 unfoldable pub started : Night

@@ -1,10 +1,10 @@
--- `router::night::is_place_right` meets its contract.
+-- `standing::is_place_right` meets its contract.
 -- Assumes nothing.
 use mathlib.Core.Path.{sym, _∙_}
 use borrow.Author.Needs.{needs}
-use Rattle.router.proofs.NightTests.{place-good, place-over, place-wrong}
-use Rattle.router.proofs.night.is_place_right.Statement.{statement}
-use Rattle.router.proofs.night.is_place_right.Tie as tie
+use Rattle.standing.proofs.Tests.{place-good, place-over, place-wrong}
+use Rattle.standing.proofs.is_place_right.Statement.{statement}
+use Rattle.standing.proofs.is_place_right.Tie as tie
 
 returns : tie.Need-returns
 returns c = place-good (c .before .before .args .place) (c .before .before .args .cycles) (c .before .before .args .over) (sym (c .before .is-good .ensures) ∙ c .if1 .taken)

@@ -1,4 +1,4 @@
--- `router::night::Night::start` meets its contract.
+-- `standing::Night::start` meets its contract.
 -- Assumes nothing.
 use mathlib.Core.Path.{ap₂}
 use mathlib.Core.Bool.{false}
@@ -7,9 +7,9 @@ use Rattle.base.specs.Sizes.{inRange, firstIllegal, illegalField}
 use Rattle.state.specs.declared.building.Built.{Built}
 use Rattle.state.specs.Fresh.{builtOf}
 use Rattle.trace.specs.declared.place.Place.{Place}
-use Rattle.router.specs.Night.{started}
-use Rattle.router.proofs.night.Night.start.Statement.{statement}
-use Rattle.router.proofs.night.Night.start.Tie as tie
+use Rattle.standing.specs.Night.{started}
+use Rattle.standing.proofs.Night.start.Statement.{statement}
+use Rattle.standing.proofs.Night.start.Tie as tie
 
 returns : tie.Need-returns
 unfolding started builtOf illegalField firstIllegal inRange

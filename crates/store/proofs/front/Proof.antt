@@ -1,9 +1,9 @@
--- `state::store::front` meets its contract.
+-- `store::front` meets its contract.
 -- Assumes nothing.
 use borrow.Author.Needs.{needs}
-use Rattle.state.proofs.Slots.{front-there, front-beyond}
-use Rattle.state.proofs.store.front.Statement.{statement}
-use Rattle.state.proofs.store.front.Tie as tie
+use Rattle.store.proofs.Slots.{front-there, front-beyond}
+use Rattle.store.proofs.front.Statement.{statement}
+use Rattle.store.proofs.front.Tie as tie
 
 returns : tie.Need-returns
 returns c = front-beyond (c .before .args .store .now) (c .before .args .channel) (c .if1 .taken)

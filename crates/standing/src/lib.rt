@@ -3,7 +3,7 @@ use base::Config;
 use state::Router;
 use trace::Place;
 ghost use mathlib.Core.Path.{_≡_};
-ghost use Rattle.router.specs.Night.{started, stoppedInside, placeRight, nightSound};
+ghost use Rattle.standing.specs.Night.{started, stoppedInside, placeRight, nightSound};
 
 // The router, the place in the file, the F lines so far, and whether the list has had its last line.
 pub struct Night {
@@ -85,7 +85,7 @@ fn is_place_right(place: Place, cycles: u64, over: bool) -> bool
 }
 
 // Whether a file can lead to this run.
-pub(crate) fn is_sound(night: Night) -> bool
+pub fn is_sound(night: Night) -> bool
     ensures { λ r. ⌜ r ≡ nightSound night ⌝ }
 {
     let router = night.router;

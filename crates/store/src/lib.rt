@@ -2,7 +2,7 @@
 // slot stands is known here and to the sound test alone. A channel that there is not is left alone.
 use base::Flit;
 ghost use mathlib.Core.Path.{_≡_};
-ghost use Rattle.state.specs.Store.{frontOf, pushed, popped};
+ghost use Rattle.store.specs.Store.{frontOf, pushed, popped};
 
 // The flit in a channel's first slot.
 pub fn front(channel: usize, store: &[u64; 512]) -> Flit

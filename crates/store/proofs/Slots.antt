@@ -14,7 +14,7 @@ use lib.ListN.{length, getD, set, length-set}
 use lib.Seq.{getD-set-same, getD-set-other}
 use borrow.Author.Tests.{lt-ltb, le-ltb, eqb-true, eqb-false}
 use Rattle.base.specs.declared.flit.Flit.{Flit}
-use Rattle.state.specs.Store.{firstSlot, slot, frontOf, pushed, movedUp, popped}
+use Rattle.store.specs.Store.{firstSlot, slot, frontOf, pushed, movedUp, popped}
 
 module _ (store : List ℕ) (x : ℕ) where
   -- the front, of a channel that there is and of one that there is not
