@@ -46,3 +46,10 @@ pub fn moved<'a>(r: Reader<'a>) -> Reader<'a>
         cycle: next_cycle(block, cycle),
     }
 }
+
+// What a reader over this block shows at this cycle: for every caller that holds no reader.
+pub fn shown_at(block: &[u8], cycle: usize) -> &[u8]
+    ensures { λ s. ⌜ sliceOf s ≡ cyclePart (sliceOf (block .entry)) cycle ⌝ }
+{
+    shown(Reader { block, cycle })
+}
