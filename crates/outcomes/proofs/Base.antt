@@ -1,0 +1,55 @@
+-- base: no second outcome satisfies the contract of a public function.
+-- Assumes nothing.
+use mathlib.Core.Path.{_≡_, refl, sym, _∙_}
+use mathlib.Core.Option.{Option, some, none}
+use Prim.Native.Nat.{ℕ}
+use Rattle.base.specs.Sizes.{fieldOf}
+use Rattle.base.specs.declared.config.Judged.{Judged}
+use Rattle.base.specs.declared.config.Judged.the-variants.{Legal, Illegal}
+use Rattle.base.proofs.config.Config.judged as judged
+use Rattle.base.proofs.flit.Flit.new as new
+use Rattle.base.proofs.flit.Flit.kind as kind
+use Rattle.base.proofs.flit.Flit.destination as destination
+use Rattle.base.proofs.flit.Flit.payload as payload
+use Rattle.base.proofs.starts as starts
+use Rattle.base.proofs.ends as ends
+use Rattle.base.proofs.letter as letter
+use Rattle.base.proofs.reply.Reply.empty as empty
+use Rattle.outcomes.specs.Once.{Once}
+use Rattle.outcomes.proofs.Seen.{seen-once}
+
+-- the way back from the field that is out of its range to the answer that names it
+abbrev judgedOf : Option ℕ → Judged
+judgedOf none = Legal
+judgedOf (some k) = Illegal k
+
+field-back : (j : Judged) → judgedOf (fieldOf j) ≡ j
+field-back Legal = refl
+field-back (Illegal k) = refl
+
+pub judged-once : Once judged.ended judged.Reads.Asked judged.Reads.Learnt
+judged-once κs a = (tt, λ r s u v p q. (seen-once fieldOf judgedOf field-back r s p q, refl))
+
+pub new-once : Once new.ended new.Reads.Asked new.Reads.Learnt
+new-once κs a = (tt, λ r s u v p q. (p ∙ sym q, refl))
+
+pub kind-once : Once kind.ended kind.Reads.Asked kind.Reads.Learnt
+kind-once κs a = (tt, λ r s u v p q. (p ∙ sym q, refl))
+
+pub destination-once : Once destination.ended destination.Reads.Asked destination.Reads.Learnt
+destination-once κs a = (tt, λ r s u v p q. (p ∙ sym q, refl))
+
+pub payload-once : Once payload.ended payload.Reads.Asked payload.Reads.Learnt
+payload-once κs a = (tt, λ r s u v p q. (p ∙ sym q, refl))
+
+pub starts-once : Once starts.ended starts.Reads.Asked starts.Reads.Learnt
+starts-once κs a = (tt, λ r s u v p q. (p ∙ sym q, refl))
+
+pub ends-once : Once ends.ended ends.Reads.Asked ends.Reads.Learnt
+ends-once κs a = (tt, λ r s u v p q. (p ∙ sym q, refl))
+
+pub letter-once : Once letter.ended letter.Reads.Asked letter.Reads.Learnt
+letter-once κs a = (tt, λ r s u v p q. (p ∙ sym q, refl))
+
+pub empty-once : Once empty.ended empty.Reads.Asked empty.Reads.Learnt
+empty-once κs a = (tt, λ r s u v p q. (p ∙ sym q, refl))
