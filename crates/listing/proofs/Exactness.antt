@@ -1,4 +1,4 @@
--- Each number of a write comes exactly when its rule says; what a write leaves as it was; and that an answer says one thing.
+-- Each number of a write comes exactly when its rule says, and what a write leaves as it was.
 -- Assumes nothing.
 use mathlib.Core.Path.{_≡_, refl, sym, ap, _∙_}
 use mathlib.Core.Bool.{Bool, true, false, cond, _&&_, _||_, and-false, true≢false, false≢true}
@@ -13,9 +13,7 @@ use borrow.Author.Tests.{leb-false, lt-leb, ltb-true, ltb-false}
 use Rattle.base.specs.Numbers.{done, noRoom, outOfRange, room}
 use Rattle.base.specs.Sizes.{Field, inRange}
 use Rattle.listing.specs.Lines.{Line, valuesOf, allInRange, text, printable}
-use Rattle.listing.specs.Writing.{Outcome, put, lacksRoom, refusedWith, written, outcomeOf, Outside}
-use Rattle.listing.specs.declared.Written.{Written}
-use Rattle.listing.specs.declared.Written.the-variants.{Lines, NoRoom, OutOfRange}
+use Rattle.listing.specs.Writing.{Outcome, put, lacksRoom, refusedWith, written, Outside}
 
 -- one value out of its range
 field-out : (f : Field) → inRange f ≡ false → (f .value < f .least) ⊎ (f .most < f .value)
@@ -155,15 +153,3 @@ module _ (l bs : List ℕ) (p : ℕ) (fits : p + length bs ≤ length l) where
   pub put-after : drop (p + length bs) (put l p bs) ≡ drop (p + length bs) l
   unfolding put
   put-after = drop-at (take p l ++ bs) (drop (p + length bs) l) (p + length bs) (length-append (take p l) bs ∙ ap (λ (k : ℕ). k + length bs) front)
-
--- two answers that say the same are the same, and so are their buffers: no second outcome meets a contract
-pub outcome-once : (r s : Written) (b d : List ℕ) → outcomeOf r b ≡ outcomeOf s d → (r ≡ s) × (b ≡ d)
-outcome-once (Lines m) (Lines n) b d e = (ap (λ (o : Outcome). Lines (o .bytes)) e, ap (λ (o : Outcome). o .buffer) e)
-outcome-once (Lines m) NoRoom b d e = absurd (let z : _≡_ {A = ℕ} 0 11 = ap (λ (o : Outcome). o .number) e in omega arith)
-outcome-once (Lines m) OutOfRange b d e = absurd (let z : _≡_ {A = ℕ} 0 12 = ap (λ (o : Outcome). o .number) e in omega arith)
-outcome-once NoRoom (Lines n) b d e = absurd (let z : _≡_ {A = ℕ} 11 0 = ap (λ (o : Outcome). o .number) e in omega arith)
-outcome-once NoRoom NoRoom b d e = (refl, ap (λ (o : Outcome). o .buffer) e)
-outcome-once NoRoom OutOfRange b d e = absurd (let z : _≡_ {A = ℕ} 11 12 = ap (λ (o : Outcome). o .number) e in omega arith)
-outcome-once OutOfRange (Lines n) b d e = absurd (let z : _≡_ {A = ℕ} 12 0 = ap (λ (o : Outcome). o .number) e in omega arith)
-outcome-once OutOfRange NoRoom b d e = absurd (let z : _≡_ {A = ℕ} 12 11 = ap (λ (o : Outcome). o .number) e in omega arith)
-outcome-once OutOfRange OutOfRange b d e = (refl, ap (λ (o : Outcome). o .buffer) e)

@@ -17,5 +17,4 @@ pub mod Ways
 pub mod Sealed
 pub mod Made
 pub mod Reached
-pub mod Determined
 pub mod Parts
