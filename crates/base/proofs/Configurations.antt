@@ -4,7 +4,7 @@ use mathlib.Core.Path.{_≡_, refl, sym, ap, ap₂, subst, _∙_}
 use mathlib.Core.Logic.{_↔_}
 use mathlib.Core.Bool.{Bool, true, false, cond, _&&_}
 use mathlib.Core.List.{List, [], _∷_}
-use mathlib.Core.Option.{some, none, Option·some-injective, Option·none-ne-some, Option·some-ne-none}
+use mathlib.Core.Option.{Option, some, none, Option·some-injective, Option·none-ne-some, Option·some-ne-none}
 use Prim.Native.Nat.{ℕ, zero, suc, _+_, _≤_, _<_}
 use native.Mathlib.Nat.{add-zero}
 use native.Mathlib.Omega.{arith}
@@ -12,7 +12,8 @@ use lib.Dec.{leb}
 use lib.ListN.{length, getD}
 use borrow.Author.Tests.{leb-true, le-leb}
 use Rattle.base.specs.declared.config.Config.{Config}
-use Rattle.base.specs.Sizes.{Field, field, fieldsOf, inRange, firstIllegal, illegalField}
+use Rattle.base.specs.declared.config.Judged.{Judged}
+use Rattle.base.specs.Sizes.{Field, field, fieldsOf, inRange, firstIllegal, illegalField, fieldOf, Outcome, numbered, outcomeOf}
 use Rattle.base.proofs.Search.{both}
 
 -- the field at place m, counted from 0; past the last, one that is in range
@@ -128,3 +129,14 @@ legal-exact c = (is, holds)
           fits (c .back) 1 8 (l .back),
           fits (c .arbiter) 1 2 (l .arbiter),
         )
+
+-- number and field say which field it is, if any
+numbered-field : (o q : Option ℕ) → numbered o ≡ numbered q → q ≡ o
+numbered-field none none e = refl
+numbered-field none (some k) e = let h = ap (λ (x : Outcome). x .number) e in absurd (omega (arith, h))
+numbered-field (some j) none e = let h = ap (λ (x : Outcome). x .number) e in absurd (omega (arith, h))
+numbered-field (some j) (some k) e = ap some (sym (ap (λ (x : Outcome). x .field) e))
+
+-- so what is learnt of an answer is its field
+pub judged-field : (j : Judged) (o : Option ℕ) → outcomeOf j ≡ numbered o → o ≡ fieldOf j
+judged-field j o e = numbered-field (fieldOf j) o e

@@ -5,6 +5,7 @@ use mathlib.Core.List.{List, [], _∷_}
 use mathlib.Core.Option.{Option, some, none}
 use Prim.Native.Nat.{ℕ, suc}
 use lib.Dec.{leb}
+use Rattle.base.specs.Numbers as numbers
 use Rattle.base.specs.declared.config.Config.{Config}
 use Rattle.base.specs.declared.config.Judged.{Judged}
 use Rattle.base.specs.declared.config.Judged.the-variants.{Legal, Illegal}
@@ -52,7 +53,20 @@ firstIllegal k (f ∷ fs) = cond (inRange f) (firstIllegal (suc k) fs) (some k)
 unfoldable pub illegalField : Config → Option ℕ
 illegalField c = firstIllegal 1 (fieldsOf c)
 
--- the field that an answer names: none where the configuration is legal, else the field that goes with number 1
+-- the field that an answer names: none where the configuration is legal
 abbrev pub fieldOf : Judged → Option ℕ
 fieldOf Legal = none
 fieldOf (Illegal k) = some k
+
+-- What a judgement gives back: 0, or 1 with the field.
+pub record Outcome : Type 0 where
+  pub number : ℕ
+  pub field : ℕ
+
+abbrev pub numbered : Option ℕ → Outcome
+numbered none = record { number = numbers.done; field = 0 }
+numbered (some k) = record { number = numbers.configurationWrong; field = k }
+
+-- the number and the field that an answer stands for
+abbrev pub outcomeOf : Judged → Outcome
+outcomeOf j = numbered (fieldOf j)

@@ -1,6 +1,6 @@
 // The configuration, and the one test that it is legal.
 ghost use mathlib.Core.Path.{_≡_};
-ghost use Rattle.base.specs.Sizes.{field, inRange, illegalField, fieldOf};
+ghost use Rattle.base.specs.Sizes.{field, inRange, illegalField, numbered, outcomeOf};
 
 // "Ports P", "VCs per port V", "Input depth D", "Downstream depth E", "Forward delay F", "credit delay B", "Arbiter code".
 pub struct Config {
@@ -30,9 +30,9 @@ fn within(value: u8, least: u8, most: u8) -> bool
 }
 
 impl Config {
-    // The first field, counted from 1, that is out of its range.
+    // 0, or 1 with the first field, counted from 1, that is out of its range.
     pub fn judged(self) -> Judged
-        ensures { λ r. ⌜ fieldOf r ≡ illegalField self ⌝ }
+        ensures { λ r. ⌜ outcomeOf r ≡ numbered (illegalField self) ⌝ }
     {
         if !within(self.ports, 1, 8) {
             return Judged::Illegal(1);

@@ -6,6 +6,7 @@ mod building;
 mod channels;
 mod configurations;
 mod cycles;
+mod reading;
 mod refusing;
 mod replies;
 mod routers;
@@ -20,6 +21,7 @@ fn main() {
     cycles::part_lengths();
     cycles::refused_offers();
     broken::refused();
+    reading::walks();
     writer::ends();
     writer::refusals();
     writer::credits();

@@ -1,4 +1,4 @@
--- Files that end otherwise than document 01's listing, from their bytes to the printed bytes.
+-- Files that document 01's listing leaves out, from their bytes to the printed bytes: a long payload, and other ends.
 -- Assumes nothing.
 use mathlib.Core.Path.{_≡_, refl}
 use mathlib.Core.Bool.{xor}
@@ -41,7 +41,18 @@ refusedWith number cycle place = 82 ∷ 32 ∷ number ∷ 32 ∷ cycle ∷ 32 �
 abbrev deep : ℕ → ℕ → ℕ → List ℕ
 deep depth high low = block (1 ∷ 0 ∷ 0 ∷ 0 ∷ 0 ∷ 0 ∷ 0 ∷ 0 ∷ 3 ∷ 1 ∷ depth ∷ 2 ∷ 1 ∷ 1 ∷ 1 ∷ []) high low
 
-pub record Refused : Type 0 where
+-- P = V = D = E = F = B = 1: S with payload deadbeef in cycle 0, and cycle 1 empty
+abbrev word : List ℕ
+word =
+    block (1 ∷ 0 ∷ 0 ∷ 0 ∷ 0 ∷ 0 ∷ 0 ∷ 0 ∷ 1 ∷ 1 ∷ 1 ∷ 1 ∷ 1 ∷ 1 ∷ 1 ∷ []) 0 85
+    ++ block (2 ∷ 2 ∷ 0 ∷ 0 ∷ 0 ∷ 1 ∷ 0 ∷ 0 ∷ 4 ∷ 0 ∷ 0 ∷ 0 ∷ 0xde ∷ 0xad ∷ 0xbe ∷ 0xef ∷ []) 46 254
+    ++ block (3 ∷ 0 ∷ 0 ∷ 0 ∷ 0 ∷ 2 ∷ 0 ∷ 0 ∷ 0 ∷ 0 ∷ 0 ∷ 2 ∷ []) 0 39
+
+pub record Printed : Type 0 where
+  -- "payload big-endian", "eight lower-case hex digits": F 1 0 0 0 0 S deadbeef, E 2 1
+  pub whole-payload : listOf word
+      ≡ 70 ∷ 32 ∷ 49 ∷ 32 ∷ 48 ∷ 32 ∷ 48 ∷ 32 ∷ 48 ∷ 32 ∷ 48 ∷ 32 ∷ 83 ∷ 32 ∷ 100 ∷ 101 ∷ 97 ∷ 100 ∷ 98 ∷ 101 ∷ 101 ∷ 102 ∷ 10
+      ∷ 69 ∷ 32 ∷ 50 ∷ 32 ∷ 49 ∷ 10 ∷ []
   -- "input ends before the end block": R 9 0 0
   pub nothing-read : listOf [] ≡ refusedWith 57 48 48
   -- "D 16 is legal, 17 and 0 give 1 with field 3": R 9 0 0, R 1 0 3
@@ -51,6 +62,6 @@ pub record Refused : Type 0 where
   -- "Any byte after the end block, however few follow, gives 8.": R 8 6 0 in place of the E line
   pub byte-after : listOf (file ++ 0 ∷ []) ≡ listingLines ++ refusedWith 56 54 48
 
-pub refused : Refused
+pub printed : Printed
 unfolding xor firstFrom every orElse inRange firstIllegal illegalField flitOf kindOf destinationOf payloadOf startsKind endsKind nextInTurn pointerAfter blankFrom arbiter.known arbiter.usable arbiter.choice arbiter.moved arbiter.after arbiter.fresh arbiter.sound queueAt places wireOf homeOf flat total isNone all configurationLegal cyclesFit creditsWhole creditsAddUp legalFlit wirePlaceLegal wireLegal homeLegal queuesLegal outputCreditsFit namesAgree arbitersSound reading reads packetsRead channelsUnused slotsEmpty lineUnused arbitersUnused shaped clauses sound frontOf pushed movedUp popped overPorts rowZero noOffer legalOffer rowLegal advanced sendersPaid reported creditsReached outputsPaid creditsReturned landings landed offers offersTaken asks freeVc grantOf bindings wideMoved narrowMoved allocated isReady inputPick request outputPick switched winner departures leavingOf runFull rowWrong creditPastRoom outOfTurn noSenderCredit firstOf judged takenIn sentOut routerAfter replyOf stepOf freshRouter bigEndian zeros sum checkOf checkHolds bodyEnd mayHold goodPlace placeUnsound blockShort checkWrong kindWrong numberWrong countWrong unusedWrong orderWrong totalWrong formWrong bytesFollow blockWrong fieldWrong readOf taken byField trace.judged cyclesThen fileFrom cutInto printedOf listOf glyph decimalWithin decimal lastDigits hex spaced print text byPort creditLine flitLine cycleLines flitLines letterOf
-refused = record { nothing-read = refl; depth-16 = refl; depth-17 = refl; depth-0 = refl; byte-after = refl }
+printed = record { whole-payload = refl; nothing-read = refl; depth-16 = refl; depth-17 = refl; depth-0 = refl; byte-after = refl }

@@ -7,7 +7,7 @@ use mathlib.Core.List.{List, [], _∷_}
 use mathlib.Core.Logic.{inr}
 use Prim.Native.Nat.{ℕ, suc, _+_, _^_, _≤_}
 use native.Mathlib.Omega.{arith}
-use lib.ListN.{getD-replicate}
+use lib.ListN.{set, getD-replicate}
 use Rattle.base.specs.Bits.{bit, wordOf, withBit}
 use Rattle.base.specs.Flit.{flitOf, kindOf, destinationOf, startsKind, endsKind}
 use Rattle.base.specs.Search.{every}
@@ -89,6 +89,8 @@ others =
     row (withVcArbiter 0 (orderWide 0 4 1) orders) (8 ∷ []) ∷
     row (withVcArbiter 0 (orderWide 0 0 12) orders) (8 ∷ []) ∷
     row (withVcArbiter 0 (orderWide 0 0 15) orders) (8 ∷ []) ∷
+    -- 0 beats 1, 1 beats 2, 2 beats 0
+    row (withVcArbiter 0 (record { pointer = 0; rows = set (set (freshRows 32 4) 0 0b1010) 2 0b1001 }) orders) (8 ∷ []) ∷
     -- a front for another output, the open mark wrong (three times), a reading from inside a packet that is not bound, H first on the
     -- wire of a bound VC with an empty queue
     row (withOutput 2 (held 0 0 2) (queue (head 0 ∷ body ∷ []) (withInput 0 (bound 1 0 1 true 2) turns))) (9 ∷ []) ∷

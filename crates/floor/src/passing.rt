@@ -4,7 +4,7 @@ use standing::Night;
 ghost use Prim.Native.Nat.{_≤_};
 ghost use lib.ListN.{length};
 
-// The run after a part, or that its list could not be written on.
+// The run after a part, or that its list could not be written on: a call was refused, or a write.
 pub struct Passed {
     pub night: Night,
     pub failed: bool,
@@ -18,6 +18,12 @@ pub fn pass(night: Night, part: &[u8], out: &mut [u8], to: i32) -> Passed {
     while 0 < calls {
         let ran = router::run(run, &part[from..], out, 0);
         run = ran.night;
+        if ran.number != 0 {
+            return Passed {
+                night: run,
+                failed: true,
+            };
+        }
         if !output::put(to, out, ran.written) {
             return Passed {
                 night: run,

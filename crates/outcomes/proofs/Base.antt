@@ -1,9 +1,10 @@
 -- base: no second outcome satisfies the contract of a public function.
 -- Assumes nothing.
 use mathlib.Core.Path.{_≡_, refl, sym, _∙_}
-use mathlib.Core.Option.{Option, some, none}
-use Prim.Native.Nat.{ℕ}
-use Rattle.base.specs.Sizes.{fieldOf}
+use mathlib.Core.Bool.{cond}
+use lib.Dec.{eqb}
+use Rattle.base.specs.Numbers.{done}
+use Rattle.base.specs.Sizes.{Outcome, outcomeOf}
 use Rattle.base.specs.declared.config.Judged.{Judged}
 use Rattle.base.specs.declared.config.Judged.the-variants.{Legal, Illegal}
 use Rattle.base.proofs.config.Config.judged as judged
@@ -18,17 +19,16 @@ use Rattle.base.proofs.reply.Reply.empty as empty
 use Rattle.outcomes.specs.Once.{Once}
 use Rattle.outcomes.proofs.Seen.{seen-once}
 
--- the way back from the field that is out of its range to the answer that names it
-abbrev judgedOf : Option ℕ → Judged
-judgedOf none = Legal
-judgedOf (some k) = Illegal k
+-- the way back from number and field to the answer that stands for them
+abbrev judgedOf : Outcome → Judged
+judgedOf o = cond (eqb (o .number) done) Legal (Illegal (o .field))
 
-field-back : (j : Judged) → judgedOf (fieldOf j) ≡ j
-field-back Legal = refl
-field-back (Illegal k) = refl
+judged-back : (j : Judged) → judgedOf (outcomeOf j) ≡ j
+judged-back Legal = refl
+judged-back (Illegal k) = refl
 
 pub judged-once : Once judged.ended judged.Reads.Asked judged.Reads.Learnt
-judged-once κs a = (tt, λ r s u v p q. (seen-once fieldOf judgedOf field-back r s p q, refl))
+judged-once κs a = (tt, λ r s u v p q. (seen-once outcomeOf judgedOf judged-back r s p q, refl))
 
 pub new-once : Once new.ended new.Reads.Asked new.Reads.Learnt
 new-once κs a = (tt, λ r s u v p q. (p ∙ sym q, refl))

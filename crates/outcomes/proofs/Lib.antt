@@ -2,6 +2,9 @@ pub mod Seen
 pub mod Base
 pub mod Arbiter
 pub mod Trace
+pub mod Reader
 pub mod Listing
+pub mod Store
 pub mod State
+pub mod Standing
 pub mod Router

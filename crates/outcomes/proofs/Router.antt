@@ -3,7 +3,6 @@
 use mathlib.Core.Path.{_≡_, refl, sym, _∙_}
 use Rattle.router.proofs.step as step
 use Rattle.router.proofs.run as run
-use Rattle.router.proofs.night.Night.start as start
 use Rattle.outcomes.specs.Once.{Once}
 
 pub step-once : Once step.ended step.Reads.Asked step.Reads.Learnt
@@ -11,6 +10,3 @@ step-once κs a = (tt, λ r s u v p q. (p ∙ sym q, refl))
 
 pub run-once : Once run.ended run.Reads.Asked run.Reads.Learnt
 run-once κs a = (tt, λ r s u v p q. (λ i. (p ∙ sym q) i .ran, λ i. (tt, (tt, ((p ∙ sym q) i .buffer, (tt, tt))))))
-
-pub start-once : Once start.ended start.Reads.Asked start.Reads.Learnt
-start-once κs a = (tt, λ r s u v p q. (p ∙ sym q, refl))

@@ -5,7 +5,7 @@ use mathlib.Core.Logic.{_↔_}
 use mathlib.Core.Bool.{Bool, true, false, _||_, true≢false}
 use mathlib.Core.List.{List, [], _∷_}
 use mathlib.Core.Option.{Option, some, none}
-use Prim.Native.Nat.{ℕ, _<_}
+use Prim.Native.Nat.{ℕ, _≤_, _<_}
 use lib.Dec.{eqb}
 use borrow.Author.Tests.{eq-eqb}
 use native.Mathlib.Omega.{arith}
@@ -131,6 +131,17 @@ module _ (s : Router) (part : List ℕ) where
     where
       go : Why (rulesOf s part) (refusing n p) → First (rulesOf s part) n p
       go (refuses _ _ f) = f
+
+  -- the same in the table's words: the number that the verdict stands for, and its port
+  pub numbered-exactly : (n p : ℕ) → 1 ≤ n
+      → ((numberOf (stepOf s part .verdict) ≡ n) × (portOf (stepOf s part .verdict) ≡ p)) ↔ First (rulesOf s part) n p
+  numbered-exactly n p least =
+      (λ e. refused-exactly n p .0 (go (stepOf s part .verdict) (e .0) (e .1)),
+      λ f. let e = refused-exactly n p .1 f in (ap numberOf e, ap portOf e))
+    where
+      go : (v : Verdict) → numberOf v ≡ n → portOf v ≡ p → v ≡ refusing n p
+      go Accepted e g = absurd (omega (arith, e, least))
+      go (Refused r) e g = λ i. Refused (record { number = e i; port = g i })
 
   -- 2, "state not sound"
   pub two-exactly : (p : ℕ) → (stepOf s part .verdict ≡ refusing numbers.notSound p) ↔ FirstAt (rule2 s) p

@@ -1,4 +1,4 @@
--- A run between two calls, and which runs a file can lead to.
+-- A run between two calls, and when it is sound.
 -- Assumes nothing.
 use mathlib.Core.Bool.{Bool, false, cond, not, _&&_, _||_}
 use Prim.Native.Nat.{ℕ, zero, suc, _-_, _*_}
@@ -33,8 +33,8 @@ stoppedInside p c = p .configured && (leb 1 (p .number) && (not (p .ended) && wi
 unfoldable pub placeRight : Place → ℕ → Bool → Bool
 placeRight p c over = goodPlace p c || (over && stoppedInside p c)
 
--- A run that no file can lead to is 2. After the configuration block the router is sound, and at most one flit has left by each output in
--- each cycle; before it there is no router, so that all of it is zero, and no flit.
+-- A run is 2 where a part of it cannot be: its place is one that no file leads to with so many cycles accepted; or after the configuration
+-- block the router is not sound, or more flits have left than one by each output in each cycle; or before it there is a router, or a flit.
 unfoldable pub nightSound : Night → Bool
 nightSound n =
     placeRight (n .place) (n .router .cycle) (n .over)

@@ -84,7 +84,7 @@ fn is_place_right(place: Place, cycles: u64, over: bool) -> bool
     false
 }
 
-// Whether a file can lead to this run.
+// Whether each part of a run can be: its place, its router, its flits.
 pub fn is_sound(night: Night) -> bool
     ensures { λ r. ⌜ r ≡ nightSound night ⌝ }
 {

@@ -1,15 +1,15 @@
 -- The fresh router, put together from its parts.
 -- Assumes nothing.
-use mathlib.Core.Path.{_≡_}
+use mathlib.Core.Path.{_≡_, refl}
 use mathlib.Core.List.{List}
-use mathlib.Core.Option.{some, none}
+use mathlib.Core.Option.{Option, some, none}
 use Prim.Native.Nat.{ℕ, _*_, _≤_}
 use native.Mathlib.Nat.{le-trans, mul-le-mul-right}
 use native.Mathlib.Omega.{arith}
 use lib.ListN.{replicate}
 use Rattle.base.specs.declared.config.Config.{Config}
 use Rattle.base.specs.declared.config.Judged.the-variants.{Legal, Illegal}
-use Rattle.base.specs.Sizes.{illegalField}
+use Rattle.base.specs.Sizes.{illegalField, numbered, outcomeOf}
 use Rattle.arbiter.specs.declared.Narrow.{Narrow}
 use Rattle.arbiter.specs.declared.Wide.{Wide}
 use Rattle.state.specs.declared.InputVc.{InputVc}
@@ -63,3 +63,12 @@ pub built-legal : (c : Config) (r : Router) → illegalField c ≡ none → r �
     → _≡_ {A = Built} (record { judged = Legal; router = r }) (builtOf (illegalField c) c)
 unfolding builtOf
 built-legal c r e f = rw (e, f)
+
+-- either way its answer stands for the number and the field of the table
+pub built-numbered : (c : Config) → outcomeOf (builtOf (illegalField c) c .judged) ≡ numbered (illegalField c)
+unfolding builtOf
+built-numbered c = go (illegalField c)
+  where
+    go : (o : Option ℕ) → outcomeOf (builtOf o c .judged) ≡ numbered o
+    go none = refl
+    go (some k) = refl

@@ -3,14 +3,14 @@
 use mathlib.Core.Path.{_≡_, sym, ap, _∙_}
 use mathlib.Core.Option.{none}
 use Rattle.base.specs.Sizes.{illegalField, fieldOf}
-use Rattle.base.proofs.Configurations.{legal-exact}
+use Rattle.base.proofs.Configurations.{judged-field, legal-exact}
 use borrow.Author.Needs.{needs}
 use Rattle.state.proofs.Made.{built-refused, built-legal}
 use Rattle.state.proofs.building.fresh.Statement.{statement}
 use Rattle.state.proofs.building.fresh.Tie as tie
 
 legal : (c : tie.After-enum-told) → illegalField (c .before .before .before .args .config) ≡ none
-legal c = sym (c .before .before .judged .ensures) ∙ ap fieldOf (c .enum-told .given .1)
+legal c = judged-field (c .before .before .judged .result) _ (c .before .before .judged .ensures) ∙ ap fieldOf (c .enum-told .given .1)
 
 judged-requires : tie.Need-judged-requires
 judged-requires c κs = search needs
@@ -24,7 +24,7 @@ untouched-requires c κs = search needs
 returns : tie.Need-returns
 returns c =
     built-refused (c .before .before .before .before .before .args .config) (c .before .before .judged2 .given .0 .0) (c .untouched .result)
-    (sym (c .before .before .before .before .judged .ensures) ∙ ap fieldOf (c .before .before .judged2 .given .1)) (c .untouched .ensures)
+    (judged-field (c .before .before .before .before .judged .result) _ (c .before .before .before .before .judged .ensures) ∙ ap fieldOf (c .before .before .judged2 .given .1)) (c .untouched .ensures)
 
 enum-told : tie.Need-enum-told
 enum-told c = search needs

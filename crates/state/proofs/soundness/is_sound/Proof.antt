@@ -6,6 +6,7 @@ use mathlib.Core.Bool.{Bool, true, false, _&&_}
 use borrow.Author.Tests.{not-true, not-false}
 use lib.ListN.{length}
 use Rattle.base.specs.Sizes.{fieldOf}
+use Rattle.base.proofs.Configurations.{judged-field}
 use borrow.Author.Needs.{needs}
 use Rattle.state.specs.Sound.{wireLegal, homeLegal, lineUnused, arbitersSound, arbitersUnused, channelsUnused, slotsEmpty}
 use Rattle.state.proofs.Exact.{refused, legal-bounded, illegal-refused, late-refused, sound-wire, sound-home, all-sound, exact, shape-is, length-any}
@@ -36,7 +37,7 @@ enum-told c = search needs
 
 returns : tie.Need-returns
 returns c =
-    illegal-refused (c .before .before .before .before .args .router) _ (sym (c .before .before .judged .ensures) ∙ ap fieldOf
+    illegal-refused (c .before .before .before .before .args .router) _ (judged-field (c .before .before .judged .result) _ (c .before .before .judged .ensures) ∙ ap fieldOf
     (c .enum-told .given .1))
 
 enum-told-2 : tie.Need-enum-told-2
@@ -47,8 +48,7 @@ returns-2 c = late-refused (c .before .before .before .before .before .before .a
 
 is-wire-sound-requires : tie.Need-is-wire-sound-requires
 is-wire-sound-requires c κs =
-    let b = (legal-bounded (c .before .before .before .before .before .before .before .before .args .router .config) (sym
-    (c .before .before .before .before .before .before .judged .ensures) ∙ ap fieldOf (c .before .before .before .before .enum-told2 .given .1))) in
+    let b = (legal-bounded (c .before .before .before .before .before .before .before .before .args .router .config) (judged-field (c .before .before .before .before .before .before .judged .result) _ (c .before .before .before .before .before .before .judged .ensures) ∙ ap fieldOf (c .before .before .before .before .enum-told2 .given .1))) in
     (b .ports, b .forward)
 
 returns-3 : tie.Need-returns-3
@@ -65,7 +65,7 @@ returns-3 c =
 is-home-sound-requires : tie.Need-is-home-sound-requires
 is-home-sound-requires c κs =
     let b = (legal-bounded (c .before .before .before .before .before .before .before .before .before .before .before .before .args .router .config)
-    (sym (c .before .before .before .before .before .before .before .before .before .before .judged .ensures) ∙ ap fieldOf
+    (judged-field (c .before .before .before .before .before .before .before .before .before .before .judged .result) _ (c .before .before .before .before .before .before .before .before .before .before .judged .ensures) ∙ ap fieldOf
     (c .before .before .before .before .before .before .before .before .enum-told2 .given .1))) in (b .ports, b .back)
 
 returns-4 : tie.Need-returns-4
@@ -82,8 +82,7 @@ returns-4 c =
 are-sound-requires : tie.Need-are-sound-requires
 are-sound-requires c κs =
     (legal-bounded (c .before .before .before .before .before .before .before .before .before .before .before .before .before .before .before .before
-    .before .before .args .router .config) (sym (c .before .before .before .before .before .before .before .before .before .before .before .before
-    .before .before .before .before .judged .ensures) ∙ ap fieldOf
+    .before .before .args .router .config) (judged-field (c .before .before .before .before .before .before .before .before .before .before .before .before .before .before .before .before .judged .result) _ (c .before .before .before .before .before .before .before .before .before .before .before .before .before .before .before .before .judged .ensures) ∙ ap fieldOf
     (c .before .before .before .before .before .before .before .before .before .before .before .before .before .before .enum-told2 .given .1)))
 
 returns-5 : tie.Need-returns-5
@@ -98,8 +97,7 @@ returns-5 c =
 are-unused-requires : tie.Need-are-unused-requires
 are-unused-requires c κs =
     (legal-bounded (c .before .before .before .before .before .before .before .before .before .before .before .before .before .before .before .before
-    .before .before .before .before .args .router .config) (sym (c .before .before .before .before .before .before .before .before .before .before
-    .before .before .before .before .before .before .before .before .judged .ensures) ∙ ap fieldOf
+    .before .before .before .before .args .router .config) (judged-field (c .before .before .before .before .before .before .before .before .before .before .before .before .before .before .before .before .before .before .judged .result) _ (c .before .before .before .before .before .before .before .before .before .before .before .before .before .before .before .before .before .before .judged .ensures) ∙ ap fieldOf
     (c .before .before .before .before .before .before .before .before .before .before .before .before .before .before .before .before .enum-told2
     .given .1)))
 
@@ -116,9 +114,7 @@ returns-6 c =
 are-unused-requires-2 : tie.Need-are-unused-requires-2
 are-unused-requires-2 c κs =
     (legal-bounded (c .before .before .before .before .before .before .before .before .before .before .before .before .before .before .before .before
-    .before .before .before .before .before .before .before .before .args .router .config) (sym
-    (c .before .before .before .before .before .before .before .before .before .before .before .before .before .before .before .before .before
-    .before .before .before .before .before .judged .ensures) ∙ ap fieldOf
+    .before .before .before .before .before .before .before .before .args .router .config) (judged-field (c .before .before .before .before .before .before .before .before .before .before .before .before .before .before .before .before .before .before .before .before .before .before .judged .result) _ (c .before .before .before .before .before .before .before .before .before .before .before .before .before .before .before .before .before .before .before .before .before .before .judged .ensures) ∙ ap fieldOf
     (c .before .before .before .before .before .before .before .before .before .before .before .before .before .before .before .before .before
     .before .before .before .enum-told2 .given .1)))
 
@@ -151,9 +147,7 @@ are-sound-requires-2 : tie.Need-are-sound-requires-2
 are-sound-requires-2 c κs = (
   (legal-bounded (c .before .before .before .before .before .before .before .before .before .before .before .before .before .before .before
       .before .before .before .before .before .before .before .before .before .before .before .before .before .before .before .before .before .before
-      .args .router .config) (sym (c .before .before .before .before .before .before .before .before .before .before .before .before .before .before
-      .before .before .before .before .before .before .before .before .before .before .before .before .before .before .before .before .before .judged
-      .ensures) ∙ ap fieldOf (c .before .before .before .before .before .before .before .before .before .before .before .before .before .before .before
+      .args .router .config) (judged-field (c .before .before .before .before .before .before .before .before .before .before .before .before .before .before .before .before .before .before .before .before .before .before .before .before .before .before .before .before .before .before .before .judged .result) _ (c .before .before .before .before .before .before .before .before .before .before .before .before .before .before .before .before .before .before .before .before .before .before .before .before .before .before .before .before .before .before .before .judged .ensures) ∙ ap fieldOf (c .before .before .before .before .before .before .before .before .before .before .before .before .before .before .before
       .before .before .before .before .before .before .before .before .before .before .before .before .before .before .enum-told2 .given .1))),
   store-long (c .before .before .before .before .before .before .before .before .before .before .before .before .before .before .before .before
       .before .before .before .before .before .before .before .before .before .before .before .before .before .before .before .before .before),
@@ -167,9 +161,7 @@ returns-9 c =
     let o = c .before .before .before .before .before .before .before .before .before .before .before .before .before .before .before .before .before
     .before .before .before .before .before .before .before .before .before .before .before .before .before .before .before .before .before in
     exact s (c .are-sound2 .result) (c .are-sound2 .ensures)
-    (all-sound s (sym (c .before .before .before .before .before .before .before .before .before .before .before .before .before .before .before
-    .before .before .before .before .before .before .before .before .before .before .before .before .before .before .before .before .before .judged
-    .ensures) ∙ ap fieldOf (c .before .before .before .before .before .before .before .before .before .before .before .before .before .before .before
+    (all-sound s (judged-field (c .before .before .before .before .before .before .before .before .before .before .before .before .before .before .before .before .before .before .before .before .before .before .before .before .before .before .before .before .before .before .before .before .judged .result) _ (c .before .before .before .before .before .before .before .before .before .before .before .before .before .before .before .before .before .before .before .before .before .before .before .before .before .before .before .before .before .before .before .before .judged .ensures) ∙ ap fieldOf (c .before .before .before .before .before .before .before .before .before .before .before .before .before .before .before
     .before .before .before .before .before .before .before .before .before .before .before .before .before .before .before .enum-told2 .given .1))
     (c .before .before .before .before .before .before .before .before .before .before .before .before .before .before .before .before .before
     .before .before .before .before .before .before .before .before .before .before .before .if1 .left) (sym

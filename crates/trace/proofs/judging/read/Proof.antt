@@ -3,6 +3,7 @@
 use mathlib.Core.Path.{sym, ap, _∙_}
 use Rattle.base.specs.declared.config.Config.{Config}
 use Rattle.base.specs.Sizes.{illegalField, fieldOf}
+use Rattle.base.proofs.Configurations.{judged-field}
 use borrow.Author.Needs.{needs}
 use Rattle.trace.specs.Judged.{aConfiguration, accepted, nextPlace}
 use Rattle.trace.proofs.Reading.{read-illegal, read-configuration, read-cycles, read-end}
@@ -31,7 +32,7 @@ returns : tie.Need-returns
 returns c =
     c .refused .ensures
     ∙ read-illegal (c .before .before .before .before .before .before .before .before .before .before .args .place) (c .before .before .before .before .before .before .before .before .before .before .args .block .now) (c .before .before .before .before .before .before .before .before .before .before .pre .0) (c .before .before .field .given .0 .0) (c .before .before .before .before .before .before .if1 .taken)
-    (sym (ap illegalField (c .before .before .before .before .before .configuration .ensures)) ∙ sym (c .before .before .before .before .judged .ensures) ∙ ap fieldOf (c .before .before .field .given .1))
+    (sym (ap illegalField (c .before .before .before .before .before .configuration .ensures)) ∙ judged-field (c .before .before .before .before .judged .result) _ (c .before .before .before .before .judged .ensures) ∙ ap fieldOf (c .before .before .field .given .1))
 
 enum-told : tie.Need-enum-told
 enum-told c = search needs
@@ -40,7 +41,7 @@ returns-2 : tie.Need-returns-2
 returns-2 c =
     ap (λ (x : Config). accepted (aConfiguration x) (nextPlace (c .before .before .before .before .before .before .before .before .args .place) (c .before .before .before .before .before .before .before .before .args .block .now))) (c .before .before .before .configuration .ensures)
     ∙ read-configuration (c .before .before .before .before .before .before .before .before .args .place) (c .before .before .before .before .before .before .before .before .args .block .now) (c .before .before .before .before .before .before .before .before .pre .0) (c .before .before .before .before .if1 .taken)
-    (sym (ap illegalField (c .before .before .before .configuration .ensures)) ∙ sym (c .before .before .judged .ensures) ∙ ap fieldOf (c .enum-told .given .1))
+    (sym (ap illegalField (c .before .before .before .configuration .ensures)) ∙ judged-field (c .before .before .judged .result) _ (c .before .before .judged .ensures) ∙ ap fieldOf (c .enum-told .given .1))
 
 shared-slice-read-t14 : tie.Need-shared-slice-read-t14
 shared-slice-read-t14 c = search needs
