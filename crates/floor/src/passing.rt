@@ -10,6 +10,14 @@ pub struct Passed {
     pub failed: bool,
 }
 
+// The bytes that a call wrote. After a call that was refused the list cannot go on.
+fn put_lines(to: i32, out: &[u8], number: u8, written: usize) -> bool {
+    if number != base::DONE {
+        return false;
+    }
+    output::put(to, out, written)
+}
+
 // Hands a part over until it is used up or the run is over. A call uses a block at least, and a part has at most 128.
 pub fn pass(night: Night, part: &[u8], out: &mut [u8], to: i32) -> Passed {
     let mut run = night;
@@ -18,13 +26,7 @@ pub fn pass(night: Night, part: &[u8], out: &mut [u8], to: i32) -> Passed {
     while 0 < calls {
         let ran = router::run(run, &part[from..], out, 0);
         run = ran.night;
-        if ran.number != 0 {
-            return Passed {
-                night: run,
-                failed: true,
-            };
-        }
-        if !output::put(to, out, ran.written) {
+        if !put_lines(to, out, ran.number, ran.written) {
             return Passed {
                 night: run,
                 failed: true,

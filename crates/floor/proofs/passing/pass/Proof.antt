@@ -19,10 +19,10 @@ short : (c : tie.Start Inv-loop μ-loop) → length (c .args .part .now) < 18446
 short c = search needs
 
 add-from : tie.Need-add-from Inv-loop μ-loop
-add-from c = let l = c .before .before .if3 .left in let b = short (c .before .before .before .before .before .before .before .before .before .before .before .before .before .before .before .before .before .before .before) in record { fits = omega (arith, l, b) }
+add-from c = let l = c .before .before .if2 .left in let b = short (c .before .before .before .before .before .before .before .before .before .before .before .before .before .before .before .before .before) in record { fits = omega (arith, l, b) }
 
 loop-again : tie.Need-loop-again Inv-loop μ-loop
-loop-again c = (let l = c .before .before .if3 .left in omega (arith, l), let k = c .before .before .before .before .before .before .before .before .before .before .before .before .before .before .before .before .loop .inv .1 in search needs)
+loop-again c = (let l = c .before .before .if2 .left in omega (arith, l), let k = c .before .before .before .before .before .before .before .before .before .before .before .before .before .before .loop .inv .1 in search needs)
 
 pub pass-spec : {M : Type 1} → statement M
 pass-spec =
