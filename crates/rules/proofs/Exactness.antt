@@ -135,9 +135,10 @@ module _ (s : Router) (part : List ℕ) where
   -- the same in the table's words: the number that the verdict stands for, and its port
   pub numbered-exactly : (n p : ℕ) → 1 ≤ n
       → ((numberOf (stepOf s part .verdict) ≡ n) × (portOf (stepOf s part .verdict) ≡ p)) ↔ First (rulesOf s part) n p
-  numbered-exactly n p least =
-      (λ e. refused-exactly n p .0 (go (stepOf s part .verdict) (e .0) (e .1)),
-      λ f. let e = refused-exactly n p .1 f in (ap numberOf e, ap portOf e))
+  numbered-exactly n p least = (
+    λ e. refused-exactly n p .0 (go (stepOf s part .verdict) (e .0) (e .1)),
+    λ f. let e = refused-exactly n p .1 f in (ap numberOf e, ap portOf e),
+  )
     where
       go : (v : Verdict) → numberOf v ≡ n → portOf v ≡ p → v ≡ refusing n p
       go Accepted e g = absurd (omega (arith, e, least))
