@@ -54,7 +54,7 @@ use Rattle.history.proofs.LegalLeaves.{leaves-exits, departure-is}
 use Rattle.history.proofs.Written.{exit-written}
 
 -- whether it left VC v of input i
-abbrev from : ℕ → ℕ → Departure Flit → Bool
+abbrev pub from : ℕ → ℕ → Departure Flit → Bool
 from i v d = same (d .input) (d .vc) i v
 
 -- lists over the ports that are alike at each port

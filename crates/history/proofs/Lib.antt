@@ -10,3 +10,4 @@ pub mod RunIs
 pub mod Demand3
 pub mod Times
 pub mod Printable
+pub mod NoneLost

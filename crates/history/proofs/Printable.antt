@@ -133,7 +133,7 @@ module _ (s : Router) (part : List ℕ) (bytes : AreBytes part) (accepted : step
           absurd (Option·none-ne-some v none-named)
 
   -- a flit is reported at an output that there is
-  left-there : (o : ℕ) (d : Departure) → LeavesBy reply o d → o < c .ports
+  pub left-there : (o : ℕ) (d : Departure) → LeavesBy reply o d → o < c .ports
   unfolding allocated takenIn offersTaken landed creditsReturned creditsReached
   left-there o d l =
       let a = reported-exits s part bytes accepted o d l in

@@ -53,7 +53,8 @@ abbrev pub reachedIn : ℕ → Option ℕ → List InVc
 reachedIn i none = []
 reachedIn i (some v) = record { input = i; vc = v } ∷ []
 
--- The entry of an accepted cycle. Its departures are sorted by the input VC that they left.
+-- The entry of an accepted cycle. Its departures are sorted by the input VC that they left; none is lost and none doubled
+-- (NoneLost.departures-all).
 unfoldable pub entryOf : Config → ℕ → List ℕ → Reply → Entry Flit
 entryOf c cycle part r =
     record {
