@@ -11,3 +11,4 @@ pub mod Demand3
 pub mod Times
 pub mod Printable
 pub mod NoneLost
+pub mod Listed
