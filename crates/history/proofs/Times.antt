@@ -1,25 +1,35 @@
--- What follows from the link: the times of 01 and the output credits, of the router that steps. Each is crates/model's law of every run.
+-- What follows from the link: the times and limits of 01 and the output credits, of the router that steps. Each is crates/model's law of every
+-- run.
 -- Assumes nothing.
-use mathlib.Core.Path.{_≡_, sym, ap, _∙_}
+use mathlib.Core.Path.{_≡_, sym, ap, subst, _∙_}
 use mathlib.Core.Bool.{Bool, cond}
-use mathlib.Core.List.{List}
+use mathlib.Core.List.{List, [], _∷_, _++_, map}
 use mathlib.Core.Option.{none}
-use Prim.Native.Nat.{ℕ, _+_, _<_}
+use Prim.Native.Nat.{ℕ, suc, _+_, _≤_, _<_}
+use native.Mathlib.Omega.{arith}
 use lib.ListN.{length}
 use Rattle.base.specs.declared.config.Config.{Config}
+use Rattle.base.specs.declared.flit.Flit.{Flit}
 use Rattle.base.specs.Sizes.{illegalField}
-use Rattle.model.specs.History.{leftOn}
-use Rattle.model.specs.Limits.{creditsOn}
+use Rattle.model.specs.Channel.{queueNow}
+use Rattle.model.specs.History.{History, Numbered, upTo, leftOn}
+use Rattle.model.specs.Limits.{OncePerPort, creditsOn}
+use Rattle.model.specs.Line.{out}
 use Rattle.model.specs.Lists.{All}
+use Rattle.model.specs.Run.{Run}
 use Rattle.model.specs.Times.{Later, acceptedIn, leftIn, reachedIn}
+use Rattle.model.proofs.Depth as depth
+use Rattle.model.proofs.Limits as limits
 use Rattle.model.proofs.OutCredits as credits
 use Rattle.model.proofs.Times as times
-use Rattle.state.specs.Channels.{isThere, outCreditOf}
-use Rattle.state.specs.Views.{outputAt}
+use Rattle.state.specs.Channels.{ChannelView, isThere, outCreditOf}
+use Rattle.state.specs.Views.{outputAt, wireOf}
 use Rattle.trace.specs.Bytes.{AreBytes}
-use Rattle.rules.specs.Free.{look, sizesOf, freeOf}
-use Rattle.rules.proofs.ChosenViews.{is-there}
+use Rattle.rules.specs.Free.{look, sizesOf, channelOf, freeOf}
+use Rattle.rules.proofs.ChosenViews.{is-there, view-there}
+use Rattle.history.specs.Demand3.{queue}
 use Rattle.history.specs.Run.{runOf}
+use Rattle.history.proofs.Demand3.{demand3}
 use Rattle.history.proofs.RunIs.{legal-delayed, run-runs, run-is}
 
 module _ (c : Config) (legal : illegalField c ≡ none) (parts : List (List ℕ)) (bytes : All AreBytes parts) where
@@ -31,6 +41,35 @@ module _ (c : Config) (legal : illegalField c ≡ none) (parts : List (List ℕ)
   pub serves-after-F-and-B : (i v : ℕ)
       → Later (c .forward + c .back) (acceptedIn i v (runOf c parts .history)) (reachedIn i v (runOf c parts .history))
   serves-after-F-and-B i v = times.serves-after-F-and-B look (sizesOf c) (legal-delayed c legal) i v (run-is c legal parts bytes)
+
+  -- "Credits that left an input B cycles ago reach its sender": after accepted cycle t, a VC's credits have reached its sender in the cycles in which
+  -- its flits left up to t−B, each B later
+  pub reaches-after-B : (i v t : ℕ) → length (runOf c parts .history) ≡ suc t
+      → reachedIn i v (runOf c parts .history) ≡ map (λ (a : ℕ). a + c .back) (leftIn i v (upTo t (c .back) (runOf c parts .history)))
+  reaches-after-B i v t count = go (runOf c parts .history) (demand3 c legal parts bytes t count .cycles) (run-is c legal parts bytes)
+    where
+      go : (h : History Flit) → Numbered (suc t) h → Run look (sizesOf c) (freeOf (runOf c parts .router)) h
+          → reachedIn i v h ≡ map (λ (a : ℕ). a + c .back) (leftIn i v (upTo t (c .back) h))
+      go [] n run = absurd (omega (arith, n))
+      go (now ∷ h) n run =
+          let last : now .cycle ≡ t = omega (arith, n .0) in
+          subst (λ (k : ℕ). reachedIn i v (now ∷ h) ≡ map (λ (a : ℕ). a + c .back) (leftIn i v (upTo k (c .back) (now ∷ h)))) last
+          (times.reaches-after-B look (sizesOf c) (legal-delayed c legal) i v run)
+
+  -- "A queue can't overflow": not even with the flit that joins it in the next cycle
+  pub queue-fits : (i v : ℕ) → i < c .ports → v < c .vcs
+      → length (queue c (runOf c parts .router) i v ++ out [] (wireOf c (runOf c parts .router .wire) i v)) ≤ c .depth
+  unfolding freeOf
+  queue-fits i v =
+      let s = runOf c parts .router in
+      subst (λ (d : Config). i < d .ports → v < d .vcs → length (queue d s i v ++ out [] (wireOf d (s .wire) i v)) ≤ c .depth)
+      (run-runs c legal parts bytes .config) (λ port vc.
+      subst (λ (ch : ChannelView). length (queueNow (channelOf ch)) ≤ c .depth) (view-there s i v port vc)
+      (depth.queue-fits look (sizesOf c) (legal-delayed c legal) (run-is c legal parts bytes) i v))
+
+  -- "at most one flit per input and per output": in every accepted cycle
+  pub once-per-port : All OncePerPort (runOf c parts .history)
+  once-per-port = limits.once-per-port look (sizesOf c) (run-is c legal parts bytes)
 
   -- what left on an output VC is as far ahead of the credits that came back for it as its credit is below E
   pub output-credits : (o w : ℕ) → o < c .ports → w < c .vcs
