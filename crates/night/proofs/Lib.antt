@@ -12,3 +12,4 @@ pub mod Moves
 pub mod Standing
 pub mod Kept
 pub mod Night
+pub mod Histories

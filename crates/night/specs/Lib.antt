@@ -1,3 +1,4 @@
 pub mod File
 pub mod Accepted
 pub mod Calls
+pub mod Histories
