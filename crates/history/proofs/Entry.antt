@@ -58,7 +58,7 @@ abbrev pub from : ℕ → ℕ → Departure Flit → Bool
 from i v d = same (d .input) (d .vc) i v
 
 -- lists over the ports that are alike at each port
-each-ext : {A : Type 0} (n : ℕ) (f g : ℕ → List A) → ((i : ℕ) → i < n → f i ≡ g i) → each n f ≡ each n g
+pub each-ext : {A : Type 0} (n : ℕ) (f g : ℕ → List A) → ((i : ℕ) → i < n → f i ≡ g i) → each n f ≡ each n g
 each-ext zero f g h = refl
 each-ext {A} (suc n) f g h = ap₂ (λ (a b : List A). a ++ b) (each-ext n f g (λ i l. h i (omega arith))) (h n (omega arith))
 

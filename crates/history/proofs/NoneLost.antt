@@ -1,14 +1,18 @@
--- No departure is lost on the way into the history, and none doubled: the entry of an accepted cycle has as many as the list has F lines of
--- it, and as many credits that reached their sender as C lines. Only that the cycle is accepted is asked.
+-- No departure is lost on the way into the history, and none doubled: the entry of an accepted cycle has of each output what the reply reports
+-- there, as many departures as the list has F lines of the cycle, and as many credits that reached their sender as C lines. Only that the cycle
+-- is accepted is asked.
 -- Assumes nothing.
 use mathlib.Core.Path.{_≡_, refl, sym, ap, _∙_}
+use mathlib.Core.Logic.{_≢_}
 use mathlib.Core.Bool.{Bool, true, false, cond}
 use mathlib.Core.List.{List, [], _∷_, _++_}
-use mathlib.Core.Option.{none}
+use mathlib.Core.Option.{some, none}
 use Prim.Native.Nat.{ℕ, zero, suc, _+_, _≤_, _<_}
 use native.Mathlib.Decide.{ℕ-discrete}
 use native.Mathlib.Omega.{arith}
+use lib.Dec.{eqb}
 use lib.ListN.{length, length-append, getD}
+use borrow.Author.Tests.{eq-eqb, ne-eqb}
 use Rattle.base.specs.declared.config.Config.{Config}
 use Rattle.base.specs.declared.flit.Flit.{Flit}
 use Rattle.base.specs.declared.reply.Departure as reply
@@ -27,7 +31,7 @@ use Rattle.model.specs.History.{Departure}
 use Rattle.model.specs.Limits.{InRange}
 use Rattle.model.specs.Lists.{keep, each, All}
 use Rattle.model.proofs.Entries.{same-own, same-true}
-use Rattle.model.proofs.Lists.{each-none, grid-one, all-each}
+use Rattle.model.proofs.Lists.{keep-grid, keep-one, each-none, grid-one, all-each}
 use Rattle.state.specs.declared.Router.{Router}
 use Rattle.trace.specs.Bytes.{AreBytes}
 use Rattle.rules.specs.declared.Stepped.{Stepped}
@@ -43,7 +47,7 @@ use Rattle.rules.proofs.Facts.{sound-legal}
 use Rattle.rules.proofs.Left.{noOutput}
 use Rattle.rules.proofs.Reported.{reported-past}
 use Rattle.history.specs.Run.{departureIn, departuresIn, reachedIn, entryOf}
-use Rattle.history.proofs.Entry.{from}
+use Rattle.history.proofs.Entry.{from, each-ext}
 use Rattle.history.proofs.Printable.{left-there}
 
 -- where each place's list is as long as two others together, so are all of them together
@@ -80,6 +84,9 @@ module _ {A : Type 0} (f : ℕ → List A) (lines : ℕ → List Line) where
 abbrev sorted : ℕ → ℕ → List (Departure Flit) → List (Departure Flit)
 sorted n m ds = each n (λ i. each m (λ v. keep (from i v) ds))
 
+sorted-none : (n m : ℕ) → sorted n m [] ≡ []
+sorted-none n m = each-none n (λ i. each m (λ v. [])) (λ i l. each-none m (λ v. []) (λ v k. refl))
+
 -- one more departure is sorted in beside the others
 sorted-more : (n m : ℕ) (d : Departure Flit) (ds : List (Departure Flit))
     → length (sorted n m (d ∷ ds)) ≡ length (sorted n m (d ∷ [])) + length (sorted n m ds)
@@ -103,9 +110,27 @@ sorted-one n m d input vc =
 
 -- departures from VCs that there are: sorted, they are as many
 sorted-all : (n m : ℕ) (ds : List (Departure Flit)) → All (λ (d : Departure Flit). (d .input < n) × (d .vc < m)) ds → length (sorted n m ds) ≡ length ds
-sorted-all n m [] there = ap length (each-none n (λ i. each m (λ v. [])) (λ i l. each-none m (λ v. []) (λ v k. refl)))
+sorted-all n m [] there = ap length (sorted-none n m)
 sorted-all n m (d ∷ ds) there =
     omega (arith, sorted-more n m d ds, ap length (sorted-one n m d (there .0 .0) (there .0 .1)), sorted-all n m ds (there .1))
+
+-- two tests, in either order
+keep-swap : {A : Type 0} (p q : A → Bool) (xs : List A) → keep p (keep q xs) ≡ keep q (keep p xs)
+keep-swap p q [] = refl
+keep-swap {A} p q (x ∷ xs) = go (p x) refl (q x) refl (keep-swap p q xs)
+  where
+    go : (b : Bool) → p x ≡ b → (d : Bool) → q x ≡ d → keep p (keep q xs) ≡ keep q (keep p xs)
+        → keep p (cond d (x ∷ keep q xs) (keep q xs)) ≡ keep q (cond b (x ∷ keep p xs) (keep p xs))
+    go true e true f ih = rw (e, f, ih)
+    go true e false f ih = rw f ih
+    go false e true f ih = rw e ih
+    go false e false f ih = ih
+
+-- a test of what is sorted
+sorted-kept : (p : Departure Flit → Bool) (n m : ℕ) (ds : List (Departure Flit)) → keep p (sorted n m ds) ≡ sorted n m (keep p ds)
+sorted-kept p n m ds =
+    keep-grid p n m (λ i v. keep (from i v) ds)
+    ∙ each-ext n _ _ (λ i l. each-ext m (λ v. keep p (keep (from i v) ds)) (λ v. keep (from i v) (keep p ds)) (λ v k. keep-swap p (from i v) ds))
 
 module _ (s : Router) (part : List ℕ) (bytes : AreBytes part) (accepted : stepOf s part .verdict ≡ Accepted) where
   abbrev c : Config
@@ -178,6 +203,36 @@ module _ (s : Router) (part : List ℕ) (bytes : AreBytes part) (accepted : step
       one : (l : Left) → leftAt n ≡ l → length (flitLine (s .cycle) told n) ≡ flitLines (flitLine (s .cycle) told n)
       one left.Nothing q = rw (no-flit (s .cycle) told n q)
       one (left.Flit d) q = rw (one-flit (s .cycle) told n d q)
+
+  -- What the entry has of output o is what the reply reports there, and nothing else.
+  pub departures-told : (o : ℕ) → keep (λ (d : Departure Flit). eqb (d .output) o) (entryOf c (s .cycle) part told .departures)
+      ≡ departureIn o (departureOf (leftAt o))
+  unfolding entryOf
+  departures-told o =
+      sorted-kept by (c .ports) (c .vcs) (departuresIn c told)
+      ∙ ap (sorted (c .ports) (c .vcs)) (keep-one by (c .ports) (λ p. departureIn p (departureOf (leftAt p))) o (λ p ne. other p ne (leftAt p)) (beyond (leftAt o) refl)
+      ∙ own (leftAt o))
+      ∙ alone (leftAt o) (left-in-range o)
+    where
+      by : Departure Flit → Bool
+      by d = eqb (d .output) o
+
+      other : (p : ℕ) → p ≢ o → (l : Left) → keep by (departureIn p (departureOf l)) ≡ []
+      other p ne left.Nothing = refl
+      other p ne (left.Flit d) = ap (λ (b : Bool). cond b (departureIn p (some d)) []) (ne-eqb p o ne)
+
+      own : (l : Left) → keep by (departureIn o (departureOf l)) ≡ departureIn o (departureOf l)
+      own left.Nothing = refl
+      own (left.Flit d) = ap (λ (b : Bool). cond b (departureIn o (some d)) []) (eq-eqb o o refl)
+
+      beyond : (l : Left) → leftAt o ≡ l → ¬ (o < c .ports) → keep by (departureIn o (departureOf l)) ≡ []
+      beyond left.Nothing q out = refl
+      beyond (left.Flit d) q out = absurd (out (left-there s part bytes accepted o d q))
+
+      alone : (l : Left) → All (λ (d : Departure Flit). InRange (sizesOf c) (d .input) (d .vc)) (departureIn o (departureOf l))
+          → sorted (c .ports) (c .vcs) (departureIn o (departureOf l)) ≡ departureIn o (departureOf l)
+      alone left.Nothing there = sorted-none (c .ports) (c .vcs)
+      alone (left.Flit d) there = sorted-one (c .ports) (c .vcs) _ (there .0 .0) (there .0 .1)
 
   -- No departure that the reply reports is lost, and none is doubled: the entry has one for each F line.
   pub departures-all : length (entryOf c (s .cycle) part told .departures) ≡ flitLines (cycleLines (s .cycle) told)

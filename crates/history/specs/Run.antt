@@ -54,7 +54,7 @@ reachedIn i none = []
 reachedIn i (some v) = record { input = i; vc = v } ∷ []
 
 -- The entry of an accepted cycle. Its departures are sorted by the input VC that they left; none is lost and none doubled
--- (NoneLost.departures-all).
+-- (NoneLost.departures-told, departures-all).
 unfoldable pub entryOf : Config → ℕ → List ℕ → Reply → Entry Flit
 entryOf c cycle part r =
     record {
