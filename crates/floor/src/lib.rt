@@ -1,5 +1,5 @@
 // The night floor's streams: bytes read until a buffer is full, bytes written, a part handed over to the run entry. What the system answers
-// is in no contract, so these functions promise only that they end and stay inside their buffers.
+// is in no contract; what a part that was handed over comes to is (specs/Handing).
 mod input;
 mod output;
 mod passing;

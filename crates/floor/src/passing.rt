@@ -1,8 +1,12 @@
 // Handing a part over to the run entry and writing its lines.
 use crate::output;
 use standing::Night;
+ghost use mathlib.Core.Bool.{true, false};
+ghost use mathlib.Core.Option.{some};
+ghost use mathlib.Core.Path.{_≡_};
 ghost use Prim.Native.Nat.{_≤_};
 ghost use lib.ListN.{length};
+ghost use Rattle.floor.specs.Handing.{passed as passedIn, mostCalls, finished, handedOver};
 
 // The run after a part, or that its list could not be written on: a call was refused, or a write.
 pub struct Passed {
@@ -11,15 +15,19 @@ pub struct Passed {
 }
 
 // The bytes that a call wrote. After a call that was refused the list cannot go on.
-fn put_lines(to: i32, out: &[u8], number: u8, written: usize) -> bool {
-    if number != base::DONE {
-        return false;
+fn put_lines(to: i32, out: &[u8], number: u8, written: usize) -> bool
+    ensures { λ r. ⌜ (r ≡ true → number ≡ 0) ⌝ }
+{
+    if number == base::DONE {
+        return output::put(to, out, written);
     }
-    output::put(to, out, written)
+    false
 }
 
 // Hands a part over until it is used up or the run is over. A call uses a block at least, and a part has at most 128.
-pub fn pass(night: Night, part: &[u8], out: &mut [u8], to: i32) -> Passed {
+pub fn pass(night: Night, part: &[u8], out: &mut [u8], to: i32) -> Passed
+    ensures { λ r. ⌜ (r .failed ≡ false → passedIn mostCalls night (now (part .entry)) (now (out .entry)) ≡ some (record { night = r .night; buffer = now (out .exit) })) ⌝ }
+{
     let mut run = night;
     let mut from: usize = 0;
     let mut calls: u32 = 128;
@@ -56,6 +64,7 @@ pub fn pass(night: Night, part: &[u8], out: &mut [u8], to: i32) -> Passed {
 // The last piece, behind the whole blocks, where the buffer is not full: then the input has ended.
 fn finish(passed: Passed, buf: &[u8], from: usize, bytes: usize, out: &mut [u8], to: i32) -> Passed
     requires { ⌜ (from ≤ bytes) × (bytes ≤ length (now buf)) ⌝ }
+    ensures { λ r. ⌜ (r .failed ≡ false → (passed .failed ≡ false) × (finished (now (buf .entry)) from bytes (some (record { night = passed .night; buffer = now (out .entry) })) ≡ some (record { night = r .night; buffer = now (out .exit) }))) ⌝ }
 {
     if passed.failed {
         return passed;
@@ -71,7 +80,9 @@ fn finish(passed: Passed, buf: &[u8], from: usize, bytes: usize, out: &mut [u8],
 }
 
 // Hands over what was read: the whole blocks, and then the last, shorter, perhaps empty piece.
-pub fn hand(night: Night, buf: &[u8], bytes: usize, out: &mut [u8], to: i32) -> Passed {
+pub fn hand(night: Night, buf: &[u8], bytes: usize, out: &mut [u8], to: i32) -> Passed
+    ensures { λ r. ⌜ (r .failed ≡ false → handedOver night (now (buf .entry)) bytes (now (out .entry)) ≡ some (record { night = r .night; buffer = now (out .exit) })) ⌝ }
+{
     if buf.len() < bytes {
         return Passed {
             night,

@@ -8,3 +8,4 @@ pub mod Store
 pub mod State
 pub mod Standing
 pub mod Router
+pub mod Floor
