@@ -5,3 +5,4 @@ pub mod Rooms
 pub mod RefusedPart
 pub mod Contention
 pub mod SoundTable
+pub mod HandedOver
