@@ -43,6 +43,13 @@ module _ (T : Ended) where
   abbrev pub Once : Asks → Tells → Type 0
   Once = OnceSeen {S = Result} (λ κs r. r)
 
+  -- where only outcomes whose result is `fine` are told apart
+  abbrev pub OnceWhere : (fine : (κs : Lifetimes) → Result κs → Type 0) → Asks → Tells → Type 0
+  OnceWhere fine Asked Learnt =
+      (κs : Lifetimes) (a : Input κs) → Asked κs a
+      × ((r s : Result κs) (u v : Lasts T κs a) → Learnt κs a r (atExit T κs a u) → Learnt κs a s (atExit T κs a v)
+      → fine κs r → fine κs s → (r ≡ s) × (u ≡ v))
+
   -- Of a function that the borrow checker does not cover Rattle draws no `Reads`: that its written clauses ask for nothing and tell just this.
   abbrev pub Says : (M : Type 1) → ((𝓤 : URA M) → Heap 𝓤 → Atoms 𝓤 → (Memory → SProp 𝓤) → (Routine → Fun 𝓤) → Clauses 𝓤 T) → Tells → Type 2
   Says M clauses Learnt =
