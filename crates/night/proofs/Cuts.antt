@@ -6,7 +6,7 @@ use Prim.Native.Nat.{ℕ, zero, suc, _+_, _*_, _≤_, _<_}
 use native.Mathlib.Nat.{not-suc-le-zero}
 use native.Mathlib.Omega.{arith}
 use lib.ListN.{length, take, drop, length-drop}
-use lib.Seq.{length-take-le, take-take, getD-drop}
+use lib.Seq.{length-take-le, getD-drop}
 use Rattle.trace.specs.Bytes.{AreBytes}
 use Rattle.router.specs.Running.{blocksIn}
 use Rattle.night.specs.File.{cutInto, blocksOf}
@@ -38,13 +38,6 @@ first-block (b ∷ l) h =
     ap (λ (bs : List (List ℕ)). take 512 (b ∷ l) ∷ bs)
     (cut-same (length l) (length (drop 512 (b ∷ l))) (drop 512 (b ∷ l)) (omega (arith, e)) (omega arith)
     ∙ ap blocksOf (sym (drop-taken 512 (b ∷ l))))
-
--- a block inside a part is a block of the whole
-pub take-inside : (n u m : ℕ) (l : List ℕ) → u + n ≤ m → take n (drop u (take m l)) ≡ take n (drop u l)
-take-inside n zero m l h = take-take n m l (omega arith)
-take-inside n (suc u) zero l h = absurd (omega arith)
-take-inside n (suc u) (suc m) [] h = refl
-take-inside n (suc u) (suc m) (x ∷ l) h = take-inside n u m l (omega arith)
 
 -- whole blocks are as many as they are, and a piece shorter than a block is one
 pub whole-blocks : (k : ℕ) (l : List ℕ) → 1 ≤ k → k * 512 ≤ length l → blocksIn (take (k * 512) l) * 512 ≤ k * 512

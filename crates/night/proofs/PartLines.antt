@@ -9,6 +9,7 @@ use lib.Dec.{ltb}
 use lib.ListN.{length, take, drop, length-drop}
 use lib.Seq.{length-take-le, drop-drop}
 use borrow.Author.Tests.{ltb-false}
+use Rattle.base.proofs.Lists.{take-inside}
 use Rattle.base.specs.Numbers as numbers
 use Rattle.base.proofs.Search.{neither}
 use Rattle.state.specs.declared.Router.{Router}
@@ -22,7 +23,7 @@ use Rattle.router.proofs.Going.{piece-bytes}
 use Rattle.night.specs.File.{finishes, refuses, Printed, endsAt, blockThen, fileFrom, blocksOf}
 use Rattle.night.proofs.Added.{Prints, adds-within, prints-none, prints-both, prints-as}
 use Rattle.night.proofs.Left.{leftOf, leftIn}
-use Rattle.night.proofs.Cuts.{first-block, take-inside}
+use Rattle.night.proofs.Cuts.{first-block}
 use Rattle.night.proofs.BlockLines.{Ready, block-ready, block-prints}
 
 -- where the test finds it, a block's room is there

@@ -1,29 +1,17 @@
 -- How a reader moves: on by one while a cycle is shown, and never past the first empty part.
 -- Assumes nothing.
 use mathlib.Core.Path.{_≡_, refl, ap, _∙_}
-use mathlib.Core.Bool.{Bool, true, false, _&&_}
+use mathlib.Core.Bool.{Bool, true, false}
 use mathlib.Core.List.{List, []}
 use Prim.Native.Nat.{ℕ, zero, suc, _+_, _*_, _≤_, _<_}
 use native.Mathlib.Numerals.{add-one}
 use native.Mathlib.Omega.{arith}
-use lib.Dec.{leb, ltb}
 use lib.ListN.{length}
-use borrow.Author.Tests.{leb-true, le-leb, ltb-true, lt-ltb}
-use Rattle.base.proofs.Search.{both}
+use borrow.Author.Tests.{le-leb, lt-ltb}
 use Rattle.trace.specs.Blocks.{heldOf}
 use Rattle.trace.specs.Cycles.{Slice, part, shows, cyclePart}
 use Rattle.trace.proofs.Parts.{shown-64}
 use Rattle.reader.specs.Reader.{nextCycle, walked}
-
--- a cycle that is shown is one of the 7 that a block may hold
-pub shown-below-7 : (l : List ℕ) (k : ℕ) → shows l k ≡ true → k < 7
-unfolding shows
-shown-below-7 l k e =
-    let q = both (leb 512 (length l) && leb (heldOf l) 7) (ltb k (heldOf l)) e in
-    let p = both (leb 512 (length l)) (leb (heldOf l) 7) (q .0) in
-    let most = leb-true (heldOf l) 7 (p .1) in
-    let below = ltb-true k (heldOf l) (q .1) in
-    omega arith
 
 -- where a cycle is shown, the reader moves on by one
 pub shown-moves : (l : List ℕ) (k : ℕ) → shows l k ≡ true → nextCycle l k ≡ k + 1

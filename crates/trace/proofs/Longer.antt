@@ -1,25 +1,28 @@
 -- "Of a lent block longer than 512 bytes the first 512 count." (01, blocks)
 -- Assumes nothing.
 use mathlib.Core.Path.{_≡_, refl, sym, ap, ap₂, _∙_}
-use mathlib.Core.Bool.{Bool, true, cond, not, _&&_, _||_}
+use mathlib.Core.Bool.{Bool, true, false, cond, not, _&&_, _||_}
 use mathlib.Core.List.{List}
 use mathlib.Core.Option.{Option, some, none}
 use Prim.Native.Nat.{ℕ, _+_, _*_, _%_, _≤_, _<_}
 use native.Mathlib.Nat.{le-refl}
 use native.Mathlib.Omega.{arith}
 use lib.Dec.{eqb, leb, ltb, lit<}
-use lib.ListN.{length, take}
+use lib.ListN.{length, take, drop}
 use lib.Seq.{length-take-le, getD-take}
-use borrow.Author.Tests.{lt-ltb, le-ltb}
+use borrow.Author.Tests.{lt-ltb, le-ltb, le-leb}
 use Rattle.base.specs.Sizes.{illegalField}
 use Rattle.base.specs.Numbers as numbers
+use Rattle.base.proofs.Lists.{take-inside}
 use Rattle.base.proofs.Search.{every-ext}
 use Rattle.trace.specs.declared.place.Place.{Place}
 use Rattle.trace.specs.Bytes.{byte, bigEndian, zeros}
 use Rattle.trace.specs.Blocks.{kindOf, heldOf, configOf, cycleStart, bodyEnd}
+use Rattle.trace.specs.Cycles.{Slice, part, shows, cyclePart}
 use Rattle.trace.specs.Check.{weighed, checkOf, checkHolds}
 use Rattle.trace.specs.Rules.{placeUnsound, blockShort, checkWrong, kindWrong, numberWrong, countWrong, unusedWrong, orderWrong, totalWrong, bytesFollow, formWrong, blockWrong, fieldWrong}
 use Rattle.trace.specs.Judged.{aConfiguration, someCycles, theEnd, noMore, accepted, refused, readOf, taken, byField, judged}
+use Rattle.trace.proofs.Parts.{shown-below-7}
 use Rattle.trace.proofs.Spelling.{spell-ext}
 use Rattle.trace.proofs.Sums.{sum-ext}
 
@@ -116,3 +119,37 @@ module _ (x y : List ℕ) (same : (i : ℕ) → i < 512 → byte x i ≡ byte y 
 pub first-512-count : (p : Place) (c : ℕ) (l : List ℕ) → 512 ≤ length l → judged p c l ≡ judged p c (take 512 l)
 first-512-count p c l h =
     judged-alike l (take 512 l) (λ i g. sym (getD-take 512 l i 0 g)) p c h (let e = length-take-le 512 l h in omega arith)
+
+-- ---- the cycles shown
+
+module _ (l : List ℕ) (h : 512 ≤ length l) where
+  held-512 : heldOf (take 512 l) ≡ heldOf l
+  held-512 = getD-take 512 l 1 0 (lit< tt)
+
+  shows-512 : (k : ℕ) → shows (take 512 l) k ≡ shows l k
+  unfolding shows
+  shows-512 k =
+      ap₂ (λ (a : Bool) (n : ℕ). a && leb n 7 && ltb k n)
+      (le-leb 512 (length (take 512 l)) (let e = length-take-le 512 l h in omega arith) ∙ sym (le-leb 512 (length l) h)) held-512
+
+  part-512 : (k : ℕ) → k < 7 → take 64 (drop (8 + 64 * k) (take 512 l)) ≡ take 64 (drop (8 + 64 * k) l)
+  part-512 k b = take-inside 64 (8 + 64 * k) 512 l (omega (arith, b))
+
+-- so does a reader show its cycles: those of a longer block are those of its first 512 bytes, where they lie
+pub first-512-shown : (s : Slice) (k : ℕ) → 512 ≤ length (s .bytes)
+    → cyclePart s k ≡ cyclePart (record { memory = s .memory; start = s .start; bytes = take 512 (s .bytes) }) k
+unfolding cyclePart
+first-512-shown s k h = go (shows (s .bytes) k) refl
+  where
+    l : List ℕ
+    l = s .bytes
+
+    cut : Slice
+    cut = record { memory = s .memory; start = s .start; bytes = take 512 l }
+
+    shown : List ℕ → Slice
+    shown bytes = record { memory = s .memory; start = 8 + 64 * k + s .start; bytes = bytes }
+
+    go : (b : Bool) → shows l k ≡ b → cond (shows l k) (part s (8 + 64 * k) 64) (part s 0 0) ≡ cond (shows (take 512 l) k) (part cut (8 + 64 * k) 64) (part cut 0 0)
+    go true e = rw (e, shows-512 l h k ∙ e) (ap shown (sym (part-512 l h k (shown-below-7 l k e))))
+    go false e = rw (e, shows-512 l h k ∙ e)

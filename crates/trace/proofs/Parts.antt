@@ -15,6 +15,16 @@ use Rattle.trace.specs.Blocks.{kindOf, heldOf}
 use Rattle.trace.specs.Cycles.{Slice, shows, cyclePart}
 use Rattle.trace.proofs.Formed.{Formed}
 
+-- a cycle that is shown is one of the 7 that a block may hold
+pub shown-below-7 : (l : List ℕ) (k : ℕ) → shows l k ≡ true → k < 7
+unfolding shows
+shown-below-7 l k e =
+    let q = both (leb 512 (length l) && leb (heldOf l) 7) (ltb k (heldOf l)) e in
+    let p = both (leb 512 (length l)) (leb (heldOf l) 7) (q .0) in
+    let most = leb-true (heldOf l) 7 (p .1) in
+    let below = ltb-true k (heldOf l) (q .1) in
+    omega arith
+
 pub shown-64 : (s : Slice) (k : ℕ) → shows (s .bytes) k ≡ true → length (cyclePart s k .bytes) ≡ 64
 unfolding cyclePart shows
 shown-64 s k e =

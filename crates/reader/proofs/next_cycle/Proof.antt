@@ -3,7 +3,8 @@
 use mathlib.Core.Path.{sym}
 use native.Mathlib.Omega.{arith}
 use borrow.Author.Needs.{needs}
-use Rattle.reader.proofs.Walking.{no-byte-stays, some-byte-shown, shown-moves, shown-below-7}
+use Rattle.trace.proofs.Parts.{shown-below-7}
+use Rattle.reader.proofs.Walking.{no-byte-stays, some-byte-shown, shown-moves}
 use Rattle.reader.proofs.next_cycle.Statement.{statement}
 use Rattle.reader.proofs.next_cycle.Tie as tie
 

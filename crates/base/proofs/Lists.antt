@@ -1,0 +1,15 @@
+-- Lists alone: parts of parts.
+-- Assumes nothing.
+use mathlib.Core.Path.{_≡_, refl}
+use mathlib.Core.List.{List, [], _∷_}
+use Prim.Native.Nat.{ℕ, zero, suc, _+_, _≤_}
+use native.Mathlib.Omega.{arith}
+use lib.ListN.{take, drop}
+use lib.Seq.{take-take}
+
+-- what lies inside the first m is there in the whole
+pub take-inside : (n u m : ℕ) (l : List ℕ) → u + n ≤ m → take n (drop u (take m l)) ≡ take n (drop u l)
+take-inside n zero m l h = take-take n m l (omega arith)
+take-inside n (suc u) zero l h = absurd (omega arith)
+take-inside n (suc u) (suc m) [] h = refl
+take-inside n (suc u) (suc m) (x ∷ l) h = take-inside n u m l (omega arith)
