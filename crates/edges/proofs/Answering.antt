@@ -6,9 +6,8 @@ use mathlib.Core.List.{List}
 use Prim.Native.Nat.{ℕ, _-_, _≤_}
 use lib.Dec.{eqb, leb}
 use lib.ListN.{length, take, drop, replicate, length-drop}
-use lib.Seq.{take-all}
-use native.Mathlib.Omega.{arith}
 use borrow.Author.Tests.{eq-eqb, leb-true}
+use Rattle.base.proofs.Lists.{rest-of}
 use Rattle.listing.specs.declared.Written.{Written}
 use Rattle.listing.specs.declared.Written.the-variants.{Lines, NoRoom, OutOfRange}
 use Rattle.listing.specs.Writing.{Outcome, outcomeOf}
@@ -49,7 +48,7 @@ told r b number line a =
       there = rw (buffer-is r b) at (a .there);
       behind =
           subst (λ (l : List ℕ). l ≡ replicate (length l) 0)
-          (sym (take-all (length b - length line) (drop (length line) b) (omega (arith, length-drop (length line) b))))
+          (sym (rest-of (length line) b))
           ((rw (buffer-is r b) at (a .behind)) ∙ ap (λ (k : ℕ). replicate k 0) (sym (length-drop (length line) b)));
     }
   where

@@ -1,17 +1,11 @@
 -- Document 01's starred examples: one theorem, computed.
 -- Assumes nothing.
-use mathlib.Core.Path.{_≡_, refl}
-use mathlib.Core.Bool.{true, xor}
-use mathlib.Core.List.{List, [], _∷_}
-use Prim.Native.Nat.{ℕ, zero, suc}
-use native.Mathlib.Omega.{arith}
-use lib.Dec.{ltb}
-use borrow.Author.Tests.{ltb-true}
+use mathlib.Core.Path.{refl}
+use mathlib.Core.Bool.{xor}
 use Rattle.base.specs.Bits.{bit, wordOf, withBit}
 use Rattle.base.specs.Flit.{flitOf, kindOf, destinationOf, payloadOf, startsKind, endsKind, letterOf}
 use Rattle.base.specs.Search.{firstFrom, every, orElse}
 use Rattle.base.specs.Sizes.{inRange, firstIllegal, illegalField}
-use Rattle.base.proofs.Search.{both}
 use Rattle.arbiter.specs.RoundRobin.{nextInTurn, pointerAfter}
 use Rattle.arbiter.specs.Matrix as arbiters
 use Rattle.arbiter.specs.Matrix.{beats, beatsEveryOther, champion, raised, defeated, freshRow, freshRows, totalOrder, within, blankFrom}
@@ -38,20 +32,13 @@ use Rattle.listing.specs.Digits.{glyph, decimalWithin, decimal, lastDigits, hex
 use Rattle.listing.specs.Lines.{spaced, print, text, byPort, creditLine, flitLine, cycleLines, flitLines}
 use Rattle.history.specs.Run.{entryOf, runFrom, runOf}
 use Rattle.night.specs.File.{cyclesThen, fileFrom, cutInto, printedOf, listOf}
+use Rattle.trace.proofs.Sealed.{known-bytes}
 use Rattle.night.proofs.Night.{night, list-written}
 use Rattle.examples.specs.Listing.{file}
 use Rattle.examples.specs.Starred.{verdicts, Starred}
 
--- a list that passes the test is bytes
-are-bytes : (xs : List ℕ) → all (λ (b : ℕ). ltb b 256) xs ≡ true → AreBytes xs
-unfolding all
-are-bytes [] e i = omega arith
-are-bytes (x ∷ xs) e zero = ltb-true x 256 (both (ltb x 256) (all (λ (b : ℕ). ltb b 256) xs) e .0)
-are-bytes (x ∷ xs) e (suc i) = are-bytes xs (both (ltb x 256) (all (λ (b : ℕ). ltb b 256) xs) e .1) i
-
 file-bytes : AreBytes file
-unfolding all
-file-bytes = are-bytes file refl
+file-bytes = known-bytes file refl
 
 pub starred : Starred
 unfolding xor firstFrom every orElse inRange firstIllegal illegalField flitOf kindOf destinationOf payloadOf startsKind endsKind nextInTurn pointerAfter blankFrom arbiter.known arbiter.usable arbiter.choice arbiter.moved arbiter.after arbiter.fresh arbiter.sound queueAt places wireOf homeOf flat total isNone all configurationLegal cyclesFit creditsWhole creditsAddUp legalFlit wirePlaceLegal wireLegal homeLegal queuesLegal outputCreditsFit namesAgree arbitersSound reading reads packetsRead channelsUnused slotsEmpty lineUnused arbitersUnused shaped clauses sound frontOf pushed movedUp popped overPorts rowZero noOffer legalOffer rowLegal advanced sendersPaid reported creditsReached outputsPaid creditsReturned landings landed offers offersTaken asks freeVc grantOf bindings wideMoved narrowMoved allocated isReady inputPick request outputPick switched winner departures leavingOf runFull rowWrong creditPastRoom outOfTurn noSenderCredit firstOf judged takenIn sentOut routerAfter replyOf stepOf freshRouter bigEndian zeros sum checkOf checkHolds bodyEnd mayHold goodPlace placeUnsound blockShort checkWrong kindWrong numberWrong countWrong unusedWrong orderWrong totalWrong formWrong blockWrong fieldWrong readOf taken byField trace.judged cyclesThen fileFrom cutInto printedOf listOf glyph decimalWithin decimal lastDigits hex spaced print text byPort creditLine flitLine cycleLines flitLines letterOf bit wordOf withBit beats beatsEveryOther champion raised defeated arbiters.listOf freshRow freshRows totalOrder within entryOf runFrom runOf verdicts
@@ -59,7 +46,7 @@ starred =
     record {
       list-printed = refl;
       written-always = night file file-bytes;
-      written-once = list-written file file-bytes;
+      written-by-some = list-written file file-bytes;
       after3 = refl;
       after5 = refl;
       configuration-check = refl;

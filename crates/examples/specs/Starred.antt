@@ -69,7 +69,7 @@ pub record Starred : Type 0 where
   -- "Listing": the list of the file; and whatever calls of the run entry the file is handed over in, they write that, and some do
   pub list-printed : listOf file ≡ printed
   pub written-always : (out : List ℕ) → Calls started file out → out ≡ printed
-  pub written-once : Calls started file printed
+  pub written-by-some : Calls started file printed
   -- "After cycle 3, input 0 has credit 0, wire 0, queue 2, home 0; after cycle 5, 1, 0, 0, 1."
   pub after3 : countsAfter (cycle0 ∷ cycle1 ∷ cycle2 ∷ cycle3 ∷ []) ≡ 0 ∷ 0 ∷ 2 ∷ 0 ∷ []
   pub after5 : countsAfter (cycle0 ∷ cycle1 ∷ cycle2 ∷ cycle3 ∷ cycle4 ∷ cycle5 ∷ []) ≡ 1 ∷ 0 ∷ 0 ∷ 1 ∷ []

@@ -1,26 +1,17 @@
 -- Handing a part over, call by call: what a call that is not refused comes to.
 -- Assumes nothing.
-use mathlib.Core.Path.{_≡_, refl, sym}
-use mathlib.Core.Bool.{Bool, true, false, _||_}
+use mathlib.Core.Path.{_≡_, sym}
+use mathlib.Core.Bool.{true, false, or-true}
 use mathlib.Core.List.{List}
-use mathlib.Core.Option.{Option, some, none}
+use mathlib.Core.Option.{Option, some}
 use Prim.Native.Nat.{ℕ, zero, suc, _-_, _≤_, _<_}
 use native.Mathlib.Omega.{arith}
 use lib.Dec.{eqb, leb}
-use lib.ListN.{length, take, drop, length-drop}
-use lib.Seq.{take-all}
+use lib.ListN.{length, take, drop}
 use borrow.Author.Tests.{le-leb, lt-leb, eq-eqb, ne-eqb}
 use Rattle.standing.specs.declared.Night.{Night}
 use Rattle.router.specs.Running.{Outcome, ranOf}
 use Rattle.floor.specs.Handing.{Handed, handedBy, isLast, passed, mostCalls, finished, wholeIn, begun, handedOver}
-
-or-true : (b : Bool) → (b || true) ≡ true
-or-true true = refl
-or-true false = refl
-
--- the part from a place on, as a slice has it
-pub rest-of : (i : ℕ) (part : List ℕ) → take (length part - i) (drop i part) ≡ drop i part
-rest-of i part = take-all (length part - i) (drop i part) (omega (arith, length-drop i part))
 
 -- all is used
 pub used-last : (part : List ℕ) (o : Outcome) → length part ≤ o .ran .used → isLast part o ≡ true

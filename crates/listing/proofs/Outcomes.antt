@@ -6,9 +6,10 @@ use mathlib.Core.List.{List, _++_}
 use Prim.Native.Nat.{ℕ, _+_, _-_, _≤_}
 use native.Mathlib.Omega.{arith}
 use lib.Dec.{ltb}
-use lib.ListN.{length, take, drop, length-drop}
-use lib.Seq.{sets, take-all}
+use lib.ListN.{length, take, drop}
+use lib.Seq.{sets}
 use borrow.Author.Tests.{ltb-false, not-true, not-false}
+use Rattle.base.proofs.Lists.{rest-of}
 use Rattle.base.specs.Numbers.{done, noRoom, outOfRange, room}
 use Rattle.listing.specs.Inside.{Laid}
 use Rattle.listing.specs.Lines.{Line, text, printable}
@@ -41,7 +42,7 @@ module _ (l : List ℕ) (p : ℕ) (ls : List Line) where
   unfolding written
   written-lines part bytes ok there short x =
       let fits = room-there l p there in
-      let all : take (length l - p) (drop p l) ≡ drop p l = take-all (length l - p) (drop p l) (omega (arith, length-drop p l)) in
+      let all : take (length l - p) (drop p l) ≡ drop p l = rest-of p l in
       let laid : part ≡ sets (drop p l) 0 (text ls) = x .stored ∙ ap (λ (k : List ℕ). sets k 0 (text ls)) all in
       let count : bytes ≡ length (text ls) = omega (arith, x .ahead) in
       let whole : take p l ++ (part ++ drop (length l - p) (drop p l)) ≡ put l p (text ls) =

@@ -49,13 +49,13 @@ module _ (block : List ℕ) (bytes : AreBytes block) where
       → blockThen (o .read) o block s rest .cycles ≡ s .cycle + acceptedBy (o .read) o block s later
   unfolding freshRouter
   block-counted rest later same p s z _ (refuses n k) = sym (add-zero (s .cycle))
-  block-counted rest later same p s z _ (configures a b) =
+  block-counted rest later same p s z _ (configures a b _) =
       let h = same (nextPlace p block) (freshRouter (configOf block)) (λ f. refl) in
       let e = z a in
       omega (arith, h, e)
-  block-counted rest later same p s z _ (holds a l h) =
+  block-counted rest later same p s z _ (holds a l h _) =
       cycles-counted (rest (nextPlace p block)) (later (nextPlace p block)) (λ t. same (nextPlace p block) t (λ f. absurd (true≢false f))) (heldOf block) 0 s
-  block-counted rest later same p s z _ (ends a) = same (nextPlace p block) s (λ f. absurd (true≢false f))
+  block-counted rest later same p s z _ (ends a _) = same (nextPlace p block) s (λ f. absurd (true≢false f))
   block-counted rest later same p s z _ (is-over a) = sym (add-zero (s .cycle))
 
 file-counted : (n : ℕ) (l : List ℕ) → AreBytes l → (p : Place) (s : Router) → (p .configured ≡ false → s .cycle ≡ 0)

@@ -94,9 +94,9 @@ module _ (block : List ℕ) (bytes : AreBytes block) (w : Writing) (ready : Read
     unfolding endedBy wrote flitLines
     of-found _ (refuses n k) named =
         ended-prints (refusal n (s .cycle) k) w (rest p) (refusal-prints n (s .cycle) k (named refl) (ready .early)) (refusal-fits n (s .cycle) k) (omega (arith, there)) .prints
-    of-found _ (configures a b) named = prints-none w _ _ _ refl refl (omega (arith, there)) (going-left (rest (nextPlace p block) (freshRouter (configOf block))))
-    of-found _ (holds a l h) named = of-cycles a (heldOf block) h (nextPlace p block)
-    of-found _ (ends a) named = prints-none w _ _ _ refl refl (omega (arith, there)) (going-left (rest (nextPlace p block) s))
+    of-found _ (configures a b _) named = prints-none w _ _ _ refl refl (omega (arith, there)) (going-left (rest (nextPlace p block) (freshRouter (configOf block))))
+    of-found _ (holds a l h _) named = of-cycles a (heldOf block) h (nextPlace p block)
+    of-found _ (ends a _) named = prints-none w _ _ _ refl refl (omega (arith, there)) (going-left (rest (nextPlace p block) s))
     of-found _ (is-over a) named =
         let f = w .night .flits in
         let c = ready .early in

@@ -4,12 +4,10 @@
 use mathlib.Core.Path.{_≡_, refl, sym, ap, subst, _∙_}
 use mathlib.Core.Bool.{Bool, true, false, cond, true≢false}
 use mathlib.Core.List.{List, [], _∷_, _++_}
-use mathlib.Core.Option.{Option, some, none}
 use Prim.Native.Nat.{ℕ, zero, suc, _+_}
 use native.Mathlib.Omega.{arith}
 use lib.Dec.{eqb}
 use lib.ListN.{length, take, drop}
-use borrow.Author.Tests.{eqb-true}
 use Rattle.base.specs.declared.config.Config.{Config}
 use Rattle.state.specs.declared.Router.{Router}
 use Rattle.state.specs.Fresh.{noConfig, freshRouter}
@@ -17,8 +15,7 @@ use Rattle.trace.specs.declared.place.Place.{Place}
 use Rattle.trace.specs.Blocks.{kindOf, heldOf, configOf, cycleLength, cycleStart}
 use Rattle.trace.specs.Bytes.{AreBytes}
 use Rattle.trace.specs.Place.{start}
-use Rattle.trace.specs.Rules.{placeUnsound, blockShort, checkWrong, blockWrong, fieldWrong}
-use Rattle.trace.specs.Judged.{Read, aConfiguration, someCycles, theEnd, noMore, Outcome, accepted, refused, nextPlace, readOf, taken, byField, judged}
+use Rattle.trace.specs.Judged.{Outcome, nextPlace, judged}
 use Rattle.trace.proofs.Found.{FoundAs, refuses, configures, holds, ends, is-over, found-as}
 use Rattle.listing.specs.Lines.{Line, finish, cycleLines, flitLines}
 use Rattle.model.specs.Lists.{All}
@@ -35,48 +32,6 @@ use Rattle.night.specs.File.{finishes, Printed, cycleThen, partOf, cycle
 use Rattle.night.specs.Accepted.{counted, acceptedIn, acceptedBy, acceptedFrom, acceptedOf}
 use Rattle.night.specs.Histories.{partsFrom, partsIn, partsOf, configurationOf, acceptedParts, historyOf}
 use Rattle.night.proofs.Cuts.{drop-bytes}
-
--- what is read is of its kind
-abbrev KindAs : List ℕ → Option Read → Type 0
-KindAs l none = Unit {0}
-KindAs l (some (aConfiguration c)) = eqb (kindOf l) 2 ≡ false
-KindAs l (some (someCycles n)) = eqb (kindOf l) 2 ≡ true
-KindAs l (some theEnd) = eqb (kindOf l) 2 ≡ false
-KindAs l (some noMore) = Unit {0}
-
-record OfKind (l : List ℕ) (o : Outcome) : Type 0 where
-  kind : KindAs l (o .read)
-
-module _ (p : Place) (c : ℕ) (l : List ℕ) where
-  taken-kind : OfKind l (taken p l)
-  unfolding taken readOf
-  taken-kind = go (p .ended)
-    where
-      second : (b : Bool) → eqb (kindOf l) 2 ≡ b → KindAs l (some (cond b (someCycles (heldOf l)) theEnd))
-      second true e = e
-      second false e = e
-
-      first : (b : Bool) → eqb (kindOf l) 1 ≡ b → KindAs l (some (cond b (aConfiguration (configOf l)) (cond (eqb (kindOf l) 2) (someCycles (heldOf l)) theEnd)))
-      first true e = ap (λ (k : ℕ). eqb k 2) (eqb-true (kindOf l) 1 e)
-      first false e = second (eqb (kindOf l) 2) refl
-
-      go : (b : Bool) → OfKind l (cond b (accepted noMore p) (accepted (readOf l) (nextPlace p l)))
-      go true = record { kind = tt }
-      go false = record { kind = first (eqb (kindOf l) 1) refl }
-
-  judged-kind : OfKind l (judged p c l)
-  unfolding judged byField
-  judged-kind =
-      either (placeUnsound p c) 2
-      (either (blockShort p l) 9 (either (checkWrong p l) 7 (either (blockWrong p c l) 8 (one (fieldWrong p l)))))
-    where
-      either : (b : Bool) (n : ℕ) {o : Outcome} → OfKind l o → OfKind l (cond b (refused n 0 p) o)
-      either true n x = record { kind = tt }
-      either false n x = x
-
-      one : (o : Option ℕ) → OfKind l (byField o p l)
-      one (some k) = record { kind = tt }
-      one none = taken-kind
 
 -- where a run has come to, and what is printed from there on: the lines and the cycles of a run through these parts
 record Joins (c : Config) (r : Ran) (parts : List (List ℕ)) (p : Printed) : Type 0 where
@@ -129,21 +84,21 @@ module _ (c : Config) where
     -- a block after the configuration block, and then the rest
     block-joins : (rest : Place → Router → Printed) (later : Place → Router → ℕ) (more : List (List ℕ))
         → ((p : Place) (r : Ran) → p .configured ≡ true → Joins c r (take (later p (r .router)) more) (rest p (r .router)))
-        → (p : Place) (r : Ran) → p .configured ≡ true → (o : Outcome) → FoundAs p (r .router .cycle) block o → KindAs block (o .read)
+        → (p : Place) (r : Ran) → p .configured ≡ true → (o : Outcome) → FoundAs p (r .router .cycle) block o
         → Joins c r (take (acceptedBy (o .read) o block (r .router) later) (partsIn block ++ more)) (blockThen (o .read) o block (r .router) rest)
     unfolding partsIn
-    block-joins rest later more same p r y _ (refuses n k) kind = stops r _
-    block-joins rest later more same p r y _ (configures a b) kind = absurd (true≢false (sym y ∙ a))
-    block-joins rest later more same p r y _ (holds a l h) kind =
+    block-joins rest later more same p r y _ (refuses n k) = stops r _
+    block-joins rest later more same p r y _ (configures a b kind) = absurd (true≢false (sym y ∙ a))
+    block-joins rest later more same p r y _ (holds a l h kind) =
         let q = nextPlace p block in
         subst (λ (b : Bool). Joins c r (take (acceptedIn (later q) block 0 (heldOf block) (r .router)) (cond b (partsFrom block 0 (heldOf block)) [] ++ more))
         (cyclesThen (rest q) block 0 (heldOf block) (r .router))) (sym kind)
         (cycles-join (rest q) (later q) more (λ t. same q t refl) (heldOf block) 0 r)
-    block-joins rest later more same p r y _ (ends a) kind =
+    block-joins rest later more same p r y _ (ends a kind) =
         let q = nextPlace p block in
         subst (λ (b : Bool). Joins c r (take (later q (r .router)) (cond b (partsFrom block 0 (heldOf block)) [] ++ more)) (rest q (r .router))) (sym kind)
         (same q r refl)
-    block-joins rest later more same p r y _ (is-over a) kind = stops r _
+    block-joins rest later more same p r y _ (is-over a) = stops r _
 
   file-joins : (blocks : List (List ℕ)) (p : Place) (r : Ran) → p .configured ≡ true
       → Joins c r (take (acceptedFrom blocks p (r .router)) (partsOf blocks)) (fileFrom blocks p (r .router))
@@ -151,34 +106,34 @@ module _ (c : Config) where
   file-joins [] p r y = stops r _
   file-joins (block ∷ blocks) p r y =
       block-joins block (fileFrom blocks) (acceptedFrom blocks) (partsOf blocks) (file-joins blocks) p r y (judged p (r .router .cycle) block)
-      (found-as p (r .router .cycle) block) (judged-kind p (r .router .cycle) block .kind)
+      (found-as p (r .router .cycle) block)
 
 -- a fresh router before its first cycle
 abbrev fresh : Config → Ran
 fresh c = record { router = freshRouter c; history = [] }
 
 -- the first block of a file, and then the rest
-first-joins : (block : List ℕ) (blocks : List (List ℕ)) (o : Outcome) → FoundAs start 0 block o → KindAs block (o .read)
+first-joins : (block : List ℕ) (blocks : List (List ℕ)) (o : Outcome) → FoundAs start 0 block o
     → Joins (configOf block) (fresh (configOf block)) (take (acceptedBy (o .read) o block (freshRouter noConfig) (acceptedFrom blocks)) (partsIn block ++ partsOf blocks))
     (blockThen (o .read) o block (freshRouter noConfig) (fileFrom blocks))
 unfolding partsIn freshRouter linesFrom runFrom
-first-joins block blocks _ (refuses n k) kind = record { lines = refl; cycles = refl }
-first-joins block blocks _ (configures a b) kind =
+first-joins block blocks _ (refuses n k) = record { lines = refl; cycles = refl }
+first-joins block blocks _ (configures a b kind) =
     let q = nextPlace start block in
     let r = fresh (configOf block) in
     subst (λ (b : Bool).
     Joins (configOf block) r (take (acceptedFrom blocks q (r .router)) (cond b (partsFrom block 0 (heldOf block)) [] ++ partsOf blocks))
     (fileFrom blocks q (r .router))) (sym kind) (file-joins (configOf block) blocks q r refl)
-first-joins block blocks _ (holds a l h) kind = absurd (true≢false (sym a))
-first-joins block blocks _ (ends a) kind = absurd (true≢false (sym a))
-first-joins block blocks _ (is-over a) kind = absurd (true≢false (sym a))
+first-joins block blocks _ (holds a l h kind) = absurd (true≢false (sym a))
+first-joins block blocks _ (ends a kind) = absurd (true≢false (sym a))
+first-joins block blocks _ (is-over a) = absurd (true≢false (sym a))
 
 list-joins : (bytes : List ℕ) → Joins (configurationOf bytes) (fresh (configurationOf bytes)) (acceptedParts bytes) (printedOf bytes)
 unfolding printedOf acceptedOf fileFrom acceptedFrom cutInto partsOf freshRouter linesFrom runFrom
 list-joins [] = record { lines = refl; cycles = refl }
 list-joins (b ∷ l) =
     let block = take 512 (b ∷ l) in
-    first-joins block (cutInto (length l) (drop 512 (b ∷ l))) (judged start 0 block) (found-as start 0 block) (judged-kind start 0 block .kind)
+    first-joins block (cutInto (length l) (drop 512 (b ∷ l))) (judged start 0 block) (found-as start 0 block)
 
 -- the parts of a file are bytes
 all-taken : (n : ℕ) (parts : List (List ℕ)) → All AreBytes parts → All AreBytes (take n parts)

@@ -220,15 +220,15 @@ module _ (block : List ℕ) (bytes : AreBytes block) (w : Writing) (o : w .night
   found-led : (r : Outcome) → judged p c block ≡ r → FoundAs p c block r → Led (byOutcome (r .read) r block w .night)
   unfolding endedBy wrote freshRouter
   found-led _ e (refuses m k) = finished-led
-  found-led _ e (configures a b) =
+  found-led _ e (configures a b _) =
       let z = none-yet a in
       let limit : c + 0 ≤ cycleLimit = let y = z .0 in omega (arith, y) in
       let same : c + 0 ≡ 0 = let y = z .0 in omega (arith, y) in
       stands-led q 0 (withRouter (freshRouter (configOf block)) (withPlace q n))
       (record { place = refl; sound = fresh-is-sound (configOf block) (legal-exact (configOf block) .0 b); few = let y = z .1 in omega (arith, y); cycle = refl }) refl
       (good-right q 0 (n .over) (ap (goodPlace q) (sym same) ∙ leads (accepted (aConfiguration (configOf block)) q) e refl limit))
-  found-led _ e (holds a l h) = held-led (heldOf block) a e h
-  found-led _ e (ends a) =
+  found-led _ e (holds a l h _) = held-led (heldOf block) a e h
+  found-led _ e (ends a _) =
       let s = led-stands n led a in
       let limit : c + 0 ≤ cycleLimit = let y = sound-cycle (s .sound) in omega (arith, y) in
       stands-led q (c + 0) (withPlace q n)

@@ -7,10 +7,9 @@ use Prim.Native.Nat.{ℕ, zero, suc, _+_, _*_, _≤_, _<_}
 use native.Mathlib.Numerals.{add-one}
 use native.Mathlib.Omega.{arith}
 use lib.ListN.{length}
-use borrow.Author.Tests.{le-leb, lt-ltb}
 use Rattle.trace.specs.Blocks.{heldOf}
 use Rattle.trace.specs.Cycles.{Slice, part, shows, cyclePart}
-use Rattle.trace.proofs.Parts.{shown-64}
+use Rattle.trace.proofs.Parts.{shown-64, few-shown}
 use Rattle.reader.specs.Reader.{nextCycle, walked}
 
 -- where a cycle is shown, the reader moves on by one
@@ -44,21 +43,16 @@ some-byte-shown s r k q some = go (shows (s .bytes) k) refl
     go true e = e
     go false e = absurd (some (ap (λ (x : Slice). length (x .bytes)) q ∙ ap length (not-shown-empty s k e)))
 
--- a cycle that a block holds is shown, where the block is long enough and holds at most 7
-pub held-shown : (l : List ℕ) (k : ℕ) → 512 ≤ length l → heldOf l ≤ 7 → k < heldOf l → shows l k ≡ true
-unfolding shows
-held-shown l k long most h = rw (le-leb 512 (length l) long, le-leb (heldOf l) 7 most, lt-ltb k (heldOf l) h)
-
 -- after n moves, as many as there are cycles at most, the reader is at cycle n
 pub walk-shows : (l : List ℕ) (n : ℕ) → 512 ≤ length l → heldOf l ≤ 7 → n ≤ heldOf l → walked l n ≡ n
 unfolding walked
 walk-shows l zero long most h = refl
-walk-shows l (suc n) long most h = ap (nextCycle l) (walk-shows l n long most (omega arith)) ∙ shown-moves l n (held-shown l n long most (omega arith)) ∙ add-one n
+walk-shows l (suc n) long most h = ap (nextCycle l) (walk-shows l n long most (omega arith)) ∙ shown-moves l n (few-shown l n long most (omega arith)) ∙ add-one n
 
 -- so it shows each cycle held, in turn: the 64 bytes of cycle n, where they lie
 pub walk-shows-cycle : (s : Slice) (n : ℕ) → 512 ≤ length (s .bytes) → heldOf (s .bytes) ≤ 7 → n < heldOf (s .bytes) → cyclePart s (walked (s .bytes) n) ≡ part s (8 + 64 * n) 64
 unfolding cyclePart
-walk-shows-cycle s n long most h = ap (cyclePart s) (walk-shows (s .bytes) n long most (omega arith)) ∙ rw (held-shown (s .bytes) n long most h)
+walk-shows-cycle s n long most h = ap (cyclePart s) (walk-shows (s .bytes) n long most (omega arith)) ∙ rw (few-shown (s .bytes) n long most h)
 
 -- "it shows an empty part and stays": over any block, once no cycle is shown
 pub walk-stays : (s : Slice) (n : ℕ) → shows (s .bytes) (walked (s .bytes) n) ≡ false

@@ -123,9 +123,9 @@ module _ (block : List ℕ) (bytes : AreBytes block) (w : Writing) (configured :
   of-found : (o : Outcome) → FoundAs p (w .night .router .cycle) block o → Kept (byOutcome (o .read) o block w)
   unfolding endedBy wrote
   of-found _ (refuses n k) = (ended-goes-on (refusal n (w .night .router .cycle) k) w (refusal-fits n (w .night .router .cycle) k) g, configured)
-  of-found _ (configures a b) = absurd (true≢false (sym configured ∙ a))
-  of-found _ (holds a l h) = (cycles-go-on block bytes (heldOf block) 0 (moved (nextPlace p block)) (moved-goes-on (nextPlace p block)), cycles-configured (heldOf block) 0 (moved (nextPlace p block)) refl)
-  of-found _ (ends a) = (moved-goes-on (nextPlace p block), refl)
+  of-found _ (configures a b _) = absurd (true≢false (sym configured ∙ a))
+  of-found _ (holds a l h _) = (cycles-go-on block bytes (heldOf block) 0 (moved (nextPlace p block)) (moved-goes-on (nextPlace p block)), cycles-configured (heldOf block) 0 (moved (nextPlace p block)) refl)
+  of-found _ (ends a _) = (moved-goes-on (nextPlace p block), refl)
   of-found _ (is-over a) = (ended-goes-on (finish (w .night .router .cycle) (w .night .flits)) (moved p) (finish-fits (w .night .router .cycle) (w .night .flits)) (moved-goes-on p), configured)
 
   pub block-goes-on : Kept (blockTaken block w)

@@ -108,7 +108,7 @@ begun-ongoing block w f z i = go (judged (w .night .place) (w .night .router .cy
   where
     go : (o : Outcome) → FoundAs (w .night .place) (w .night .router .cycle) block o → Ongoing (byOutcome (o .read) o block w)
     go _ (refuses n k) = λ e. absurd (true≢false e)
-    go _ (configures a b) = λ e. (record { sound = fresh-is-sound (configOf block) (legal-exact (configOf block) .0 b); few = let g = z in omega (arith, g); room = i }, refl)
-    go _ (holds a l h) = absurd (true≢false (sym a ∙ f))
-    go _ (ends a) = absurd (true≢false (sym a ∙ f))
+    go _ (configures a b _) = λ e. (record { sound = fresh-is-sound (configOf block) (legal-exact (configOf block) .0 b); few = let g = z in omega (arith, g); room = i }, refl)
+    go _ (holds a l h _) = absurd (true≢false (sym a ∙ f))
+    go _ (ends a _) = absurd (true≢false (sym a ∙ f))
     go _ (is-over a) = absurd (true≢false (sym a ∙ f))

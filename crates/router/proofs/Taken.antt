@@ -73,9 +73,9 @@ module _ (block : List ℕ) (w : Writing) where
 
   cycles-of : (n : ℕ) (o : Outcome) → FoundAs p c block o → some (someCycles n) ≡ o .read → Holds n
   cycles-of n _ (refuses m k) e = absurd (let x = ap kind e in omega (arith, x))
-  cycles-of n _ (configures a b) e = absurd (let x = ap kind e in omega (arith, x))
-  cycles-of n _ (holds a l h) e = record { whole = l; most = h; held = ap cyclesIn e }
-  cycles-of n _ (ends a) e = absurd (let x = ap kind e in omega (arith, x))
+  cycles-of n _ (configures a b _) e = absurd (let x = ap kind e in omega (arith, x))
+  cycles-of n _ (holds a l h _) e = record { whole = l; most = h; held = ap cyclesIn e }
+  cycles-of n _ (ends a _) e = absurd (let x = ap kind e in omega (arith, x))
   cycles-of n _ (is-over a) e = absurd (let x = ap kind e in omega (arith, x))
 
   pub cycles-held : (n : ℕ) (q : Place) → accepted (someCycles n) q ≡ judged p c block → Holds n
@@ -83,9 +83,9 @@ module _ (block : List ℕ) (w : Writing) where
 
   configuration-of : (k : Config) (o : Outcome) → FoundAs p c block o → some (aConfiguration k) ≡ o .read → (p .configured ≡ false) × (illegalField k ≡ none)
   configuration-of k _ (refuses m j) e = absurd (let x = ap kind e in omega (arith, x))
-  configuration-of k _ (configures a b) e = (a, ap illegalField (ap (sizes k) e) ∙ b)
-  configuration-of k _ (holds a l h) e = absurd (let x = ap kind e in omega (arith, x))
-  configuration-of k _ (ends a) e = absurd (let x = ap kind e in omega (arith, x))
+  configuration-of k _ (configures a b _) e = (a, ap illegalField (ap (sizes k) e) ∙ b)
+  configuration-of k _ (holds a l h _) e = absurd (let x = ap kind e in omega (arith, x))
+  configuration-of k _ (ends a _) e = absurd (let x = ap kind e in omega (arith, x))
   configuration-of k _ (is-over a) e = absurd (let x = ap kind e in omega (arith, x))
 
   -- a configuration block comes first, and its values are in range
@@ -100,9 +100,9 @@ module _ (block : List ℕ) (w : Writing) where
       nothing (someCycles n) x = omega (arith, x)
       nothing theEnd x = omega (arith, x)
       nothing noMore x = omega (arith, x)
-  others-of r n _ (configures a b) e = absurd (n (ap kind e))
-  others-of r n _ (holds a l h) e = a
-  others-of r n _ (ends a) e = a
+  others-of r n _ (configures a b _) e = absurd (n (ap kind e))
+  others-of r n _ (holds a l h _) e = a
+  others-of r n _ (ends a _) e = a
   others-of r n _ (is-over a) e = a
 
   -- any other block that is taken comes after it

@@ -2,7 +2,7 @@
 -- Assumes nothing.
 use mathlib.Core.Path.{_≡_, refl, sym, ap, subst, _∙_}
 use mathlib.Core.Logic.{_↔_}
-use mathlib.Core.Bool.{Bool, true, false, _||_, true≢false}
+use mathlib.Core.Bool.{Bool, true, false, _||_, or-true, true≢false}
 use mathlib.Core.List.{List, [], _∷_}
 use mathlib.Core.Option.{Option, some, none}
 use Prim.Native.Nat.{ℕ, _≤_, _<_}
@@ -14,11 +14,9 @@ use Rattle.base.specs.Search.{firstFrom}
 use Rattle.base.specs.Reply.{emptyReply}
 use Rattle.base.proofs.Search as search
 use Rattle.state.specs.declared.Router.{Router}
-use Rattle.state.specs.Sound.{sound}
 use Rattle.rules.specs.declared.Refusal.{Refusal}
 use Rattle.rules.specs.declared.Verdict.{Verdict}
 use Rattle.rules.specs.declared.Verdict.the-variants.{Accepted, Refused}
-use Rattle.rules.specs.declared.Stepped.{Stepped}
 use Rattle.rules.specs.Numbers.{Rule, rule2, rule10, rule3, rule6, rule4, rule5, rulesOf, refusing, refusedAt, firstOf, judged, numberOf, portOf, runFull}
 use Rattle.rules.specs.Intake.{sendersPaid}
 use Rattle.rules.specs.Step.{stepBy, stepOf}
@@ -95,10 +93,6 @@ numbered n (r ∷ rs) = eqb n (r .number) || numbered n rs
 first-numbered : (rs : List Rule) (n p : ℕ) → First rs n p → numbered n rs ≡ true
 first-numbered (r ∷ rs) _ p (this f) = rw (eq-eqb (r .number) (r .number) refl)
 first-numbered (r ∷ rs) n p (later f g) = rw (first-numbered rs n p g) (or-true (eqb n (r .number)))
-  where
-    or-true : (b : Bool) → (b || true) ≡ true
-    or-true true = refl
-    or-true false = refl
 
 module _ (s : Router) (part : List ℕ) where
   judged-why : Why (rulesOf s part) (judged s part)

@@ -22,9 +22,9 @@ use Rattle.trace.proofs.Ways.{form-right}
 module _ (p : Place) (c : ℕ) (l : List ℕ) where
   pub data FoundAs : Outcome → Type 0 where
     refuses : (n k : ℕ) → FoundAs (refused n k p)
-    configures : p .configured ≡ false → illegalField (configOf l) ≡ none → FoundAs (accepted (aConfiguration (configOf l)) (nextPlace p l))
-    holds : p .configured ≡ true → 512 ≤ length l → heldOf l ≤ 7 → FoundAs (accepted (someCycles (heldOf l)) (nextPlace p l))
-    ends : p .configured ≡ true → FoundAs (accepted theEnd (nextPlace p l))
+    configures : p .configured ≡ false → illegalField (configOf l) ≡ none → eqb (kindOf l) 2 ≡ false → FoundAs (accepted (aConfiguration (configOf l)) (nextPlace p l))
+    holds : p .configured ≡ true → 512 ≤ length l → heldOf l ≤ 7 → eqb (kindOf l) 2 ≡ true → FoundAs (accepted (someCycles (heldOf l)) (nextPlace p l))
+    ends : p .configured ≡ true → eqb (kindOf l) 2 ≡ false → FoundAs (accepted theEnd (nextPlace p l))
     is-over : p .configured ≡ true → FoundAs (accepted noMore p)
 
   module _ (e : p .ended ≡ false) (whole : blockShort p l ≡ false) (f : Formed p c l) (legal : fieldWrong p l ≡ none) where
@@ -38,12 +38,12 @@ module _ (p : Place) (c : ℕ) (l : List ℕ) where
     read-as = first (eqb (kindOf l) 1) refl
       where
         second : (kindOf l ≡ 1 → ⊥) → (b : Bool) → eqb (kindOf l) 2 ≡ b → FoundAs (accepted (cond b (someCycles (heldOf l)) theEnd) (nextPlace p l))
-        second n true q = holds (f .follows n) (whole-long p l e whole) (f .held-to (eqb-true (kindOf l) 2 q))
-        second n false q = ends (f .follows n)
+        second n true q = holds (f .follows n) (whole-long p l e whole) (f .held-to (eqb-true (kindOf l) 2 q)) q
+        second n false q = ends (f .follows n) q
 
         first : (b : Bool) → eqb (kindOf l) 1 ≡ b
             → FoundAs (accepted (cond b (aConfiguration (configOf l)) (cond (eqb (kindOf l) 2) (someCycles (heldOf l)) theEnd)) (nextPlace p l))
-        first true q = configures (f .opens (eqb-true (kindOf l) 1 q)) (configuration-legal q)
+        first true q = configures (f .opens (eqb-true (kindOf l) 1 q)) (configuration-legal q) (ap (λ (k : ℕ). eqb k 2) (eqb-true (kindOf l) 1 q))
         first false q = second (eqb-false (kindOf l) 1 q) (eqb (kindOf l) 2) refl
 
   -- the end block comes after the configuration block

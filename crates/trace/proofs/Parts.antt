@@ -45,7 +45,11 @@ pub after-last-empty : (s : Slice) (k : ℕ) → heldOf (s .bytes) ≤ k → cyc
 unfolding cyclePart
 after-last-empty s k h = rw (not-shown (s .bytes) k h)
 
--- the cycles that an accepted block holds are shown
-pub held-shown : (p : Place) (c k : ℕ) (l : List ℕ) → 512 ≤ length l → Formed p c l → kindOf l ≡ 2 → k < heldOf l → shows l k ≡ true
+-- a cycle that a block holds is shown, where the block is long enough and holds at most 7
+pub few-shown : (l : List ℕ) (k : ℕ) → 512 ≤ length l → heldOf l ≤ 7 → k < heldOf l → shows l k ≡ true
 unfolding shows
-held-shown p c k l long f e h = rw (le-leb 512 (length l) long, le-leb (heldOf l) 7 (f .held-to e), lt-ltb k (heldOf l) h)
+few-shown l k long most h = rw (le-leb 512 (length l) long, le-leb (heldOf l) 7 most, lt-ltb k (heldOf l) h)
+
+-- so the cycles that an accepted block holds are shown
+pub held-shown : (p : Place) (c k : ℕ) (l : List ℕ) → 512 ≤ length l → Formed p c l → kindOf l ≡ 2 → k < heldOf l → shows l k ≡ true
+held-shown p c k l long f e h = few-shown l k long (f .held-to e) h

@@ -9,9 +9,10 @@ use lib.ListN.{length, drop, length-drop}
 use lib.Seq.{drop-drop}
 use borrow.Author.Needs.{needs}
 use borrow.Author.Tests.{not-false}
+use Rattle.base.proofs.Lists.{rest-of}
 use Rattle.router.specs.Running.{Outcome, ranOf}
 use Rattle.floor.specs.Handing.{passed}
-use Rattle.floor.proofs.Calls.{rest-of, used-last, over-last, not-last, last-call, other-call}
+use Rattle.floor.proofs.Calls.{used-last, over-last, not-last, last-call, other-call}
 use Rattle.floor.proofs.passing.pass.Statement.{statement}
 use Rattle.floor.proofs.passing.pass.Tie as tie
 
