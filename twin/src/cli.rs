@@ -42,6 +42,18 @@ impl Words {
             .ok_or_else(|| BadUsage(format!("{} wants {name}", self.command)))
     }
 
+    /// Takes the next word as a name; '-' is one, a longer word that begins so is an option.
+    pub fn operand(&mut self, name: &str) -> Result<String, BadUsage> {
+        let command = &self.command;
+        match self.left.pop_front() {
+            None => Err(BadUsage(format!("{command} wants {name}"))),
+            Some(word) if word.len() > 1 && word.starts_with('-') => {
+                Err(BadUsage(format!("{command} doesn't know '{word}'")))
+            }
+            Some(word) => Ok(word),
+        }
+    }
+
     pub fn needed_number(&mut self, name: &str) -> Result<u64, BadUsage> {
         let text = self.needed(name)?;
         whole(name, &text)

@@ -2,6 +2,7 @@
 
 pub mod cli;
 pub mod compare;
+pub mod diff;
 pub mod fast;
 pub mod generate;
 pub mod launch;

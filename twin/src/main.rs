@@ -9,6 +9,7 @@ use std::process::ExitCode;
 use std::time::Duration;
 use twin::cli::{BadUsage, Words};
 use twin::compare::compare_lists;
+use twin::diff::{self, List, Outcome};
 use twin::generate::{self, fault::Fault};
 use twin::sizes::Config;
 use twin::launch::{self, Start};
@@ -32,6 +33,9 @@ twin: the second model of the router
                                  run PATH on the traces of seeds A to B-1 and compare its lists with
                                  the plain model's. On a difference: seed and line, exit status 1,
                                  and the trace kept in FOLDER (this one). Timeout: 10 s a trace
+  twin diff A B                  compare two lists, '-' for standard input; show the first cycle
+                                 that differs: '-' before what only A has, '+' what only B has.
+                                 Exit status 0: alike; 1: different; 2: a file that is no list
   twin bench --program PATH [--cycles N] [--rounds N]
                                  time PATH beside 'twin run', trace to list, best of 9 rounds;
                                  a machine that is busy otherwise wants more of them
@@ -128,6 +132,11 @@ fn act(command: &str, mut words: Words) -> Result<ExitCode, Trouble> {
             words.done()?;
             return compare(&program, seeds, timeout, Path::new(&keep));
         }
+        "diff" => {
+            let (a, b) = (words.operand("A")?, words.operand("B")?);
+            words.done()?;
+            return diff(&a, &b);
+        }
         "bench" => {
             let program = words.needed("--program")?;
             let cycles = words.number("--cycles", 300_000)? as usize;
@@ -213,6 +222,31 @@ fn compare(
             Ok(ExitCode::from(1))
         }
     }
+}
+
+fn diff(a: &str, b: &str) -> Result<ExitCode, Trouble> {
+    if (a, b) == ("-", "-") {
+        return Err(BadUsage("diff: only one of the two can be '-'".into()).into());
+    }
+    let compared = List::open(a).and_then(|a| diff::compare(a, List::open(b)?));
+    let told = compared.map_err(|no_list| no_list.to_string());
+    let told = told.and_then(|outcome| match print(&outcome.to_string()) {
+        // whoever reads our output has had enough; the status still tells
+        Err(fault) if fault.kind() != io::ErrorKind::BrokenPipe => Err(fault.to_string()),
+        _ => Ok(outcome),
+    });
+    Ok(match told {
+        Ok(Outcome::Alike(_)) => ExitCode::SUCCESS,
+        Ok(Outcome::Different(_)) => ExitCode::from(1),
+        Err(what) => {
+            eprintln!("twin: {what}");
+            ExitCode::from(2)
+        }
+    })
+}
+
+fn print(text: &str) -> io::Result<()> {
+    unbuffered_output()?.write_all(text.as_bytes())
 }
 
 /// Standard input and output as files: both models read and write in large pieces themselves.
