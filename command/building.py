@@ -85,7 +85,8 @@ def made(here, quiet):
 def put_together(here, program, folder):
     """The program, the libraries that it runs with and, on a processor that is not x86-64, the emulator."""
     libraries, emulator = os.path.join(here.tools, 'lib'), os.path.join(here.tools, 'bin', EMULATOR)
-    copies = {PROGRAM: program, **{os.path.join(LIBRARIES, name): os.path.join(libraries, name) for name in os.listdir(libraries) if '.so' in name}}
+    copies = {os.path.join(LIBRARIES, name): os.path.join(libraries, name) for name in os.listdir(libraries) if '.so' in name}
+    copies[PROGRAM] = program
     if os.path.exists(emulator):
         copies[EMULATOR] = emulator
     os.makedirs(os.path.join(folder, LIBRARIES))

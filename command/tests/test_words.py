@@ -34,8 +34,10 @@ class Refusals(Floor):
     def test_4_names_the_vc_and_what_came(self):
         sizes = (3, 2, 2, 2, 1, 1, 1)
         body, head = cycle({1: row(2, 1, 0)}), cycle({1: row(1, 1, 0)})
-        self.refused(trace([body], sizes), 'R 4 0 1', 'B on VC 1, where no packet is open: block 1, its cycle 0, row 02 01 00 00 00000000')
-        self.refused(trace([head, head], sizes), 'R 4 1 1', 'H on VC 1, where a packet is open: block 1, its cycle 1, row 01 01 00 00 00000000')
+        self.refused(trace([body], sizes), 'R 4 0 1',
+                     'B on VC 1, where no packet is open: block 1, its cycle 0, row 02 01 00 00 00000000')
+        self.refused(trace([head, head], sizes), 'R 4 1 1',
+                     'H on VC 1, where a packet is open: block 1, its cycle 1, row 01 01 00 00 00000000')
 
     def test_5_names_the_vc(self):
         sizes = (2, 3, 1, 2, 1, 1, 1)
@@ -49,12 +51,14 @@ class Refusals(Floor):
     def test_7_names_the_block_and_both_checks(self):
         whole = trace([])
         self.refused(changed(whole, 510, 1, seal=False), 'R 7 0 0', 'block 0: its check says 382, its bytes give 126')
-        self.refused(changed(idle(20), 2 * 512 + 511, 9, seal=False), 'R 7 7 0', 'block 2: its check says 9, its bytes give 28')  # 1·2 + 2·7 + 6·2
+        # 1·2 for the kind, 2·7 for the count, 6·2 for the number
+        self.refused(changed(idle(20), 2 * 512 + 511, 9, seal=False), 'R 7 7 0', 'block 2: its check says 9, its bytes give 28')
 
     def test_8_names_the_block_and_what_is_wrong(self):
         one = trace([cycle({})] * 2)
         for data, line, words in (
-            (changed(one, 0, 2), 'R 8 0 0', 'block 0: count: byte 1 is 0, not 1 to 7; place: it is a block of cycles, and the first is the configuration'),
+            (changed(one, 0, 2), 'R 8 0 0', 'block 0: count: byte 1 is 0, not 1 to 7; '
+             'place: it is a block of cycles, and the first is the configuration'),
             (changed(one, 512, 9), 'R 8 0 0', 'block 1: kind: byte 0 is 9, not 1, 2 or 3'),
             (changed(one, 512, 1), 'R 8 0 0', 'block 1: count: byte 1 is 2, and only a block of cycles has one; '
              'place: it is a configuration block, and only the first is'),
