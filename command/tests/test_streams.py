@@ -1,7 +1,6 @@
 """Streams: standard input and output by any name, pipes, what breaks, what does not block, what is closed."""
 import os
 import signal
-import subprocess
 
 from command.tests.support import LISTING_TRACE, PIPE, Floor
 from command.tests.traces import LISTING, busy, idle

@@ -1,18 +1,14 @@
 """Small traces, byte by byte as document 01 has them, and their lists, written down by hand."""
+import os
+
 from command.blocks import BLOCK, CHECK
+from command.tree import ROOT
 
 # the listing's router: three ports, one VC, depth two
 SIZES = (3, 1, 2, 2, 1, 1, 1)
-LISTING = """\
-F 1 1 0 0 0 S 00000011
-C 2 0 0
-F 2 1 0 2 0 S 00000031
-C 3 2 0
-F 4 1 0 0 0 H 00000021
-C 5 0 0
-F 5 1 0 0 0 T 00000022
-E 6 4
-"""
+# document 01's printed lines, as the gate holds the program to them
+with open(os.path.join(ROOT, 'crates', 'night_list', 'stdout'), encoding='utf-8') as printed:
+    LISTING = printed.read()
 
 
 def sealed(data):
