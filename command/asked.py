@@ -3,7 +3,8 @@ from command.trouble import USAGE, Trouble, shown
 
 USAGE_LINES = """\
 usage: night-list [--quiet | --progress] [--as-built] TRACE LIST
-       night-list --build | --version | --help
+       night-list --build [--take-over] [--quiet]
+       night-list --version | --help
 """
 
 HELP = USAGE_LINES + """
@@ -13,6 +14,7 @@ LIST appears whole or not at all: it is written to LIST.part, which takes its na
 regular file (a pipe, a device, '-') is written as it comes, and the status says whether it is whole. TRACE is never written.
 
   --build      prove and build the program of this tree, if that is not done; the first use does it too, in some minutes
+  --take-over  with --build: what target/ of this tree has proved is not proved again, as rt would have it
   --as-built   run what was built, though the tree has changed since
   --progress   tell how far it is, also where standard error is no terminal
   --quiet      tell nothing but what went wrong
@@ -28,8 +30,14 @@ status 0  the list ends in E: whole
 A signal (SIGINT, SIGTERM, SIGHUP) ends the program and the command by that signal; the list is then incomplete.
 """
 
-ALONE = {'--build', '--version', '--help'}
-OPTIONS = ALONE | {'--as-built', '--progress', '--quiet'}
+# each use: the options that it may have, and how many names
+USES = {
+    '--build': ({'--build', '--take-over', '--quiet'}, 0),
+    '--version': ({'--version'}, 0),
+    '--help': ({'--help'}, 0),
+    None: ({'--quiet', '--progress', '--as-built'}, 2),
+}
+OPTIONS = set().union(*(options for options, _ in USES.values()))
 
 
 class Asked:
@@ -40,13 +48,18 @@ class Asked:
         # one dash makes no option: a list may be named -f
         self.options = {word for word in words[:end] if word.startswith('--')}
         self.names = [word for word in words[:end] if not word.startswith('--')] + words[end + 1:]
-        for word in sorted(self.options - OPTIONS):
-            raise Trouble(USAGE, f'there is no option {shown(word)}\n{USAGE_LINES}')
-        alone = self.options & ALONE
-        if len(self.names) != (0 if alone else 2) or '' in self.names:
-            raise Trouble(USAGE, f'TRACE and LIST are wanted\n{USAGE_LINES}')
-        if len(alone) > 1 or {'--quiet', '--progress'} <= self.options:
-            raise Trouble(USAGE, f'these options do not go together\n{USAGE_LINES}')
+        use = next((use for use in USES if use in self.options), None)
+        options, names = USES[use]
+        unknown = sorted(self.options - OPTIONS)
+        if unknown:
+            self.refuse(f'there is no option {shown(unknown[0])}')
+        if not self.options <= options or {'--quiet', '--progress'} <= self.options:
+            self.refuse('these options do not go together')
+        if len(self.names) != names or '' in self.names:
+            self.refuse(f'{use} takes no names' if use else 'TRACE and LIST are wanted')
+
+    def refuse(self, words):
+        raise Trouble(USAGE, f'{words}\n{USAGE_LINES}')
 
     def __contains__(self, option):
         return option in self.options

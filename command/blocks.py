@@ -47,10 +47,8 @@ def row_of(trace, cycles, port):
     return (number, place, block[at:at + ROW]) if at + ROW <= CHECK else None
 
 
-def faults(block, number, first, ended, accepted):
-    """What number 8 finds in a block at its place in the file, each in words."""
-    if ended:
-        return ['place: it comes after the end block']
+def faults(block, number, accepted):
+    """What number 8 finds in a block before the end of the file, each in words."""
     kind, count = block[0], block[1]
     if kind not in KINDS:
         return [f'kind: byte 0 is {kind}, not 1, 2 or 3']
@@ -67,8 +65,8 @@ def faults(block, number, first, ended, accepted):
         if block[at]:
             found.append(f'unused byte: byte {at} is {block[at]}')
             break
-    if first != (kind == CONFIGURATION):
-        found.append(f'place: it is {KINDS[kind]}, ' + ('and the first is the configuration' if first else 'and only the first is'))
+    if (number == 0) != (kind == CONFIGURATION):
+        found.append(f'place: it is {KINDS[kind]}, ' + ('and only the first is' if number else 'and the first is the configuration'))
     if kind == END and number_at(block, 8, 4) != accepted:
         found.append(f'end total: bytes 8 to 11 say {number_at(block, 8, 4)}, accepted were {accepted}')
     return found

@@ -2,41 +2,42 @@
 import fcntl
 import os
 import shutil
+import subprocess
 import tempfile
 import time
 
-from command.built import CURRENT, EMULATOR, FOLDER, LIBRARIES, PROGRAM, RECORD, Build, current
+from command.built import CURRENT, EMULATOR, FOLDER, LIBRARIES, PROGRAM, RECORD, Build, current, started
 from command.proving import prove
-from command.tree import ROOT, commit, content, digest, files, kit
+from command.tree import ROOT, commit, content, data_of, digest, files, kit, sources
 from command.trouble import NOT_BUILT, OUT_OF_DATE, Trouble, say
 
 
 def wanted(as_built, quiet):
-    """The program to run: built now if none is there, and refused if it is not this tree's."""
-    build_ = current()
-    if build_ is None:
+    """The build to run: made now if none is there, and refused if it is not this tree's."""
+    there = current()
+    if there is None:
         return build(quiet)
     if as_built:
-        return build_
+        return there
     here = kit()
     try:
-        tree = content(ROOT, here.id if here else build_.kit)
+        tree = content(ROOT, here.id if here else there.kit)
     except OSError as fault:
         raise Trouble(OUT_OF_DATE, f'whether this tree is what was built cannot be told: {fault.filename}: {fault.strerror}') from None
-    if tree != build_.content:
-        now, then = commit(ROOT), build_.commit
-        if here and here.id != build_.kit:
-            now, then = f'{now}, {here.id}', f'{then}, {build_.kit}'
+    if tree != there.content:
+        now, then = commit(ROOT), there.commit
+        if here and here.id != there.kit:
+            now, then = f'{now}, {here.id}', f'{then}, {there.kit}'
         raise Trouble(OUT_OF_DATE, f'this tree ({now}) is not what was built ({then}); '
                       "'night-list --build' builds it, '--as-built' runs what was built")
-    return build_
+    return there
 
 
-def build(quiet=False):
+def build(quiet=False, take_over=False):
     """Proves and builds this tree's program, unless that was done; two at once do it once."""
     here = kit()
     if here is None:
-        raise Trouble(NOT_BUILT, 'the program is not built, and rt, the Rattle kit, is neither on the PATH nor at RATTLE_HOME')
+        raise Trouble(NOT_BUILT, 'the program is not built, and there is no Rattle kit (rt) at RATTLE_HOME or, without that, on the PATH')
     try:
         done = up_to_date(here)
         if done:
@@ -44,15 +45,16 @@ def build(quiet=False):
         os.makedirs(FOLDER, exist_ok=True)
         with open(os.path.join(FOLDER, 'lock'), 'a', encoding='utf-8') as lock:
             wait_for(lock, quiet)
-            return up_to_date(here) or made(here, quiet)
+            return up_to_date(here) or made(here, quiet, take_over)
     except OSError as fault:
-        raise Trouble(NOT_BUILT, f'the program was not built: {fault.filename or FOLDER}: {fault.strerror or fault}') from None
+        where = fault.filename2 or fault.filename or FOLDER
+        raise Trouble(NOT_BUILT, f'the program was not built: {where}: {fault.strerror or fault}') from None
 
 
 def up_to_date(here):
     """The build that there is, if it is this tree's."""
-    build_ = current()
-    return build_ if build_ and build_.content == content(ROOT, here.id) else None
+    there = current()
+    return there if there and there.content == content(ROOT, here.id) else None
 
 
 def wait_for(lock, quiet):
@@ -64,22 +66,31 @@ def wait_for(lock, quiet):
         fcntl.flock(lock, fcntl.LOCK_EX)
 
 
-def made(here, quiet):
+def made(here, quiet, take_over):
     """A build of a copy of the tree: what is hashed is what is proved, whatever happens to the tree meanwhile."""
-    with tempfile.TemporaryDirectory(prefix='night-list.') as work:
-        stands_at = commit(ROOT)
-        shutil.copyfile(os.path.join(ROOT, 'crates.txt'), os.path.join(work, 'crates.txt'))
-        shutil.copytree(os.path.join(ROOT, 'crates'), os.path.join(work, 'crates'), symlinks=True)
-        record = {'content': content(work, here.id), 'commit': stands_at, 'kit': here.id, 'check': prove(here, work, quiet)}
-        new = os.path.join(FOLDER, 'new')
-        shutil.rmtree(new, ignore_errors=True)
-        put_together(here, os.path.join(work, 'target', 'bin', PROGRAM), new)
+    new = os.path.join(FOLDER, 'new')
+    try:
+        with tempfile.TemporaryDirectory(prefix='night-list.') as work:
+            record = {'commit': commit(ROOT), 'kit': here.id, 'content': copied(work, here)}
+            record['check'] = prove(here, work, quiet, take_over)
+            put_together(here, os.path.join(work, 'target', 'bin', PROGRAM), new)
+            try_once(new, os.path.join(work, 'crates', PROGRAM))
         record['files'] = digest(new, files(new), '')
         record['when'] = time.strftime('%Y-%m-%d %H:%M:%S UTC', time.gmtime())
-        with open(os.path.join(new, RECORD), 'w', encoding='utf-8') as said:
+        with open(os.path.join(new, RECORD), 'w', encoding='utf-8', errors='replace') as said:
             said.writelines(f'{word}: {value}\n' for word, value in record.items())
         open_to_all(new)
         return put_in_place(new, record['content'][:16])
+    finally:
+        shutil.rmtree(new, ignore_errors=True)
+
+
+def copied(work, here):
+    """Copies what the program is made from, and gives the copy's hash."""
+    for name in sources(ROOT):
+        os.makedirs(os.path.dirname(os.path.join(work, name)), exist_ok=True)
+        shutil.copy(os.path.join(ROOT, name), os.path.join(work, name), follow_symlinks=False)
+    return content(work, here.id)
 
 
 def put_together(here, program, folder):
@@ -89,15 +100,27 @@ def put_together(here, program, folder):
     copies[PROGRAM] = program
     if os.path.exists(emulator):
         copies[EMULATOR] = emulator
+    shutil.rmtree(folder, ignore_errors=True)
     os.makedirs(os.path.join(folder, LIBRARIES))
     for name, source in copies.items():
         shutil.copyfile(source, os.path.join(folder, name))
+        os.chmod(os.path.join(folder, name), 0o755)
+
+
+def try_once(folder, crate):
+    """What was put together starts here, and writes what its crate says that it writes."""
+    given, expected = (os.path.join(crate, name) for name in ('stdin', 'stdout'))
+    if os.path.exists(given):
+        ran = subprocess.run(started(folder), input=data_of(given), capture_output=True, env={}, check=False)
+        if (ran.returncode, ran.stdout, ran.stderr) != (0, data_of(expected), b''):
+            raise Trouble(NOT_BUILT, f'the program was built and does not run: status {ran.returncode}, {ran.stderr.decode(errors="replace")}')
 
 
 def open_to_all(folder):
     """The night's account can read and run what is built, whatever the builder's umask is."""
-    for path in (FOLDER, folder, os.path.join(folder, LIBRARIES), *(os.path.join(folder, name) for name in files(folder))):
+    for path in (FOLDER, folder, os.path.join(folder, LIBRARIES)):
         os.chmod(path, 0o755)
+    os.chmod(os.path.join(folder, RECORD), 0o644)
 
 
 def put_in_place(new, name):

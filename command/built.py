@@ -2,6 +2,7 @@
 import os
 
 from command.tree import ROOT, digest, files
+from command.trouble import NOT_BUILT, Trouble
 
 FOLDER = os.path.join(ROOT, 'built')
 CURRENT = os.path.join(FOLDER, 'current')
@@ -14,7 +15,7 @@ class Build:
 
     def __init__(self, folder):
         self.folder = folder
-        with open(os.path.join(folder, RECORD), encoding='utf-8') as lines:
+        with open(os.path.join(folder, RECORD), encoding='utf-8', errors='replace') as lines:
             said = dict(line.rstrip('\n').split(': ', 1) for line in lines)
         self.content, self.commit, self.kit, self.check = said['content'], said['commit'], said['kit'], said['check']
         self.files, self.when = said['files'], said['when']
@@ -24,11 +25,12 @@ class Build:
         there = [name for name in files(self.folder) if name != RECORD]
         return digest(self.folder, there, '') == self.files
 
-    def command(self):
-        """Programs are for x86-64 and run under the kit's loader; on another processor the kit has an emulator."""
-        loader, libraries, program, emulator = (os.path.join(self.folder, name) for name in (LOADER, LIBRARIES, PROGRAM, EMULATOR))
-        start = [loader, '--library-path', libraries, program]
-        return [emulator, *start] if os.path.exists(emulator) else start
+
+def started(folder):
+    """How the program of a folder is started: it is for x86-64 and runs under the kit's loader; elsewhere the kit has an emulator."""
+    loader, libraries, program, emulator = (os.path.join(folder, name) for name in (LOADER, LIBRARIES, PROGRAM, EMULATOR))
+    start = [loader, '--library-path', libraries, program]
+    return [emulator, *start] if os.path.exists(emulator) else start
 
 
 def current():
@@ -36,5 +38,7 @@ def current():
     try:
         build = Build(os.path.realpath(CURRENT))
         return build if build.whole() else None
-    except (OSError, KeyError, ValueError):
+    except (FileNotFoundError, NotADirectoryError, KeyError, ValueError):
         return None
+    except OSError as fault:
+        raise Trouble(NOT_BUILT, f'what is built cannot be read: {fault.filename or FOLDER}: {fault.strerror}') from None

@@ -2,9 +2,10 @@
 import errno
 import fcntl
 import os
+import re
 import stat
 
-from command.naming import same_file, status_of
+from command.naming import Descriptor, same_file
 from command.trouble import INCOMPLETE, USAGE, Trouble, ignore_signals, named_in_errors, shown, signals_held
 
 
@@ -14,14 +15,16 @@ class Stream:
     left = 'what was written is not a whole list'
 
     def __init__(self, named):
-        self.name, self.path, self.descriptor, self.written = named.name, named.path, named.descriptor, 0
+        self.named, self.name, self.written = named, named.name, 0
 
     def open(self, trace):
-        if self.descriptor is None:
-            self.descriptor = os.open(self.path, os.O_WRONLY | os.O_NOCTTY)
+        if isinstance(self.named, Descriptor):
+            self.descriptor = self.named.number
+        else:
+            self.descriptor = os.open(self.named.last, os.O_WRONLY | os.O_NOCTTY, dir_fd=self.named.folder)
         never_written(trace, os.fstat(self.descriptor))
 
-    def finish(self):
+    def finish(self, _trace):
         if stat.S_ISREG(os.fstat(self.descriptor).st_mode):
             os.fsync(self.descriptor)
 
@@ -29,30 +32,31 @@ class Stream:
 class Part:
     """A list on its way: LIST.part, locked, which takes LIST's name once it is whole."""
 
-    def __init__(self, named, before):
-        self.path, self.before, self.written, self.placed = named.path, before, 0, False
-        self.part, self.name = named.path + '.part', named.name + '.part'
-        writable(os.path.dirname(self.path), os.W_OK | os.X_OK)
-        if before:  # a rename asks nothing of the file that it replaces, so one that is protected is asked for here
-            writable(self.path, os.W_OK)
+    def __init__(self, file, before):
+        self.file, self.before, self.written, self.placed = file, before, 0, False
+        self.part, self.name = file.last + '.part', file.name + '.part'
+        replaceable(file, before)
 
     @property
     def left(self):
         if self.placed:
             return 'LIST has its place, but it is not sure to last'
-        kept = 'LIST is as it was' if self.before else 'there is no LIST'
-        return f'{kept}; what was written is in {shown(self.name)}'
+        kept = 'LIST is as it was' if self.before else 'LIST was not made'
+        return f'{kept}; what was written is in {shown(self.name)}' if self.is_ours() else kept
 
     def open(self, trace):
         """Creates or takes over LIST.part, and empties it only when it is ours alone."""
+        # appending: if somebody cuts it meanwhile, its length tells
+        how = os.O_RDWR | os.O_CREAT | os.O_APPEND | os.O_NOFOLLOW | os.O_NOCTTY
+        mode = stat.S_IMODE(self.before.st_mode) & 0o777 if self.before else 0o666
         while True:
             try:
-                self.descriptor = os.open(self.part, os.O_RDWR | os.O_CREAT | os.O_NOFOLLOW | os.O_NOCTTY, 0o666)
+                self.descriptor = os.open(self.part, how, mode, dir_fd=self.file.folder)
                 status = os.fstat(self.descriptor)
             except OSError as fault:
                 if fault.errno != errno.ELOOP:
                     raise
-                status = None
+                status = None  # a link
             if status is None or not stat.S_ISREG(status.st_mode) or status.st_nlink > 1:
                 raise Trouble(INCOMPLETE, f'{shown(self.name)} is no file of its own; remove it')
             never_written(trace, status)
@@ -65,32 +69,40 @@ class Part:
             os.close(self.descriptor)  # the other run has renamed it meanwhile
         os.ftruncate(self.descriptor, 0)
         if self.before:
-            self.keep_owner_and_mode()
+            keep_owner_and_mode(self.descriptor, self.before)
 
     def is_ours(self):
         """Whether the name still means the file that we hold."""
         try:
-            return os.path.samestat(os.lstat(self.part), os.fstat(self.descriptor))
+            return os.path.samestat(os.lstat(self.part, dir_fd=self.file.folder), os.fstat(self.descriptor))
         except FileNotFoundError:
             return False
 
-    def keep_owner_and_mode(self):
-        """Who could read or write yesterday's list can do so with today's."""
-        try:
-            os.fchown(self.descriptor, self.before.st_uid, self.before.st_gid)
-        except PermissionError:
-            pass
-        os.fchmod(self.descriptor, stat.S_IMODE(self.before.st_mode) & 0o777)
-
-    def finish(self):
+    def finish(self, trace):
         os.fsync(self.descriptor)
         if not self.is_ours() or os.fstat(self.descriptor).st_size != self.written:
             raise Trouble(INCOMPLETE, f'{shown(self.name)}: somebody else has changed it')
+        status = self.file.status()
+        if status:
+            never_written(trace, status)  # it may have been moved there meanwhile
         with signals_held():
-            os.rename(self.part, self.path)
+            os.rename(self.part, self.file.last, src_dir_fd=self.file.folder, dst_dir_fd=self.file.folder)
             self.placed = True
             ignore_signals()
-        sync_folder(os.path.dirname(self.path))
+        sync_folder(self.file.folder)
+
+
+def destination(named, trace):
+    """What LIST is. Nothing is written or emptied yet; what cannot be written is told now."""
+    with named_in_errors(named.name):
+        status = os.fstat(named.number) if isinstance(named, Descriptor) else named.status()
+        if status:
+            never_written(trace, status)
+        if isinstance(named, Descriptor) or status and not stat.S_ISREG(status.st_mode):
+            if stat.S_ISDIR(status.st_mode):
+                raise IsADirectoryError(errno.EISDIR, '')
+            return Stream(named)
+        return Part(named, status)
 
 
 def never_written(trace, status):
@@ -98,15 +110,49 @@ def never_written(trace, status):
         raise Trouble(USAGE, 'TRACE and LIST (or LIST.part) are the same file, and a trace is never written')
 
 
-def writable(path, rights):
-    """Asked for before anything is begun; the answer, where it is no, in the system's words."""
-    read_only = os.statvfs(path).f_flag & os.ST_RDONLY
-    if not os.access(path, rights):
+def replaceable(file, before):
+    """Asked for before anything is begun: a folder that can be written, and a list that may be replaced there."""
+    folder = os.fstat(file.folder)
+    writable(os.curdir, os.W_OK | os.X_OK, file.folder)
+    if before is None:
+        return
+    writable(file.last, os.W_OK, file.folder)  # a rename asks nothing of the file that it replaces
+    if folder.st_mode & stat.S_ISVTX and os.geteuid() not in (0, folder.st_uid, before.st_uid):
+        raise PermissionError(errno.EPERM, '')
+    if mount_of(os.open(file.last, os.O_PATH, dir_fd=file.folder)) != mount_of(file.folder):
+        raise OSError(errno.EBUSY, '')  # a file that is mounted there keeps its place
+
+
+def writable(name, rights, folder):
+    if not os.access(name, rights, dir_fd=folder):
+        read_only = os.statvfs(folder).f_flag & os.ST_RDONLY
         raise OSError(errno.EROFS if read_only else errno.EACCES, '')
 
 
+def mount_of(descriptor):
+    with open(f'/proc/self/fdinfo/{descriptor}', encoding='ascii') as lines:
+        return re.search(r'mnt_id:\s*(\d+)', lines.read())[1]
+
+
+def keep_owner_and_mode(descriptor, before):
+    """Who could read or write yesterday's list can do so with today's, as far as the system lets us."""
+    for owner, group in ((before.st_uid, before.st_gid), (-1, before.st_gid)):
+        try:
+            os.fchown(descriptor, owner, group)
+            break
+        except PermissionError:
+            continue
+    try:
+        os.fchmod(descriptor, stat.S_IMODE(before.st_mode) & 0o777)
+    except PermissionError:
+        pass
+
+
 def sync_folder(folder):
-    descriptor = os.open(folder, os.O_RDONLY | os.O_DIRECTORY)
+    try:
+        descriptor = os.open(os.curdir, os.O_RDONLY | os.O_DIRECTORY, dir_fd=folder)
+    except PermissionError:
+        return  # one that can be written and not read
     try:
         os.fsync(descriptor)
     except OSError as fault:
@@ -114,16 +160,3 @@ def sync_folder(folder):
             raise
     finally:
         os.close(descriptor)
-
-
-def destination(named, trace):
-    """What LIST is. Nothing is written or emptied yet; what cannot be written is told now."""
-    with named_in_errors(named.name):
-        status = status_of(named.path) if named.descriptor is None else os.fstat(named.descriptor)
-        if status:
-            never_written(trace, status)
-        if status and stat.S_ISDIR(status.st_mode):
-            raise IsADirectoryError(errno.EISDIR, '')
-        if named.descriptor is not None or status and not stat.S_ISREG(status.st_mode):
-            return Stream(named)
-        return Part(named, status)

@@ -3,31 +3,41 @@ from command import building, built
 from command.asked import HELP, Asked
 from command.night import night
 from command.tree import ROOT, commit
-from command.trouble import WHOLE, Ended, Trouble, catch_signals, end_by, hold_standard_descriptors, put, say
+from command.trouble import INCOMPLETE, WHOLE, Ended, Trouble, catch_signals, end_by, hold_standard_descriptors, put, say
 
 
 def main(words):
-    """Does what is asked and gives the status."""
+    """Does what is asked and gives the status; 0 and 1 only where a list is whole."""
     hold_standard_descriptors()
-    catch_signals()
     try:
-        asked = Asked(words)
-        if '--help' in asked:
-            put(1, HELP)
-        elif '--version' in asked:
-            put(1, version())
-        elif '--build' in asked:
-            build = building.build('--quiet' in asked)
-            if '--quiet' not in asked:
-                say(f'built from {build.commit}: {build.check}')
-        else:
-            return night(asked)
-        return WHOLE
+        catch_signals()
+        return told(words)
+    except Ended as ended:
+        return end_by(ended.number)
+
+
+def told(words):
+    try:
+        return done(Asked(words))
     except Trouble as trouble:
         say(str(trouble).rstrip('\n'))
         return trouble.status
-    except Ended as ended:
-        return end_by(ended.number)
+    except Exception as fault:  # whatever it is: Python's own status, 1, would say that a list ends in R
+        say(f'the command failed: {type(fault).__name__}: {fault}')
+        return INCOMPLETE
+
+
+def done(asked):
+    if '--help' in asked:
+        return WHOLE if put(1, HELP) else INCOMPLETE
+    if '--version' in asked:
+        return WHOLE if put(1, version()) else INCOMPLETE
+    if '--build' not in asked:
+        return night(asked)
+    build = building.build('--quiet' in asked, '--take-over' in asked)
+    if '--quiet' not in asked:
+        say(f'built from {build.commit}: {build.check}')
+    return WHOLE
 
 
 def version():

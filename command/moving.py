@@ -52,29 +52,28 @@ class Passage:
 
     def move(self, wait):
         """Waits until something can be moved, and moves it."""
-        steps = {end: self.take_said if end == self.saying else self.take_list for end in self.open_ends}
-        waits = {end: select.POLLIN for end in steps}
-        if self.feeding:
-            end, waits_for, step = (self.feed, select.POLLOUT, self.give_trace) if self.to_program else \
-                (self.trace.descriptor, select.POLLIN, self.take_trace)
-            steps[end], waits[end] = step, waits_for
+        steps = {self.saying: (select.POLLIN, self.take_said)} if self.saying in self.open_ends else {}
         if self.to_list:  # no more is taken before this is written
-            steps.pop(self.listed, None), waits.pop(self.listed, None)
-            steps[self.out.descriptor], waits[self.out.descriptor] = self.give_list, select.POLLOUT
+            steps[self.out.descriptor] = select.POLLOUT, self.give_list
+        elif self.listed in self.open_ends:
+            steps[self.listed] = select.POLLIN, self.take_list
+        if self.feeding and self.to_program:
+            steps[self.feed] = select.POLLOUT, self.give_trace
+        elif self.feeding:
+            steps[self.trace.descriptor] = select.POLLIN, self.take_trace
         polled = select.poll()
-        for end, waits_for in waits.items():
-            polled.register(end, waits_for)
+        for end, (event, _) in steps.items():
+            polled.register(end, event)
         for end, _ in polled.poll(wait):
-            try:
-                steps[end]()
-            except BlockingIOError:
-                pass  # it is asked for again
+            steps[end][1]()
 
     def take_trace(self):
-        with named_in_errors(self.trace.name):
-            self.to_program = os.read(self.trace.descriptor, PIECE)
-        self.trace.passed(self.to_program)
-        if not self.to_program:
+        data = now(self.trace.name, os.read, self.trace.descriptor, PIECE)
+        if data is None:
+            return
+        self.trace.passed(data)
+        self.to_program = data
+        if not data:
             self.feeding = False
             self.program.stdin.close()
 
@@ -91,8 +90,7 @@ class Passage:
             self.open_ends.remove(self.listed)
 
     def give_list(self):
-        with named_in_errors(self.out.name):
-            count = os.write(self.out.descriptor, self.to_list)
+        count = now(self.out.name, os.write, self.out.descriptor, self.to_list) or 0
         self.to_list, self.out.written = self.to_list[count:], self.out.written + count
 
     def take_said(self):
@@ -100,3 +98,12 @@ class Passage:
         self.said += said
         if not said:
             self.open_ends.remove(self.saying)
+
+
+def now(name, call, *words):
+    """What a read or a write gives, or nothing where a stream that does not block is not ready after all."""
+    with named_in_errors(name):
+        try:
+            return call(*words)
+        except BlockingIOError:
+            return None

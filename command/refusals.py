@@ -24,12 +24,15 @@ def refusal(trace, number, cycles, place):
         words += f', field {place}'
     elif 3 <= number <= 6:
         words += f', port {place}'
-    more = details(trace, number, cycles, place) if trace.still_there() else None
+    more = details(trace, number, cycles, place)
     return words + (f'; {more}' if more else '')
 
 
 def details(trace, number, cycles, place):
+    """What the trace has there, where it can still be asked."""
     try:
+        if not trace.still_there():
+            return None
         if number == 1:
             return field(trace, place)
         if 3 <= number <= 6:
@@ -38,7 +41,7 @@ def details(trace, number, cycles, place):
             return block(trace, number, cycles)
         if number == 9:
             return end(trace)
-    except OSError:
+    except (OSError, LookupError):
         pass  # the list has the answer; these words only help
     return None
 
@@ -71,13 +74,13 @@ def block(trace, number, cycles):
     while before == cycles:
         data = block_at(trace, at)
         if number == 8 and ended and data:
-            return f'block {at}: {faults(data, at, False, True, cycles)[0]}'
+            return f'block {at}: place: it comes after the end block'
         if len(data) < BLOCK:
             return None
         stored, formed = number_at(data, CHECK, 2), check_of(data)
         if stored != formed:
             return f'block {at}: its check says {stored}, its bytes give {formed}' if number == 7 else None
-        found = faults(data, at, at == 0, ended, cycles)
+        found = faults(data, at, cycles)
         if found:
             return f'block {at}: {"; ".join(found)}' if number == 8 else None
         ended = data[0] == END
@@ -86,7 +89,7 @@ def block(trace, number, cycles):
 
 
 def end(trace):
-    at, left = divmod(trace.size, BLOCK)
-    if trace.size == 0:
+    at, left = divmod(trace.read, BLOCK)
+    if trace.read == 0:
         return 'the trace is empty'
     return f'block {at} has {left} bytes' if left else f'the trace ends after {at} blocks, and none of them is an end block'

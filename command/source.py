@@ -4,6 +4,7 @@ import os
 import stat
 
 from command.blocks import BLOCK
+from command.naming import Descriptor
 from command.trouble import named_in_errors
 
 MARK = 1 << 24  # bytes between two marks, so that a cycle of a long trace is found again without reading it all
@@ -34,15 +35,16 @@ class Trace:
 
     def still_there(self):
         """A regular file that nobody has changed since it was opened: only then can it be asked what was wrong."""
-        now = os.fstat(self.descriptor)
-        return self.regular and (now.st_size, now.st_mtime_ns) == (self.opened.st_size, self.opened.st_mtime_ns)
+        then, now = self.opened, os.fstat(self.descriptor)
+        return self.regular and (now.st_size, now.st_mtime_ns, now.st_ctime_ns) == (then.st_size, then.st_mtime_ns, then.st_ctime_ns)
 
 
 def open_trace(named):
     with named_in_errors(named.name):
-        descriptor = named.descriptor
-        if descriptor is None:
-            descriptor = os.open(named.path, os.O_RDONLY | os.O_NOCTTY)
+        if isinstance(named, Descriptor):
+            descriptor = named.number
+        else:
+            descriptor = os.open(named.last, os.O_RDONLY | os.O_NOCTTY, dir_fd=named.folder)
         if stat.S_ISDIR(os.fstat(descriptor).st_mode):
             raise IsADirectoryError(errno.EISDIR, '')  # it can be opened, but not read
         return Trace(named.name, descriptor)

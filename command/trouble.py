@@ -26,11 +26,9 @@ class Ended(BaseException):
 
 @contextmanager
 def named_in_errors(name):
-    """What the system refuses of a file ends the command in the system's words; that a stream has nothing just now is no error."""
+    """What the system refuses of a file ends the command in the system's words."""
     try:
         yield
-    except BlockingIOError:
-        raise
     except OSError as fault:
         raise Trouble(INCOMPLETE, f'{shown(name)}: {os.strerror(fault.errno)}') from None
 
@@ -46,7 +44,7 @@ def say(words):
 
 
 def put(descriptor, text):
-    """Writes all of a text, also to a stream that does not block; what cannot be told is not told."""
+    """Writes all of a text, also to a stream that does not block; tells whether it could."""
     left = text.encode(errors='backslashreplace')
     while left:
         try:
@@ -56,7 +54,8 @@ def put(descriptor, text):
             waiting.register(descriptor, select.POLLOUT)
             waiting.poll()
         except OSError:
-            return
+            return False
+    return True
 
 
 def hold_standard_descriptors():
@@ -75,12 +74,18 @@ def catch_signals():
     """Makes a signal an exception, so that what was begun is cleaned up; one that the caller had ignored stays so (nohup)."""
 
     def ended(number, _frame):
-        signal.signal(number, signal.SIG_DFL)  # a second one ends at once; the pipes then end the program
+        ignore_signals()  # cleaning up takes a moment, and nothing stays behind
         raise Ended(number)
 
     for number in ENDING:
         if signal.getsignal(number) != signal.SIG_IGN:
             signal.signal(number, ended)
+
+
+def ignore_signals():
+    """From here on the outcome stands."""
+    for number in ENDING:
+        signal.signal(number, signal.SIG_IGN)
 
 
 @contextmanager
@@ -91,12 +96,6 @@ def signals_held():
         yield
     finally:
         signal.pthread_sigmask(signal.SIG_SETMASK, before)
-
-
-def ignore_signals():
-    """From here on the outcome stands."""
-    for number in ENDING:
-        signal.signal(number, signal.SIG_IGN)
 
 
 def end_by(number):

@@ -1,7 +1,9 @@
 """A small tree of its own for each test: the command in it, a kit whose `rt` only pretends to prove, and a program.
 
 NIGHT_LIST_SCRIPT names another script to be tried in the command's place, NIGHT_LIST_PROGRAM another program than target/bin/night_list."""
+import fcntl
 import os
+import select
 import shutil
 import signal
 import subprocess
@@ -13,7 +15,7 @@ from command.tree import MACHINE, ROOT, kit
 SCRIPT = os.environ.get('NIGHT_LIST_SCRIPT')
 PROGRAM = os.environ.get('NIGHT_LIST_PROGRAM') or os.path.join(ROOT, 'target', 'bin', 'night_list')
 LISTING_TRACE = os.path.join(ROOT, 'examples', 'listing.trace')
-PIPE = 1 << 16  # what a pipe takes before its writer waits: a longer write comes back only when somebody reads
+PIPE = fcntl.fcntl(os.pipe()[1], fcntl.F_GETPIPE_SZ)  # a longer write comes back only when somebody reads
 PATIENCE = 60  # seconds after which what has not ended hangs
 
 # as rt: a crate with a stamp is not built again; `calls` counts, `hold` is a FIFO that makes it wait, `fails` makes it fail
@@ -61,6 +63,8 @@ class Floor(unittest.TestCase):
         shutil.copytree(os.path.join(ROOT, 'command'), os.path.join(self.tree, 'command'),
                         ignore=shutil.ignore_patterns('tests', '__pycache__'))
         self.surroundings = {name: value for name, value in os.environ.items() if name != 'RATTLE_HOME'}
+        self.surroundings['TMPDIR'] = os.path.join(self.at, 'tmp')
+        os.mkdir(self.surroundings['TMPDIR'])
         self.surroundings['PATH'] = os.path.join(self.kit, 'bin') + os.pathsep + os.environ['PATH']
 
     def make_kit(self):
@@ -138,6 +142,22 @@ class Floor(unittest.TestCase):
     def release(self, hold):
         with open(hold, 'w', encoding='utf-8') as gate:  # waits until rt has come there
             gate.write('go\n')
+
+    def below(self, process):
+        """The processes that a process has started, and theirs."""
+        with open(f'/proc/{process}/task/{process}/children', encoding='utf-8') as children:
+            own = [int(word) for word in children.read().split()]
+        return own + [one for child in own for one in self.below(child)]
+
+    def gone(self, processes):
+        """They have ended; one that is ending is waited for by a descriptor of its own."""
+        for process in processes:
+            try:
+                watch = os.pidfd_open(process)
+            except ProcessLookupError:
+                continue
+            self.assertTrue(select.select([watch], [], [], PATIENCE)[0], 'the program goes on')
+            os.close(watch)
 
 
 def as_nobody():

@@ -19,7 +19,7 @@ class Building(Floor):
         status, out, err = self.night(LISTING_TRACE, '-')
         self.assertEqual((status, out), (0, LISTING))
         self.assertEqual(err.splitlines(), [
-            'night-list: proving and building the program, 2 crates; some minutes where nothing is proved yet',
+            'night-list: proving and building the program, 2 crates; some minutes, once',
             'night-list: 1 of 2 proved: base (0 s)',
             'night-list: 2 of 2 proved: night_list (0 s)',
             'night-list: whole: 6 cycles accepted, 4 flits out',
@@ -110,12 +110,33 @@ class Building(Floor):
         self.assertIn('night-list: the program was not built: rt ended with status 1', err)
         self.assertEqual(set(self.everything()) - before, {os.path.join(self.tree, 'built', 'lock')})
 
+    def test_a_build_without_a_program_leaves_nothing(self):
+        os.remove(os.path.join(self.kit, 'program'))
+        self.assertEqual(self.night('--build')[0], 4)
+        self.assertEqual(os.listdir(os.path.join(self.tree, 'built')), ['lock'])
+        self.assertEqual(os.listdir(os.path.join(self.at, 'tmp')), [])
+
+    def test_a_program_that_does_not_do_what_its_crate_says_is_not_put_in_place(self):
+        os.makedirs(os.path.join(self.tree, 'crates', 'night_list'))
+        self.write('tree/crates/night_list/stdin', '')
+        self.write('tree/crates/night_list/stdout', 'R 9 0 1\n')
+        status, _, err = self.night('--build')
+        self.assertEqual(status, 4)
+        self.assertIn('the program was built and does not run', err)
+        self.write('tree/crates/night_list/stdout', 'R 9 0 0\n')
+        self.assertEqual(self.night('--build')[0], 0)
+
     def test_a_signal_ends_a_build(self):
         hold = self.hold_builds()
         run = self.start('--build')
         with open(hold, 'w', encoding='utf-8'):  # rt is there
-            run.send_signal(signal.SIGTERM)
-            self.assertEqual(self.ended(run)[0], -signal.SIGTERM)
+            started = self.below(run.pid)
+            for number in (signal.SIGTERM, signal.SIGHUP, signal.SIGINT):  # as somebody who is impatient
+                run.send_signal(number)
+            self.assertLess(self.ended(run)[0], 0)
+            self.gone(started)
+        self.assertEqual(os.listdir(os.path.join(self.at, 'tmp')), [])
+        self.assertEqual(os.listdir(os.path.join(self.tree, 'built')), ['lock'])
         os.remove(hold)
         self.build()
 
@@ -129,7 +150,7 @@ class Building(Floor):
         self.surroundings['PATH'] = os.defpath
         status, _, err = self.night(LISTING_TRACE, '-')
         self.assertEqual(status, 4)
-        self.assertIn('rt, the Rattle kit, is neither on the PATH nor at RATTLE_HOME', err)
+        self.assertIn('there is no Rattle kit (rt) at RATTLE_HOME or, without that, on the PATH', err)
         self.surroundings['RATTLE_HOME'] = self.kit
         self.assertEqual(self.night(LISTING_TRACE, '-')[:2], (0, LISTING))
 
@@ -143,6 +164,7 @@ class Building(Floor):
         self.git('commit', '-q', '-a', '-m', 'two')
         second = self.git('rev-parse', '--short=12', 'HEAD')
         self.write('tree/crates/base/src/new.txt', '')
+        self.surroundings['GIT_DIR'] = self.at  # as a hook of another repository has it
         status, out, err = self.night(LISTING_TRACE, '-')
         self.assertEqual((status, out), (5, ''))
         self.assertIn(f'this tree ({second} with changes) is not what was built ({first})', err)
@@ -180,18 +202,23 @@ class Building(Floor):
         self.assertEqual(self.ended(run)[0], 0)
         self.assertEqual(self.read('list'), whole)
 
-    def test_what_the_tree_has_proved_is_taken_over(self):
-        for name in ('stamp/night_list', 'bin/night_list'):
-            os.makedirs(os.path.join(self.tree, 'target', os.path.dirname(name)), exist_ok=True)
+    def test_what_the_tree_has_proved_is_taken_over_if_asked_for(self):
+        for folder in ('stamp', 'bin'):
+            os.makedirs(os.path.join(self.tree, 'target', folder))
         self.write('tree/target/stamp/night_list', 'stamp\n')
-        status, _, err = self.night(LISTING_TRACE, '-')  # a stamp without its program is worth nothing
-        self.assertIn('2 of 2 proved: night_list (0 s)', err)
-        self.assertEqual(status, 0)
+        again = 'night-list: 2 of 2 proved: night_list (0 s)\n'
+        self.assertIn(again, self.night('--build', '--take-over')[2])  # a stamp without its program is worth nothing
         shutil.rmtree(os.path.join(self.tree, 'built'))
         shutil.copy(os.path.join(self.kit, 'program'), os.path.join(self.tree, 'target', 'bin', 'night_list'))
-        status, out, err = self.night(LISTING_TRACE, '-')
-        self.assertEqual((status, out), (0, LISTING))
-        self.assertIn('2 of 2 proved: night_list (unchanged since it was last proved)', err)
+        self.assertIn(again, self.night(LISTING_TRACE, '-')[2])  # and a first use proves all
+        shutil.rmtree(os.path.join(self.tree, 'built'))
+        self.assertIn('night_list (unchanged since it was last proved)', self.night('--build', '--take-over')[2])
+        self.assertEqual(self.night(LISTING_TRACE, '-')[:2], (0, LISTING))
+
+    def test_what_is_no_file_in_the_tree_is_not_waited_for(self):
+        self.build()
+        self.fifo('tree/crates/base/src/pipe')
+        self.assertEqual(self.night(LISTING_TRACE, '-')[0], 5)
 
 
 def cut(path):

@@ -1,8 +1,9 @@
 """How far a run is: told on a terminal, or where it is asked for, once it takes more than two seconds."""
 import os
 import pty
+import select
 
-from command.naming import Named
+from command.naming import named
 from command.progress import Progress as Told
 from command.source import open_trace
 from command.tests.support import LISTING_TRACE, Floor
@@ -27,7 +28,10 @@ class Progress(Floor):
 
     def test_asked_for_it_is_a_line(self):
         run, bench = self.half_a_trace('--progress')
-        self.assertRegex(run.stderr.readline().decode(), r'^night-list: 350 cycles, 0:0\d\n$')
+        said = ''
+        while '350 cycles' not in said:
+            said = run.stderr.readline().decode()
+            self.assertRegex(said, r'^night-list: \d+ cycles, \d+:\d\d\n$')
         bench.write(self.trace[512 * 51:])
         bench.close()
         self.assertEqual(self.ended(run)[::2], (0, 'night-list: whole: 700 cycles accepted, 0 flits out\n'))
@@ -45,7 +49,19 @@ class Progress(Floor):
         self.assertEqual(self.ended(run)[0], 0)
         while b'whole' not in seen:
             seen += os.read(ours, 1000)
-        self.assertRegex(seen, rb'^(\r\x1b\[Knight-list: 350 cycles, 0:0\d)+\r\x1b\[Knight-list: whole: 700 cycles')
+        self.assertRegex(seen, rb'^(\r\x1b\[Knight-list: \d+ cycles, \d+:\d\d)+\r\x1b\[Knight-list: whole: 700 cycles')
+
+    def test_not_between_the_lines_of_a_list_on_the_terminal(self):
+        ours, theirs = pty.openpty()
+        self.addCleanup(os.close, ours)
+        name = self.fifo('trace')
+        run = self.start(name, '-', stdout=theirs, stderr=theirs)
+        os.close(theirs)
+        with open(name, 'wb', buffering=0) as bench:
+            bench.write(self.trace[:512 * 51])
+            self.assertFalse(select.select([ours], [], [], 3)[0])
+            bench.write(self.trace[512 * 51:])
+        self.assertEqual(self.ended(run)[0], 0)
 
     def test_elsewhere_and_where_it_is_soon_over_nothing_is_told(self):
         for words in ((), ('--progress',)):
@@ -58,7 +74,7 @@ class Words(Floor):
 
     def test_share_and_time_left(self):
         data = idle(700)
-        trace = open_trace(Named('trace', path=self.write('trace', data)))
+        trace = open_trace(named(self.write('trace', data), 0))
         self.addCleanup(os.close, trace.descriptor)
         told = Told({'--progress'}, trace, trace)
         self.assertEqual(told.words(3), '0 % of the trace read, 0 cycles, 0:03')

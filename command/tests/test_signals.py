@@ -1,9 +1,8 @@
 """Signals end the program too, and leave nothing behind but LIST.part."""
 import os
-import select
 import signal
 
-from command.tests.support import LISTING_TRACE, PATIENCE, PIPE, Floor
+from command.tests.support import LISTING_TRACE, PIPE, Floor
 from command.tests.traces import busy
 
 YESTERDAY = 'E 1 0\n'
@@ -18,12 +17,6 @@ class Signals(Floor):
         self.name = self.fifo('trace')
         self.trace, self.whole = busy(3000)
 
-    def below(self, process):
-        """The processes that a process has started, and theirs."""
-        with open(f'/proc/{process}/task/{process}/children', encoding='utf-8') as children:
-            own = [int(word) for word in children.read().split()]
-        return own + [one for child in own for one in self.below(child)]
-
     def begin(self, *words, **how):
         """A run in the middle of its trace: the command, the program's processes, and the open end of the trace."""
         run = self.start(self.name, 'list', *words, **how)
@@ -33,16 +26,6 @@ class Signals(Floor):
         started = self.below(run.pid)
         self.assertTrue(started)
         return run, started, bench
-
-    def gone(self, processes):
-        """They have ended; one that is ending is waited for by a descriptor of its own."""
-        for process in processes:
-            try:
-                watch = os.pidfd_open(process)
-            except ProcessLookupError:
-                continue
-            self.assertTrue(select.select([watch], [], [], PATIENCE)[0], 'the program goes on')
-            os.close(watch)
 
     def test_each_ends_the_program_and_keeps_the_old_list(self):
         for number in (signal.SIGTERM, signal.SIGINT, signal.SIGHUP):
@@ -55,7 +38,7 @@ class Signals(Floor):
             self.assertEqual(err, f'night-list: ended by {number.name}; the list is incomplete: '
                              'LIST is as it was; what was written is in list.part\n')
             self.assertEqual(self.read('list'), YESTERDAY)
-            self.assertEqual(sorted(os.listdir(self.at)), ['kit', 'list', 'list.part', 'trace', 'tree'])
+            self.assertEqual(sorted(os.listdir(self.at)), ['kit', 'list', 'list.part', 'tmp', 'trace', 'tree'])
 
     def test_even_one_that_cannot_be_caught(self):
         run, started, bench = self.begin()

@@ -85,14 +85,26 @@ class Streams(Floor):
             self.assertIn(words, err)
 
     def test_a_message_never_lands_in_a_list(self):
-        for trace, status, last in ((LISTING_TRACE, 0, 'E 6 4\n'), (os.devnull, 1, 'R 9 0 0\n')):
-            self.assertEqual(self.night(trace, 'list', preexec_fn=lambda: os.closerange(0, 3))[0], status)
-            self.assertTrue(self.read('list').endswith(last))
-            self.assertEqual(self.night(trace, '-', preexec_fn=lambda: os.close(2))[0], status)
+        for trace, status, whole in ((LISTING_TRACE, 0, LISTING), (os.devnull, 1, 'R 9 0 0\n')):
+            for closed in ((2,), (0, 2), (0, 1, 2)):
+                self.assertEqual(self.night(trace, 'list', preexec_fn=lambda: [os.close(number) for number in closed])[0], status)
+                self.assertEqual(self.read('list'), whole)
+            self.assertEqual(self.night(trace, '-', preexec_fn=lambda: os.close(2))[:2], (status, whole))
 
     def test_a_descriptor_that_is_not_there(self):
-        status, _, err = self.night(LISTING_TRACE, '/dev/fd/3')
-        self.assertEqual((status, err), (2, 'night-list: /dev/fd/3: Bad file descriptor\n'))
+        for name in ('/dev/fd/3', '/proc/self/fd/999999999'):
+            status, _, err = self.night(LISTING_TRACE, name)
+            self.assertEqual((status, err), (2, f'night-list: {name}: Bad file descriptor\n'))
+        for name in ('/dev/fd/99999999999', '/dev/fd/\u00b2', '/dev/fd/x'):
+            status, _, err = self.night(LISTING_TRACE, name)
+            self.assertEqual((status, err.count('\n')), (2, 1))
+
+    def test_a_list_longer_than_pipes_and_its_trace(self):
+        trace, whole = busy(14_000)
+        self.assertGreater(len(whole), 4 * PIPE)
+        for out in ('-', 'list'):
+            self.assertEqual(self.night(self.write('trace', trace), out)[0], 0)
+        self.assertEqual(self.read('list'), whole)
 
 
 def how_to(ignored):

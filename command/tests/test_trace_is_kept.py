@@ -1,7 +1,10 @@
 """The trace is never written, however it is named."""
 import os
 import socket
+import stat
+import types
 
+from command.naming import same_file
 from command.tests.support import LISTING_TRACE, Floor
 
 
@@ -54,6 +57,21 @@ class TraceIsKept(Floor):
         self.refused('list.part', 'list')
         self.assertFalse(self.there('list'))
 
+    def test_as_standard_error(self):
+        with open(self.trace, 'ab') as stderr:
+            status, out, _ = self.night('trace', 'list', stderr=stderr)
+        self.assertEqual((status, out), (3, ''))
+        with open(self.trace, 'rb') as file:
+            self.assertEqual(file.read(), self.bytes)
+        self.assertFalse(self.there('list'))
+
+    def test_as_a_device_of_another_name(self):
+        disk = {'st_mode': stat.S_IFBLK, 'st_rdev': 7, 'st_dev': 1}
+        one, other = (types.SimpleNamespace(**disk, st_ino=number) for number in (1, 2))
+        self.assertTrue(same_file(one, other))
+        other.st_rdev = 8
+        self.assertFalse(same_file(one, other))
+
     def test_a_terminal_or_a_socket_may_be_both(self):
         ours, theirs = socket.socketpair()
         run = self.start('-', '-', stdin=theirs, stdout=theirs)
@@ -68,3 +86,19 @@ class TraceIsKept(Floor):
         os.chmod(self.trace, 0o444)
         self.assertEqual(self.night('trace', 'list')[0], 0)
 
+
+class TraceIsMoved(Floor):
+    program = 'read -r _ <hold; echo E 6 4'
+
+    def test_onto_the_list_meanwhile(self):
+        self.build()
+        self.write('trace', 'a trace\n')
+        hold = self.fifo('hold')
+        run = self.start('trace', 'list')
+        with open(hold, 'w', encoding='utf-8') as gate:  # the program runs
+            os.rename(os.path.join(self.at, 'trace'), os.path.join(self.at, 'list'))
+            gate.write('go\n')
+        status, _, err = self.ended(run)
+        self.assertEqual(status, 2)
+        self.assertIn('a trace is never written', err)
+        self.assertEqual(self.read('list'), 'a trace\n')

@@ -128,14 +128,60 @@ class WholeOrNot(Floor):
 
     def test_somebody_else_changes_the_part(self):
         name = self.fifo('trace')
-        trace, _ = busy(2000)
-        for change in (lambda part: os.truncate(part, 1 << 20), os.remove):
+        trace, _ = busy(14_000)  # when most of it is read, much of the list has been written
+        for change in (lambda part: os.truncate(part, 0), os.remove):
             run = self.start(name, 'list')
             with open(name, 'wb', buffering=0) as bench:
-                bench.write(trace[:PIPE + 4096])
+                bench.write(trace[:-512])
                 change(os.path.join(self.at, 'list.part'))
-                bench.write(trace[PIPE + 4096:])
+                bench.write(trace[-512:])
             self.kept(self.ended(run), 'list.part: somebody else has changed it')
+
+    def test_a_name_that_is_a_folders(self):
+        for name in ('nodir/', 'nodir/.', 'nosuch/../xx', '.'):
+            status, _, _ = self.night(LISTING_TRACE, name)
+            self.assertEqual((status, self.there('nodir'), self.there('xx')), (2, False, False))
+        self.assertEqual(self.night(LISTING_TRACE + '/', 'list')[0], 2)
+
+    def test_a_working_folder_that_is_gone(self):
+        gone = os.path.join(self.at, 'gone')
+        os.mkdir(gone)
+        status, _, err = self.night(LISTING_TRACE, 'list', preexec_fn=lambda: (os.chdir(gone), os.rmdir(gone)))
+        self.assertEqual((status, err), (2, 'night-list: list.part: No such file or directory\n'))
+
+    def test_a_sticky_folder_with_somebody_elses_list(self):
+        folder = os.path.join(self.at, 'sticky')
+        os.mkdir(folder)
+        os.chmod(folder, 0o1777)
+        self.write('sticky/list', YESTERDAY, 0o666)
+        if os.getuid() == 0:
+            status, _, err = self.night(LISTING_TRACE, 'sticky/list', **as_nobody())
+            self.assertEqual((status, err), (2, 'night-list: sticky/list: Operation not permitted\n'))
+
+    def test_a_folder_that_can_be_written_and_not_read(self):
+        folder = os.path.join(self.at, 'dropbox')
+        os.mkdir(folder)
+        os.chmod(folder, 0o333)
+        self.addCleanup(os.chmod, folder, 0o755)
+        self.assertEqual(self.night(LISTING_TRACE, 'dropbox/list', **as_nobody())[0], 0)
+        self.assertEqual(self.read('dropbox/list'), LISTING)
+
+    def test_the_group_of_a_list_is_kept(self):
+        if os.getuid() == 0:
+            folder = os.path.join(self.at, 'shared')
+            os.mkdir(folder)
+            os.chown(folder, 0, 7777)
+            os.chmod(folder, 0o770)
+            os.chown(self.write('shared/list', YESTERDAY, 0o660), 50001, 7777)
+            self.assertEqual(self.night(LISTING_TRACE, 'shared/list', user=50002, group=50002, extra_groups=[7777])[0], 0)
+            status = os.stat(os.path.join(folder, 'list'))
+            self.assertEqual((status.st_gid, stat.S_IMODE(status.st_mode)), (7777, 0o660))
+
+    def test_a_file_that_is_mounted_there(self):
+        other = self.write('other', YESTERDAY)
+        if subprocess.run(['mount', '--bind', other, self.old], capture_output=True, check=False).returncode == 0:
+            self.addCleanup(subprocess.run, ['umount', self.old], check=True)
+            self.kept(self.night(LISTING_TRACE, 'list'), 'list: Device or resource busy')
 
 
 class WrongPrograms(Floor):
@@ -168,3 +214,14 @@ class WrongPrograms(Floor):
                 self.assertEqual(status, 2, err)
 
     program = 'true'
+
+    def test_the_part_of_a_link_is_named(self):
+        self.program = 'echo C 2 0 0'
+        self.doCleanups()
+        self.setUp()
+        os.mkdir(os.path.join(self.at, 'sub'))
+        os.symlink('sub/real', os.path.join(self.at, 'link'))
+        status, _, err = self.night(LISTING_TRACE, 'link')
+        self.assertEqual(status, 2)
+        self.assertTrue(err.endswith('LIST was not made; what was written is in sub/real.part\n'), err)
+        self.assertTrue(self.there('sub/real.part'))

@@ -1,6 +1,9 @@
 """What the command says: refusals in words, usage, odd names."""
 import os
+import unittest
+from unittest import mock
 
+from command import main
 from command.tests.support import LISTING_TRACE, Floor
 from command.tests.traces import LISTING, SIZES, block, changed, cycle, idle, row, trace
 
@@ -97,6 +100,15 @@ class Refusals(Floor):
                          'a body or tail without an open packet, or a head or single inside one, port 1\n')
 
 
+class Faults(unittest.TestCase):
+
+    def test_a_fault_of_the_command_is_no_refusal(self):
+        """Python's own status would be 1: that a list ends in R."""
+        with mock.patch.object(main, 'done', side_effect=KeyError('x')), mock.patch.object(main, 'say') as said:
+            self.assertEqual(main.told(['trace', 'list']), 2)
+        said.assert_called_once_with("the command failed: KeyError: 'x'")
+
+
 class Usage(Floor):
 
     def test_words_that_are_not_understood(self):
@@ -105,7 +117,8 @@ class Usage(Floor):
             (('trace',), 'TRACE and LIST are wanted'),
             (('a', 'b', 'c'), 'TRACE and LIST are wanted'),
             (('', 'list'), 'TRACE and LIST are wanted'),
-            (('--build', 'trace', 'list'), 'TRACE and LIST are wanted'),
+            (('--build', 'trace', 'list'), '--build takes no names'),
+            (('--take-over', 'trace', 'list'), 'these options do not go together'),
             (('--quiet', '--progress', 'a', 'b'), 'these options do not go together'),
             (('--build', '--help'), 'these options do not go together'),
             (('--fast', 'trace', 'list'), 'there is no option --fast'),
@@ -115,6 +128,10 @@ class Usage(Floor):
                 self.assertEqual((status, out), (3, ''))
                 self.assertTrue(err.startswith(f'night-list: {said}\nusage: night-list '), err)
         self.assertEqual(self.calls(), 0)
+
+    def test_help_that_cannot_be_written(self):
+        with open('/dev/full', 'wb') as full:
+            self.assertEqual(self.night('--help', stdout=full)[0], 2)
 
     def test_help_says_every_status(self):
         status, out, err = self.night('--help')
