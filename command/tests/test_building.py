@@ -62,9 +62,9 @@ class Building(Floor):
     def test_a_tree_that_cannot_be_written(self):
         self.build()
         before = self.everything()
-        for folder in ('tree', 'tree/built', 'tree/command'):
-            os.chmod(os.path.join(self.at, folder), 0o555)
-            self.addCleanup(os.chmod, os.path.join(self.at, folder), 0o755)
+        for folder, _, _ in os.walk(self.tree):
+            os.chmod(folder, 0o555)
+            self.addCleanup(os.chmod, folder, 0o755)
         self.assertEqual(self.night(LISTING_TRACE, '-', **as_nobody())[:2], (0, LISTING))
         self.assertEqual(self.night('--build', **as_nobody())[0], 0)  # there is nothing to do
         self.assertEqual(self.everything(), before)

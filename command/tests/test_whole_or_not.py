@@ -18,12 +18,12 @@ class WholeOrNot(Floor):
         self.old = self.write('list', YESTERDAY, 0o640)
 
     def kept(self, answer, *words):
-        """Status 2, these words on standard error, and yesterday's list as it was."""
+        """Yesterday's list as it was, status 2, and these words on standard error."""
         status, out, err = answer
+        self.assertEqual(self.read('list'), YESTERDAY)
         self.assertEqual((status, out), (2, ''), err)
         for word in words:
             self.assertIn(word, err)
-        self.assertEqual(self.read('list'), YESTERDAY)
         return err
 
     def test_a_list_replaces_yesterdays_and_keeps_its_mode(self):
@@ -58,9 +58,9 @@ class WholeOrNot(Floor):
         self.write('disk/list', YESTERDAY)
         trace = self.write('long', busy(300)[0])
         status, _, err = self.night(trace, 'disk/list')
+        self.assertEqual(self.read('disk/list'), YESTERDAY)
         self.assertEqual(status, 2)
         self.assertIn('disk/list.part: No space left on device; the list is incomplete: LIST is as it was', err)
-        self.assertEqual(self.read('disk/list'), YESTERDAY)
 
     def test_the_device_that_is_always_full(self):
         self.kept(self.night(LISTING_TRACE, '/dev/full'), '/dev/full: No space left on device', 'the list is incomplete')
