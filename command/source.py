@@ -42,7 +42,7 @@ class Trace:
 def open_trace(named):
     with named_in_errors(named.name):
         if isinstance(named, Descriptor):
-            descriptor = named.number
+            descriptor = os.dup(named.number)  # LIST may be the same socket
         else:
             descriptor = os.open(named.last, os.O_RDONLY | os.O_NOCTTY, dir_fd=named.folder)
         if stat.S_ISDIR(os.fstat(descriptor).st_mode):

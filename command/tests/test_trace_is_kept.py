@@ -73,14 +73,15 @@ class TraceIsKept(Floor):
         self.assertFalse(same_file(one, other))
 
     def test_a_terminal_or_a_socket_may_be_both(self):
-        ours, theirs = socket.socketpair()
-        run = self.start('-', '-', stdin=theirs, stdout=theirs)
-        theirs.close()
-        ours.sendall(self.bytes)
-        ours.shutdown(1)
-        with ours, ours.makefile('rb') as list_:
-            self.assertTrue(list_.read().endswith(b'E 6 4\n'))
-        self.assertEqual(self.ended(run)[0], 0)
+        for names in (('-', '-'), ('/dev/fd/0', '/dev/fd/0')):
+            ours, theirs = socket.socketpair()
+            run = self.start(*names, stdin=theirs, stdout=theirs)
+            theirs.close()
+            ours.sendall(self.bytes)
+            ours.shutdown(socket.SHUT_WR)
+            with ours, ours.makefile('rb') as list_:
+                self.assertTrue(list_.read().endswith(b'E 6 4\n'))
+            self.assertEqual(self.ended(run)[0], 0)
 
     def test_a_trace_without_write_access_is_enough(self):
         os.chmod(self.trace, 0o444)
