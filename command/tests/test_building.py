@@ -4,6 +4,7 @@ import select
 import shutil
 import signal
 import subprocess
+import unittest
 
 from command.tests.support import LISTING_TRACE, PATIENCE, PIPE, Floor, as_nobody
 from command.tests.traces import LISTING, busy
@@ -154,6 +155,7 @@ class Building(Floor):
         self.surroundings['RATTLE_HOME'] = self.kit
         self.assertEqual(self.night(LISTING_TRACE, '-')[:2], (0, LISTING))
 
+    @unittest.skipUnless(shutil.which('git'), 'commits are named where there is git')
     def test_a_tree_that_has_changed_is_not_run_by_mistake(self):
         self.git('init', '-q')
         self.git('add', 'crates', 'crates.txt')

@@ -167,15 +167,17 @@ class WholeOrNot(Floor):
         self.assertEqual(self.read('dropbox/list'), LISTING)
 
     def test_the_group_of_a_list_is_kept(self):
-        if os.getuid() == 0:
-            folder = os.path.join(self.at, 'shared')
-            os.mkdir(folder)
+        folder = os.path.join(self.at, 'shared')
+        os.mkdir(folder)
+        try:
             os.chown(folder, 0, 7777)
-            os.chmod(folder, 0o770)
             os.chown(self.write('shared/list', YESTERDAY, 0o660), 50001, 7777)
-            self.assertEqual(self.night(LISTING_TRACE, 'shared/list', user=50002, group=50002, extra_groups=[7777])[0], 0)
-            status = os.stat(os.path.join(folder, 'list'))
-            self.assertEqual((status.st_gid, stat.S_IMODE(status.st_mode)), (7777, 0o660))
+        except OSError:
+            return  # only root has other accounts to try, and not everywhere
+        os.chmod(folder, 0o770)
+        self.assertEqual(self.night(LISTING_TRACE, 'shared/list', user=50002, group=50002, extra_groups=[7777])[0], 0)
+        status = os.stat(os.path.join(folder, 'list'))
+        self.assertEqual((status.st_gid, stat.S_IMODE(status.st_mode)), (7777, 0o660))
 
     def test_a_file_that_is_mounted_there(self):
         other = self.write('other', YESTERDAY)
