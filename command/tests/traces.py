@@ -1,4 +1,5 @@
 """Small traces, byte by byte as document 01 has them, and their lists, written down by hand."""
+import operator
 import os
 
 from command.blocks import BLOCK, CHECK
@@ -14,7 +15,7 @@ with open(os.path.join(ROOT, 'crates', 'night_list', 'stdout'), encoding='utf-8'
 def sealed(data):
     """A block with its check."""
     data = bytearray(data.ljust(BLOCK, b'\0'))
-    data[CHECK:] = (sum((i + 1) * data[i] for i in range(CHECK)) % 65521).to_bytes(2, 'big')
+    data[CHECK:] = (sum(map(operator.mul, range(1, CHECK + 1), data)) % 65521).to_bytes(2, 'big')
     return bytes(data)
 
 
