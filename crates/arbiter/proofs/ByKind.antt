@@ -18,7 +18,7 @@ use Rattle.base.proofs.Bits.{bit-mod}
 use Rattle.base.proofs.Search.{both, every-ext, first-ext}
 use Rattle.arbiter.specs.RoundRobin.{nextInTurn, pointerAfter}
 use Rattle.arbiter.specs.Matrix.{beats, beatsEveryOther, champion, defeated, freshRows, totalOrder, within, blankFrom}
-use Rattle.arbiter.specs.Arbiter.{Arbiter, known, usable, choice, moved, fresh, sound}
+use Rattle.arbiter.specs.Arbiter.{Arbiter, known, usable, choice, moved, fresh, sound, arbiterOf}
 
 -- ---- what is given
 
@@ -94,7 +94,8 @@ choice-same places code n f g a same = go (usable places code n (a .pointer)) re
         ≡ cond b (cond (eqb code 1) (nextInTurn n g (a .pointer)) (champion n g (a .rows))) none
     go true e =
         let p = usable-is places code n (a .pointer) e in
-        ap₂ (λ (x y : Option ℕ). cond (eqb code 1) x y) (turn-ext n f g (a .pointer) (omega (arith, p .1)) same) (champion-ext n f g (a .rows) same)
+        ap₂ (λ (x y : Option ℕ). cond (eqb code 1) x y) (turn-ext n f g (a .pointer) (omega (arith, p .1)) same)
+        (champion-ext n f g (a .rows) same)
     go false e = refl
 
 module _ (places code n word : ℕ) (a : Arbiter) where
@@ -127,12 +128,12 @@ module _ (places code n w : ℕ) (a : Arbiter) where
   moved-nobody h = rw (le-ltb w n h, and-false (usable places code n (a .pointer)))
 
   pub moved-turn : usable places code n (a .pointer) ≡ true → w < n → code ≡ 1
-      → _≡_ {A = Arbiter} (record { pointer = pointerAfter n w; rows = a .rows }) (moved places code n w a)
+      → _≡_ {A = Arbiter} (arbiterOf (pointerAfter n w) (a .rows)) (moved places code n w a)
   unfolding moved
   moved-turn e h k = rw (e, lt-ltb w n h, eq-eqb code 1 k)
 
   pub moved-defeat : usable places code n (a .pointer) ≡ true → w < n → (code ≡ 1 → ⊥)
-      → _≡_ {A = Arbiter} (record { pointer = a .pointer; rows = defeated n w (a .rows) }) (moved places code n w a)
+      → _≡_ {A = Arbiter} (arbiterOf (a .pointer) (defeated n w (a .rows))) (moved places code n w a)
   unfolding moved
   moved-defeat e h k = rw (e, lt-ltb w n h, ne-eqb code 1 k)
 
@@ -153,9 +154,9 @@ module _ (places code n : ℕ) where
 
   -- the rows are all that is to be made
   pub fresh-is : (rows : List ℕ) → rows ≡ fresh places code n .rows
-      → _≡_ {A = Arbiter} (record { pointer = 0; rows = rows }) (fresh places code n)
+      → _≡_ {A = Arbiter} (arbiterOf 0 rows) (fresh places code n)
   unfolding fresh
-  fresh-is rows e = ap (λ (l : List ℕ). record { pointer = 0; rows = l }) e
+  fresh-is rows e = ap (λ (l : List ℕ). arbiterOf 0 l) e
 
 -- ---- sound
 

@@ -98,7 +98,8 @@ module _ (n : ℕ) (rows : List ℕ) (at : ℕ → ℕ) (inside : (k : ℕ) → 
           let full : (i : ℕ) → i < n → bit (ranksBelow at n) i ≡ true =
           λ i h. ap (λ (x : ℕ). bit x i) (eqb-true (ranksBelow at n) (2 ^ n - 1) e) ∙ bit-all n i h in
           sym
-          (ap₂ _&&_ (order-holds n rows (links-order n rows at inside links full)) (all-within n rows (links-within n rows at inside links full)))
+          (ap₂ _&&_ (order-holds n rows (links-order n rows at inside links full))
+          (all-within n rows (links-within n rows at inside links full)))
       go false e = sym (unnamed asked refl)
         where
           unnamed : (b : Bool) → asked ≡ b → b ≡ false

@@ -12,10 +12,11 @@ use lib.Count.{ones}
 use lib.Dec.{eqb, ltb}
 use lib.ListN.{getD}
 use lib.Pow.{pow-pos}
-use borrow.Author.Tests.{eqb-true, eqb-false, eq-eqb, ltb-true, ltb-false, lt-ltb, le-ltb}
+use borrow.Author.Tests.{eqb-true, eqb-false, eq-eqb, ltb-true, ltb-false, lt-ltb, le-ltb, not-true, not-false}
 use Rattle.base.specs.Bits.{bit, withBit}
 use Rattle.base.proofs.Bits.{bit-ext, bit-zero, bit-with, with-lt}
 use Rattle.base.proofs.Count.{count, count-ext, count-lt, count-more, count-all, ones-count}
+use Rattle.base.proofs.Search.{neither}
 use Rattle.arbiter.specs.Matrix.{beats}
 use Rattle.arbiter.proofs.Ranks.{rankOf}
 use Rattle.arbiter.proofs.Top.{Top, None, top}
@@ -146,7 +147,8 @@ module _ (n : ℕ) (rows : List ℕ) (at : ℕ → ℕ) (o : Order n rows) (narr
   unfolding beats
   next r h low =
       go
-      (top n beaten-by (λ i j h g d. swapped (o .total i j h g d)) (λ i j k h g l p q. o .transitive k j i l g h q p) (λ (x : ℕ). not (bit (ranksBelow at r) x)) n (le-refl n))
+      (top n beaten-by (λ i j h g d. swapped (o .total i j h g d)) (λ i j k h g l p q. o .transitive k j i l g h q p)
+      (λ (x : ℕ). not (bit (ranksBelow at r) x)) n (le-refl n))
     where
       beaten-by : ℕ → ℕ → Bool
       beaten-by i j = beats rows j i
@@ -158,18 +160,10 @@ module _ (n : ℕ) (rows : List ℕ) (at : ℕ → ℕ) (o : Order n rows) (narr
       S : ℕ → Bool
       S = bit (ranksBelow at r)
 
-      in-set : (b : Bool) → not b ≡ false → b ≡ true
-      in-set true q = refl
-      in-set false q = absurd (true≢false q)
-
-      out-set : (b : Bool) → not b ≡ true → b ≡ false
-      out-set true q = absurd (false≢true q)
-      out-set false q = refl
-
       go : None (λ (x : ℕ). not (S x)) n ⊎ ((m : ℕ) × Top beaten-by (λ (x : ℕ). not (S x)) n m) → Link rows at r × Lowest (suc r)
-      go (inl none) = absurd (let e = sym (low .many) ∙ count-all S n (λ i l. in-set (S i) (none i l)) in omega arith)
+      go (inl none) = absurd (let e = sym (low .many) ∙ count-all S n (λ i l. not-false (S i) (none i l)) in omega arith)
       go (inr (m, q)) = (
-        record { row = ap (λ (i : ℕ). getD rows i 0) named ∙ row; new = ap S named ∙ out-set (S m) (q .passes) },
+        record { row = ap (λ (i : ℕ). getD rows i 0) named ∙ row; new = ap S named ∙ not-true (S m) (q .passes) },
         record { many = many; beaten = beaten },
       )
         where
@@ -178,7 +172,7 @@ module _ (n : ℕ) (rows : List ℕ) (at : ℕ → ℕ) (o : Order n rows) (narr
           exact j g = by-set (S j) refl (eqb j m) refl
             where
               by-set : (b : Bool) → S j ≡ b → (d : Bool) → eqb j m ≡ d → beats rows m j ≡ b
-              by-set true e d f = low .beaten j m g (q .below) e (out-set (S m) (q .passes))
+              by-set true e d f = low .beaten j m g (q .below) e (not-true (S m) (q .passes))
               by-set false e true f = ap (beats rows m) (eqb-true j m f) ∙ o .irreflexive m (q .below)
               by-set false e false f = o .asymmetric j m g (q .below) (q .others j g (ap not e) (eqb-false j m f))
 
@@ -199,16 +193,12 @@ module _ (n : ℕ) (rows : List ℕ) (at : ℕ → ℕ) (o : Order n rows) (narr
           many : count (bit (ranksBelow at (suc r))) n ≡ suc r
           many =
               count-ext (bit (ranksBelow at (suc r))) (λ (j : ℕ). S j || eqb j m) n (λ j g. grown j)
-              ∙ count-more S n m (q .below) (out-set (S m) (q .passes)) ∙ ap suc (low .many)
+              ∙ count-more S n m (q .below) (not-true (S m) (q .passes)) ∙ ap suc (low .many)
 
           beaten : (s x : ℕ) → s < n → x < n → bit (ranksBelow at (suc r)) s ≡ true → bit (ranksBelow at (suc r)) x ≡ false
               → beats rows x s ≡ true
           beaten s x g l p f = by-new (eqb s m) refl (neither (S x) (eqb x m) (sym (grown x) ∙ f))
             where
-              neither : (a b : Bool) → (a || b) ≡ false → (a ≡ false) × (b ≡ false)
-              neither true b e = absurd (true≢false e)
-              neither false b e = (refl, e)
-
               by-new : (b : Bool) → eqb s m ≡ b → (S x ≡ false) × (eqb x m ≡ false) → beats rows x s ≡ true
               by-new true e (off, d) = ap (beats rows x) (eqb-true s m e) ∙ q .others x l (ap not off) (eqb-false x m d)
               by-new false e (off, d) =

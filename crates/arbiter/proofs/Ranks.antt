@@ -8,10 +8,11 @@ use native.Mathlib.Nat.{mod-eq-of-lt}
 use native.Mathlib.Omega.{arith}
 use lib.Arith.{lt-of-le-ne}
 use lib.Count.{ones}
-use lib.Dec.{eqb, ltb}
-use lib.ListN.{length, getD, set, replicate, length-set, length-replicate, getD-replicate, List·getD-eq-default}
+use lib.Dec.{eqb}
+use lib.ListN.{length, getD, set, replicate, length-set}
 use lib.Seq.{getD-set-same, getD-set-other}
-use borrow.Author.Tests.{eqb-true, eqb-false, ltb-true, ltb-false}
+use borrow.Author.Tests.{eqb-true, eqb-false}
+use Rattle.base.proofs.Lists.{getD-zeros}
 
 abbrev pub rankOf : List ℕ → ℕ → ℕ
 rankOf rows i = ones (getD rows i 0)
@@ -22,13 +23,6 @@ pub record Ranked (n : ℕ) (rows at : List ℕ) (i : ℕ) : Type 0 where
   pub inside : (k : ℕ) → getD at k 0 < n
   pub same : (k : ℕ) → k < i → rankOf rows (getD at (rankOf rows k) 0) ≡ rankOf rows k
 
-getD-zeros : (m k : ℕ) → _≡_ {A = ℕ} (getD (replicate m 0) k 0) 0
-getD-zeros m k = go (ltb k m) refl
-  where
-    go : (b : Bool) → ltb k m ≡ b → _≡_ {A = ℕ} (getD (replicate m 0) k 0) 0
-    go true e = getD-replicate m k 0 0 (ltb-true k m e)
-    go false e = List·getD-eq-default (replicate m 0) 0 (subst (λ (l : ℕ). l ≤ k) (sym (length-replicate m 0)) (ltb-false k m e))
-
 pub ranked-none : (n : ℕ) (rows : List ℕ) → 1 ≤ n → Ranked n rows (replicate 33 0) 0
 ranked-none n rows h =
     record { room = refl; inside = λ k. subst (λ (x : ℕ). x < n) (sym (getD-zeros 33 k)) h; same = λ k l. absurd (omega arith) }
@@ -37,8 +31,11 @@ ranked-none n rows h =
 pub ranked-more : (n : ℕ) (rows at : List ℕ) (i : ℕ) → n ≤ 32 → i < n → rankOf rows i < 33 → Ranked n rows at i
     → Ranked n rows (set at (rankOf rows i) (i % 256)) (i + 1)
 ranked-more n rows at i w h r t =
-    record
-    { room = length-set at (rankOf rows i) (i % 256) ∙ t .room; inside = λ k. inside k (eqb k (rankOf rows i)) refl; same = λ k l. same k l (eqb (rankOf rows k) (rankOf rows i)) refl (eqb k i) refl }
+    record {
+      room = length-set at (rankOf rows i) (i % 256) ∙ t .room;
+      inside = λ k. inside k (eqb k (rankOf rows i)) refl;
+      same = λ k l. same k l (eqb (rankOf rows k) (rankOf rows i)) refl (eqb k i) refl;
+    }
   where
     fits : rankOf rows i < length at
     fits = let e = t .room in omega arith

@@ -120,7 +120,8 @@ defeated-within n w rows h g narrow i l = go (eqb i w) refl
     go : (b : Bool) → eqb i w ≡ b → getD (set (raised w n rows) w 0) i 0 < 2 ^ n
     go true e =
         subst (λ (x : ℕ). x < 2 ^ n)
-        (sym (ap (λ (m : ℕ). getD (set (raised w n rows) w 0) m 0) (eqb-true i w e) ∙ getD-set-same (raised w n rows) w 0 0 (omega (arith, length-raised w n rows))))
+        (sym (ap (λ (m : ℕ). getD (set (raised w n rows) w 0) m 0) (eqb-true i w e)
+        ∙ getD-set-same (raised w n rows) w 0 0 (omega (arith, length-raised w n rows))))
         (pow-pos n)
     go false e =
         subst (λ (x : ℕ). x < 2 ^ n) (sym (getD-set-other (raised w n rows) w i 0 0 (eqb-false i w e) ∙ raised-below w n rows i h l))

@@ -16,10 +16,12 @@ use Rattle.base.proofs.Search.{both}
 use Rattle.base.proofs.Zeros.{blank-at, all-blank}
 use Rattle.arbiter.specs.Matrix.{beats, defeated, freshRows, totalOrder, within, blankFrom}
 use Rattle.arbiter.specs.Arbiter.{Arbiter, known, usable, moved, after, fresh, sound}
-use Rattle.arbiter.proofs.ByKind.{Known, known-is, known-holds, usable-holds, fresh-turn, fresh-order, sound-turn, sound-order, moved-nobody, moved-turn, moved-defeat}
+use Rattle.arbiter.proofs.ByKind.{Known, known-is, known-holds, usable-holds, fresh-turn, fresh-order, sound-turn, sound-order}
+use Rattle.arbiter.proofs.ByKind.{moved-nobody, moved-turn, moved-defeat}
 use Rattle.arbiter.proofs.OrderTest.{within-at, all-within}
 use Rattle.arbiter.proofs.RoundRobin.{pointer-after}
-use Rattle.arbiter.proofs.Rows.{none-above, fresh-row, fresh-beats, fresh-lt, length-fresh, defeated-beats, defeated-beyond, defeated-within, length-defeated}
+use Rattle.arbiter.proofs.Rows.{none-above, fresh-row, fresh-beats, fresh-lt, length-fresh, defeated-beats, defeated-beyond}
+use Rattle.arbiter.proofs.Rows.{defeated-within, length-defeated}
 use Rattle.arbiter.proofs.TotalOrder.{Order, order-of, order-holds}
 
 -- a sound arbiter, clause by clause

@@ -6,7 +6,7 @@ use mathlib.Core.Bool.{Bool, true, false, not, _&&_, _||_, xor, Bool·beq, true�
 use mathlib.Core.List.{List}
 use Prim.Native.Nat.{ℕ, _<_}
 use lib.Dec.{eqb}
-use borrow.Author.Tests.{eqb-false, ne-eqb}
+use borrow.Author.Tests.{eqb-false, ne-eqb, not-true}
 use Rattle.base.specs.Search.{every}
 use Rattle.base.proofs.Search.{both, every-at, all-every}
 use Rattle.arbiter.specs.Matrix.{beats, totalOrder}
@@ -29,20 +29,21 @@ module _ (n : ℕ) (rows : List ℕ) where
   abbrev carriesOver : ℕ → ℕ → ℕ → Bool
   carriesOver i j k = not (beats rows i j && beats rows j k) || beats rows i k
 
-  off : (b : Bool) → not b ≡ true → b ≡ false
-  off true q = absurd (false≢true q)
-  off false q = refl
-
   pub order-of : totalOrder n rows ≡ true → Order n rows
   unfolding totalOrder xor
   order-of e =
-      record
-      { irreflexive = λ i h. off (beats rows i i) (every-at n nobodyItself (parts .0) i h); total = total; asymmetric = asymmetric; transitive = transitive }
+      record {
+        irreflexive = λ i h. not-true (beats rows i i) (every-at n nobodyItself (parts .0) i h);
+        total = total;
+        asymmetric = asymmetric;
+        transitive = transitive;
+      }
     where
       parts : (every n nobodyItself ≡ true) × (every n (λ (i : ℕ). every n (exactlyOne i)) ≡ true)
           × (every n (λ (i : ℕ). every n (λ (j : ℕ). every n (carriesOver i j))) ≡ true)
       parts =
-          let p = both (every n nobodyItself && every n (λ (i : ℕ). every n (exactlyOne i))) (every n (λ (i : ℕ). every n (λ (j : ℕ). every n (carriesOver i j)))) e in
+          let p = both (every n nobodyItself && every n (λ (i : ℕ). every n (exactlyOne i)))
+          (every n (λ (i : ℕ). every n (λ (j : ℕ). every n (carriesOver i j)))) e in
           let q = both (every n nobodyItself) (every n (λ (i : ℕ). every n (exactlyOne i))) (p .0) in
           (q .0, q .1, p .1)
 
@@ -70,12 +71,14 @@ module _ (n : ℕ) (rows : List ℕ) where
       asymmetric : (i j : ℕ) → i < n → j < n → beats rows i j ≡ true → beats rows j i ≡ false
       asymmetric i j h g b =
           not-both (beats rows i j) (beats rows j i)
-          (one-wins i j h g (λ same. true≢false (sym b ∙ ap (beats rows i) (sym same) ∙ off (beats rows i i) (every-at n nobodyItself (parts .0) i h)))) b
+          (one-wins i j h g (λ same. true≢false (sym b ∙ ap (beats rows i) (sym same)
+          ∙ not-true (beats rows i i) (every-at n nobodyItself (parts .0) i h)))) b
 
       transitive : (i j k : ℕ) → i < n → j < n → k < n → beats rows i j ≡ true → beats rows j k ≡ true → beats rows i k ≡ true
       transitive i j k h g l p q =
           subst (λ (b : Bool). (not b || beats rows i k) ≡ true) (ap₂ _&&_ p q)
-          (every-at n (carriesOver i j) (every-at n (λ (j : ℕ). every n (carriesOver i j)) (every-at n (λ (i : ℕ). every n (λ (j : ℕ). every n (carriesOver i j))) (parts .2) i h) j g) k l)
+          (every-at n (carriesOver i j) (every-at n (λ (j : ℕ). every n (carriesOver i j))
+          (every-at n (λ (i : ℕ). every n (λ (j : ℕ). every n (carriesOver i j))) (parts .2) i h) j g) k l)
 
   pub order-holds : Order n rows → totalOrder n rows ≡ true
   unfolding totalOrder xor
@@ -84,7 +87,9 @@ module _ (n : ℕ) (rows : List ℕ) where
       (ap₂ _&&_ (all-every n nobodyItself (λ i h. ap not (o .irreflexive i h)))
       (all-every n (λ (i : ℕ). every n (exactlyOne i)) (λ i h. all-every n (exactlyOne i) (λ j g. one i j h g (eqb i j) refl))))
       (all-every n (λ (i : ℕ). every n (λ (j : ℕ). every n (carriesOver i j)))
-      (λ i h. all-every n (λ (j : ℕ). every n (carriesOver i j)) (λ j g. all-every n (carriesOver i j) (λ k l. over (beats rows i j) (beats rows j k) (beats rows i k) (o .transitive i j k h g l)))))
+      (λ i h. all-every n (λ (j : ℕ). every n (carriesOver i j))
+      (λ j g. all-every n (carriesOver i j) (λ k l. over (beats rows i j) (beats rows j k) (beats rows i k)
+      (o .transitive i j k h g l)))))
     where
       over : (a b c : Bool) → (a ≡ true → b ≡ true → c ≡ true) → (not (a && b) || c) ≡ true
       over true true c t = t refl refl

@@ -143,7 +143,8 @@ module _ (n : ℕ) (ask : ℕ → Bool) (rows : List ℕ) where
   unfolding beatsEveryOther
   every-other w e j h t d =
       subst (λ (b : Bool). (b || beats rows w j) ≡ true) (ne-eqb j w d)
-      (subst (λ (b : Bool). (not b || eqb j w || beats rows w j) ≡ true) t (every-at n (λ (j : ℕ). not (ask j) || eqb j w || beats rows w j) e j h))
+      (subst (λ (b : Bool). (not b || eqb j w || beats rows w j) ≡ true) t
+      (every-at n (λ (j : ℕ). not (ask j) || eqb j w || beats rows w j) e j h))
 
   others-every : (w : ℕ) → BeatsOthers n ask rows w → beatsEveryOther n ask rows w ≡ true
   unfolding beatsEveryOther

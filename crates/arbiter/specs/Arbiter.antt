@@ -17,11 +17,28 @@ pub record Arbiter : Type 0 where
   pub pointer : ℕ
   pub rows : List ℕ
 
+abbrev pub arbiterOf : ℕ → List ℕ → Arbiter
+arbiterOf pointer rows = record { pointer = pointer; rows = rows }
+
 abbrev pub ofNarrow : Narrow → Arbiter
-ofNarrow a = record { pointer = a .pointer; rows = a .rows }
+ofNarrow a = arbiterOf (a .pointer) (a .rows)
 
 abbrev pub ofWide : Wide → Arbiter
-ofWide a = record { pointer = a .pointer; rows = a .rows }
+ofWide a = arbiterOf (a .pointer) (a .rows)
+
+-- an arbiter in its struct
+abbrev pub asNarrow : Arbiter → Narrow
+asNarrow a = record { pointer = a .pointer; rows = a .rows }
+
+abbrev pub asWide : Arbiter → Wide
+asWide a = record { pointer = a .pointer; rows = a .rows }
+
+-- one of the two changed, the other kept
+abbrev pub withPointer : ℕ → Arbiter → Arbiter
+withPointer pointer a = arbiterOf pointer (a .rows)
+
+abbrev pub withRows : List ℕ → Arbiter → Arbiter
+withRows rows a = arbiterOf (a .pointer) rows
 
 -- "Arbiter code 1 (round robin) or 2 (matrix)" (01, sizes)
 abbrev pub roundRobin : ℕ
@@ -47,8 +64,7 @@ choice places code n ask a =
 unfoldable pub moved : ℕ → ℕ → ℕ → ℕ → Arbiter → Arbiter
 moved places code n w a =
     cond (usable places code n (a .pointer) && ltb w n)
-    (cond (eqb code roundRobin) (record { pointer = pointerAfter n w; rows = a .rows })
-    (record { pointer = a .pointer; rows = defeated n w (a .rows) })) a
+    (cond (eqb code roundRobin) (withPointer (pointerAfter n w) a) (withRows (defeated n w (a .rows)) a)) a
 
 -- "No request: no winner, nothing moves."
 unfoldable pub after : ℕ → ℕ → ℕ → Option ℕ → Arbiter → Arbiter
@@ -58,7 +74,7 @@ after places code n (some w) a = moved places code n w a
 -- a fresh arbiter; the rows of round robin, and of an arbiter that is not known, are zero
 unfoldable pub fresh : ℕ → ℕ → ℕ → Arbiter
 fresh places code n =
-    record { pointer = 0; rows = cond (known places code n && eqb code matrix) (freshRows places n) (replicate places 0) }
+    arbiterOf 0 (cond (known places code n && eqb code matrix) (freshRows places n) (replicate places 0))
 
 -- "one row of priority bits for each requester" there is room for; "round-robin pointers are below their width and matrices are a total
 -- order, no requester beating itself"; rows and bits beyond the width, and the other kind's state, are zero (01, sound states)

@@ -10,7 +10,7 @@ ghost use Prim.Native.Nat.{_≤_};
 ghost use lib.ListN.{length, replicate};
 ghost use Rattle.arbiter.specs.Requests.{asks, winnerOf};
 ghost use Rattle.arbiter.specs.Matrix.{blankFrom};
-ghost use Rattle.arbiter.specs.Arbiter.{Arbiter, known, usable, choice, moved, fresh, sound};
+ghost use Rattle.arbiter.specs.Arbiter.{Arbiter, arbiterOf, known, usable, choice, moved, fresh, sound};
 
 // "Arbiter code 1 (round robin) or 2 (matrix)".
 const ROUND_ROBIN: u8 = 1;
@@ -64,7 +64,7 @@ pub(crate) fn choose(
     rows: &[u32],
 ) -> Pick
     requires { ⌜ (places ≤ 32) × (length (now rows) ≡ places) ⌝ }
-    ensures { λ r. ⌜ winnerOf r ≡ choice places code n (asks requests) (record { pointer = pointer; rows = now (rows .entry) }) ⌝ }
+    ensures { λ r. ⌜ winnerOf r ≡ choice places code n (asks requests) (arbiterOf pointer (now (rows .entry))) ⌝ }
 {
     if !is_usable(places, code, n, pointer) {
         return Pick::Nobody;
@@ -79,7 +79,8 @@ pub(crate) fn choose(
 // The pointer after w has won; the rows are changed where they lie.
 pub(crate) fn settle(places: u32, code: u8, n: u32, w: u32, pointer: u32, rows: &mut [u32]) -> u32
     requires { ⌜ (places ≤ 32) × (length (now rows) ≡ places) ⌝ }
-    ensures { λ r. ⌜ _≡_ {A = Arbiter} (record { pointer = r; rows = now (rows .exit) }) (moved places code n w (record { pointer = pointer; rows = now (rows .entry) })) ⌝ }
+    ensures { λ r. ⌜ _≡_ {A = Arbiter} (arbiterOf r (now (rows .exit)))
+        (moved places code n w (arbiterOf pointer (now (rows .entry)))) ⌝ }
 {
     if !is_usable(places, code, n, pointer) {
         return pointer;
@@ -96,7 +97,7 @@ pub(crate) fn settle(places: u32, code: u8, n: u32, w: u32, pointer: u32, rows: 
 
 pub(crate) fn is_sound(places: u32, code: u8, n: u32, pointer: u32, rows: &[u32]) -> bool
     requires { ⌜ (places ≤ 32) × (length (now rows) ≡ places) ⌝ }
-    ensures { λ r. ⌜ r ≡ sound places code n (record { pointer = pointer; rows = now (rows .entry) }) ⌝ }
+    ensures { λ r. ⌜ r ≡ sound places code n (arbiterOf pointer (now (rows .entry))) ⌝ }
 {
     if !is_known(places, code, n) {
         return false;

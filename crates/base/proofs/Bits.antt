@@ -4,7 +4,8 @@ use mathlib.Core.Path.{_≡_, refl, sym, ap, subst, subst₂, _∙_}
 use mathlib.Core.Logic.{_⊎_, inl, inr}
 use mathlib.Core.Bool.{Bool, true, false, cond, not, _&&_, _||_, true≢false, false≢true, and-true, and-false, or-false}
 use Prim.Native.Nat.{ℕ, zero, suc, _+_, _-_, _*_, _/_, _%_, _^_, _≤_, _<_}
-use native.Mathlib.Nat.{zero-div, div-eq-of-lt, add-zero, one-mul, pow-suc, lt-of-lt-of-le, mod-lt, div-one, mod-eq-of-lt, le-refl, not-suc-le-zero, suc-mul}
+use native.Mathlib.Nat.{zero-div, div-eq-of-lt, add-zero, one-mul, pow-suc, lt-of-lt-of-le, mod-lt, div-one, mod-eq-of-lt, le-refl}
+use native.Mathlib.Nat.{not-suc-le-zero, suc-mul}
 use native.Mathlib.Numerals.{one-add}
 use native.Mathlib.Omega.{arith}
 use lib.Dec.{eqb, ltb, lit<, eqb·zero-suc, eqb·suc-zero, eqb·suc-suc}
@@ -90,7 +91,8 @@ pub bit-ext : (k x y : ℕ) → x < 2 ^ k → y < 2 ^ k → ((i : ℕ) → i < k
 bit-ext zero x y hx hy same = omega arith
 bit-ext (suc k) x y hx hy same =
     let low : x % 2 ≡ y % 2 = digit-of x y (sym (bit-first x) ∙ same 0 (omega arith) ∙ bit-first y) in
-    let rest : x / 2 ≡ y / 2 = bit-ext k (x / 2) (y / 2) (half-lt x k hx) (half-lt y k hy) (λ i h. bit-half x i ∙ same (suc i) (omega arith) ∙ sym (bit-half y i)) in
+    let rest : x / 2 ≡ y / 2 = bit-ext k (x / 2) (y / 2) (half-lt x k hx) (half-lt y k hy)
+    (λ i h. bit-half x i ∙ same (suc i) (omega arith) ∙ sym (bit-half y i)) in
     omega arith
 
 -- `1 << w`: the one bit w

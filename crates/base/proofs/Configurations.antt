@@ -13,7 +13,8 @@ use lib.ListN.{length, getD}
 use borrow.Author.Tests.{leb-true, le-leb}
 use Rattle.base.specs.declared.config.Config.{Config}
 use Rattle.base.specs.declared.config.Judged.{Judged}
-use Rattle.base.specs.Sizes.{Field, field, fieldsOf, inRange, firstIllegal, illegalField, fieldOf, Outcome, numbered, outcomeOf}
+use Rattle.base.specs.Sizes.{Bounds, Field, field, fieldsOf, inRange, firstIllegal, illegalField, fieldOf, ConfigOutcome}
+use Rattle.base.specs.Sizes.{numbered, configOutcome}
 use Rattle.base.proofs.Search.{both}
 
 -- the field at place m, counted from 0; past the last, one that is in range
@@ -72,15 +73,9 @@ illegal-exact c m = (first, back)
     back : FirstOut (fieldsOf c) m → firstIllegal 1 (fieldsOf c) ≡ some (suc m)
     back o = let e : 1 + m ≡ suc m = omega arith in out-first 1 (fieldsOf c) m o ∙ ap some e
 
--- a legal configuration, field by field
-pub record Legal (c : Config) : Type 0 where
-  pub ports : (1 ≤ c .ports) × (c .ports ≤ 8)
-  pub vcs : (1 ≤ c .vcs) × (c .vcs ≤ 4)
-  pub depth : (1 ≤ c .depth) × (c .depth ≤ 16)
-  pub downstream : (1 ≤ c .downstream) × (c .downstream ≤ 16)
-  pub forward : (1 ≤ c .forward) × (c .forward ≤ 8)
-  pub back : (1 ≤ c .back) × (c .back ≤ 8)
-  pub arbiter : (1 ≤ c .arbiter) × (c .arbiter ≤ 2)
+-- a legal configuration
+abbrev pub Legal : Config → Type 0
+Legal c = Bounds 1 c
 
 all-in-range : (k : ℕ) (fs : List Field) → firstIllegal k fs ≡ none → (j : ℕ) → j < length fs → inRange (fieldAt fs j) ≡ true
 unfolding firstIllegal
@@ -94,16 +89,22 @@ all-in-range k (f ∷ fs) e j l = go (inRange f) refl e (λ q. all-in-range (suc
     go true p q rest (suc j) l = rest q j (omega arith)
     go false p q rest j l = absurd (Option·some-ne-none k q)
 
+-- the test of a range is exact
+range : (x a b : ℕ) → inRange (field x a b) ≡ true → (a ≤ x) × (x ≤ b)
+unfolding inRange
+range x a b e = let p = both (leb a x) (leb x b) e in (leb-true a x (p .0), leb-true x b (p .1))
+
+pub in-range : (x a b : ℕ) → a ≤ x → x ≤ b → inRange (field x a b) ≡ true
+unfolding inRange
+in-range x a b l m = ap₂ _&&_ (le-leb a x l) (le-leb x b m)
+
 -- no field is named exactly when the configuration is legal
 pub legal-exact : (c : Config) → (illegalField c ≡ none) ↔ Legal c
-unfolding illegalField firstIllegal inRange
+unfolding illegalField firstIllegal
 legal-exact c = (is, holds)
   where
-    range : (x a b : ℕ) → inRange (field x a b) ≡ true → (a ≤ x) × (x ≤ b)
-    range x a b e = let p = both (leb a x) (leb x b) e in (leb-true a x (p .0), leb-true x b (p .1))
-
     fits : (x a b : ℕ) → (a ≤ x) × (x ≤ b) → inRange (field x a b) ≡ true
-    fits x a b r = ap₂ _&&_ (le-leb a x (r .0)) (le-leb x b (r .1))
+    fits x a b r = in-range x a b (r .0) (r .1)
 
     is : firstIllegal 1 (fieldsOf c) ≡ none → Legal c
     is e =
@@ -133,10 +134,10 @@ legal-exact c = (is, holds)
 -- number and field say which field it is, if any
 numbered-field : (o q : Option ℕ) → numbered o ≡ numbered q → q ≡ o
 numbered-field none none e = refl
-numbered-field none (some k) e = let h = ap (λ (x : Outcome). x .number) e in absurd (omega (arith, h))
-numbered-field (some j) none e = let h = ap (λ (x : Outcome). x .number) e in absurd (omega (arith, h))
-numbered-field (some j) (some k) e = ap some (sym (ap (λ (x : Outcome). x .field) e))
+numbered-field none (some k) e = let h = ap (λ (x : ConfigOutcome). x .number) e in absurd (omega (arith, h))
+numbered-field (some j) none e = let h = ap (λ (x : ConfigOutcome). x .number) e in absurd (omega (arith, h))
+numbered-field (some j) (some k) e = ap some (sym (ap (λ (x : ConfigOutcome). x .field) e))
 
 -- so what is learnt of an answer is its field
-pub judged-field : (j : Judged) (o : Option ℕ) → outcomeOf j ≡ numbered o → o ≡ fieldOf j
+pub judged-field : (j : Judged) (o : Option ℕ) → configOutcome j ≡ numbered o → o ≡ fieldOf j
 judged-field j o e = numbered-field (fieldOf j) o e

@@ -1,11 +1,17 @@
--- Lists alone: parts of parts.
+-- Lists alone: rows of zeros, parts of parts.
 -- Assumes nothing.
 use mathlib.Core.Path.{_≡_, refl}
 use mathlib.Core.List.{List, [], _∷_}
 use Prim.Native.Nat.{ℕ, zero, suc, _+_, _-_, _≤_}
 use native.Mathlib.Omega.{arith}
-use lib.ListN.{length, take, drop, length-drop}
+use lib.ListN.{length, getD, replicate, take, drop, length-drop}
 use lib.Seq.{take-all, take-take}
+
+-- a row of zeros has nothing but zeros
+pub getD-zeros : (n k : ℕ) → _≡_ {A = ℕ} (getD (replicate n 0) k 0) 0
+getD-zeros zero k = refl
+getD-zeros (suc n) zero = refl
+getD-zeros (suc n) (suc k) = getD-zeros n k
 
 -- what lies inside the first m is there in the whole
 pub take-inside : (n u m : ℕ) (l : List ℕ) → u + n ≤ m → take n (drop u (take m l)) ≡ take n (drop u l)

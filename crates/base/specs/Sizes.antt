@@ -3,7 +3,7 @@
 use mathlib.Core.Bool.{Bool, cond, _&&_}
 use mathlib.Core.List.{List, [], _∷_}
 use mathlib.Core.Option.{Option, some, none}
-use Prim.Native.Nat.{ℕ, suc}
+use Prim.Native.Nat.{ℕ, suc, _≤_}
 use lib.Dec.{leb}
 use Rattle.base.specs.Numbers as numbers
 use Rattle.base.specs.declared.config.Config.{Config}
@@ -16,6 +16,34 @@ mostPorts = 8
 
 abbrev pub mostVcs : ℕ
 mostVcs = 4
+
+-- so at most 32 channels
+abbrev pub mostChannels : ℕ
+mostChannels = 32
+
+-- P, V, D, E, F, B and the arbiter code, in the document's order
+abbrev pub sized : ℕ → ℕ → ℕ → ℕ → ℕ → ℕ → ℕ → Config
+sized p v d e f b code = record { ports = p; vcs = v; depth = d; downstream = e; forward = f; back = b; arbiter = code }
+
+-- no configuration, as before a file's first block
+abbrev pub noConfig : Config
+noConfig = sized 0 0 0 0 0 0 0
+
+abbrev pub withDepth : ℕ → Config → Config
+withDepth d c = sized (c .ports) (c .vcs) d (c .downstream) (c .forward) (c .back) (c .arbiter)
+
+abbrev pub withDownstream : ℕ → Config → Config
+withDownstream e c = sized (c .ports) (c .vcs) (c .depth) e (c .forward) (c .back) (c .arbiter)
+
+-- each field at least so much and at most what its range ends with: from 1 on a configuration is legal, from 0 on it may be none
+pub record Bounds (least : ℕ) (c : Config) : Type 0 where
+  pub ports : (least ≤ c .ports) × (c .ports ≤ mostPorts)
+  pub vcs : (least ≤ c .vcs) × (c .vcs ≤ mostVcs)
+  pub depth : (least ≤ c .depth) × (c .depth ≤ 16)
+  pub downstream : (least ≤ c .downstream) × (c .downstream ≤ 16)
+  pub forward : (least ≤ c .forward) × (c .forward ≤ 8)
+  pub back : (least ≤ c .back) × (c .back ≤ 8)
+  pub arbiter : (least ≤ c .arbiter) × (c .arbiter ≤ 2)
 
 -- "At most 1,000,000,000 accepted cycles in a run"
 abbrev pub cycleLimit : ℕ
@@ -59,14 +87,14 @@ fieldOf Legal = none
 fieldOf (Illegal k) = some k
 
 -- What a judgement gives back: 0, or 1 with the field.
-pub record Outcome : Type 0 where
+pub record ConfigOutcome : Type 0 where
   pub number : ℕ
   pub field : ℕ
 
-abbrev pub numbered : Option ℕ → Outcome
+abbrev pub numbered : Option ℕ → ConfigOutcome
 numbered none = record { number = numbers.done; field = 0 }
 numbered (some k) = record { number = numbers.configurationWrong; field = k }
 
 -- the number and the field that an answer stands for
-abbrev pub outcomeOf : Judged → Outcome
-outcomeOf j = numbered (fieldOf j)
+abbrev pub configOutcome : Judged → ConfigOutcome
+configOutcome j = numbered (fieldOf j)

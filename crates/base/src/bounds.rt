@@ -3,6 +3,11 @@ pub const PORTS: u8 = 8;
 
 pub const VCS: u8 = 4;
 
+// The places of an array over the ports, and of one over the channels.
+pub const PORT_PLACES: usize = 8;
+
+pub const CHANNEL_PLACES: usize = 32;
+
 // "At most 1,000,000,000 accepted cycles in a run"; "flits at most 8·10^9".
 pub const CYCLE_LIMIT: u64 = 1_000_000_000;
 

@@ -1,6 +1,8 @@
 // The configuration, and the one test that it is legal.
+use crate::bounds::PORTS;
+use crate::bounds::VCS;
 ghost use mathlib.Core.Path.{_≡_};
-ghost use Rattle.base.specs.Sizes.{field, inRange, illegalField, numbered, outcomeOf};
+ghost use Rattle.base.specs.Sizes.{noConfig, field, inRange, illegalField, numbered, configOutcome};
 
 // "Ports P", "VCs per port V", "Input depth D", "Downstream depth E", "Forward delay F", "credit delay B", "Arbiter code".
 pub struct Config {
@@ -30,14 +32,29 @@ fn within(value: u8, least: u8, most: u8) -> bool
 }
 
 impl Config {
+    // No configuration: all zero, as before a file's first block. It is not legal.
+    pub fn none() -> Self
+        ensures { λ r. ⌜ r ≡ noConfig ⌝ }
+    {
+        Config {
+            ports: 0,
+            vcs: 0,
+            depth: 0,
+            downstream: 0,
+            forward: 0,
+            back: 0,
+            arbiter: 0,
+        }
+    }
+
     // 0, or 1 with the first field, counted from 1, that is out of its range.
     pub fn judged(self) -> Judged
-        ensures { λ r. ⌜ outcomeOf r ≡ numbered (illegalField self) ⌝ }
+        ensures { λ r. ⌜ configOutcome r ≡ numbered (illegalField self) ⌝ }
     {
-        if !within(self.ports, 1, 8) {
+        if !within(self.ports, 1, PORTS) {
             return Judged::Illegal(1);
         }
-        if !within(self.vcs, 1, 4) {
+        if !within(self.vcs, 1, VCS) {
             return Judged::Illegal(2);
         }
         if !within(self.depth, 1, 16) {

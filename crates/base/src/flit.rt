@@ -18,6 +18,7 @@ pub struct Flit {
 }
 
 impl Flit {
+    // The flit of a row: its kind, the port that it names (0 on B and T) and its payload.
     pub fn new(kind: u8, destination: u8, payload: u32) -> Self
         ensures { λ r. ⌜ r ≡ flitOf kind destination payload ⌝ }
     {
@@ -35,12 +36,14 @@ impl Flit {
         (self.word / 34359738368 % 8) as u8
     }
 
+    // The output port that a head or a single names.
     pub fn destination(self) -> u8
         ensures { λ r. ⌜ r ≡ destinationOf self ⌝ }
     {
         (self.word / 4294967296 % 8) as u8
     }
 
+    // The payload, which the router only carries.
     pub fn payload(self) -> u32
         ensures { λ r. ⌜ r ≡ payloadOf self ⌝ }
     {

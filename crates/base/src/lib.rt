@@ -6,10 +6,12 @@ mod flit;
 mod numbers;
 mod reply;
 
+pub use bounds::CHANNEL_PLACES;
 pub use bounds::CYCLE_LIMIT;
 pub use bounds::FLIT_LIMIT;
 pub use bounds::LARGEST_NUMBER;
 pub use bounds::LARGEST_PLACE;
+pub use bounds::PORT_PLACES;
 pub use bounds::PORTS;
 pub use bounds::ROOM;
 pub use bounds::VCS;

@@ -5,23 +5,22 @@ use mathlib.Core.Bool.{true, false}
 use mathlib.Core.Option.{Option, some, none}
 use Prim.Native.Nat.{ℕ}
 use Rattle.base.specs.declared.config.Config.{Config}
-use Rattle.base.specs.Sizes.{illegalField, firstIllegal, inRange, fieldOf}
+use Rattle.base.specs.Sizes.{sized, illegalField, firstIllegal, inRange, fieldOf, noConfig}
 use Rattle.base.proofs.Configurations.{legal-exact}
 use Rattle.state.specs.declared.building.Built.{Built}
-use Rattle.state.specs.Fresh.{freshRouter, noConfig, builtOf}
-use Rattle.state.specs.Sound.{isNone, all, configurationLegal, clauses, sound}
+use Rattle.state.specs.Fresh.{freshRouter, builtOf}
+use Rattle.state.specs.Sound.{isNone, all, configurationLegal, sound}
 use Rattle.state.proofs.FreshIsSound.{fresh-passes}
-use Rattle.edges.specs.States.{ofDepth}
 
-pub sixteen : illegalField (ofDepth 16) ≡ none
+pub sixteen : illegalField (sized 2 2 16 2 2 2 1) ≡ none
 unfolding illegalField firstIllegal inRange
 sixteen = refl
 
-pub seventeen : illegalField (ofDepth 17) ≡ some 3
+pub seventeen : illegalField (sized 2 2 17 2 2 2 1) ≡ some 3
 unfolding illegalField firstIllegal inRange
 seventeen = refl
 
-pub nought : illegalField (ofDepth 0) ≡ some 3
+pub nought : illegalField (sized 2 2 0 2 2 2 1) ≡ some 3
 unfolding illegalField firstIllegal inRange
 nought = refl
 
@@ -35,14 +34,16 @@ unfolding builtOf
 legal-sound b c e h = ap (λ (x : Built). sound (x .router)) (e ∙ ap (λ (o : Option ℕ). builtOf o c) h) ∙ fresh-passes c (legal-exact c .0 h)
 
 -- a refused one
-pub refused-field : (b : Built) (c : Config) (k : ℕ) → b ≡ builtOf (illegalField c) c → illegalField c ≡ some k → fieldOf (b .judged) ≡ some k
+pub refused-field : (b : Built) (c : Config) (k : ℕ) → b ≡ builtOf (illegalField c) c → illegalField c ≡ some k → fieldOf (b .judged)
+    ≡ some k
 unfolding builtOf
 refused-field b c k e h = ap (λ (x : Built). fieldOf (x .judged)) (e ∙ ap (λ (o : Option ℕ). builtOf o c) h)
 
-pub refused-zero : (b : Built) (c : Config) (k : ℕ) → b ≡ builtOf (illegalField c) c → illegalField c ≡ some k → b .router ≡ freshRouter noConfig
+pub refused-zero : (b : Built) (c : Config) (k : ℕ) → b ≡ builtOf (illegalField c) c → illegalField c ≡ some k → b .router
+    ≡ freshRouter noConfig
 unfolding builtOf
 refused-zero b c k e h = ap (λ (x : Built). x .router) (e ∙ ap (λ (o : Option ℕ). builtOf o c) h)
 
 pub zero-unsound : sound (freshRouter noConfig) ≡ false
-unfolding sound all clauses configurationLegal isNone illegalField firstIllegal inRange freshRouter
+unfolding sound all configurationLegal isNone illegalField firstIllegal inRange freshRouter
 zero-unsound = refl

@@ -18,16 +18,22 @@ use Rattle.arbiter.specs.Arbiter as arbiter
 use Rattle.state.specs.declared.Router.{Router}
 use Rattle.state.specs.Fresh.{freshRouter}
 use Rattle.state.specs.Views.{queueAt, places, wireOf, homeOf, flat, total}
-use Rattle.state.specs.Sound.{isNone, all, configurationLegal, cyclesFit, creditsWhole, creditsAddUp, legalFlit, wirePlaceLegal, wireLegal, homeLegal, queuesLegal, outputCreditsFit, namesAgree, arbitersSound, reading, reads, packetsRead, channelsUnused, slotsEmpty, lineUnused, arbitersUnused, shaped, clauses, sound}
+use Rattle.state.specs.Sound.{isNone, all, configurationLegal, cyclesFit, creditsWhole, creditsAddUp, legalFlit, wirePlaceLegal}
+use Rattle.state.specs.Sound.{wireLegal, homeLegal, queuesLegal, outputCreditsFit, namesAgree, arbitersSound, reading, reads}
+use Rattle.state.specs.Sound.{packetsRead, channelsUnused, slotsEmpty, lineUnused, arbitersUnused, shaped, sound}
 use Rattle.store.specs.Store.{frontOf, pushed, movedUp, popped}
-use Rattle.state.proofs.SoundStates.{withCycle, withInput, withOutput, withSlot, withWire, withHome, config, turns, unbound, bound, held, head, single, body, on}
+use Rattle.state.proofs.SoundStates.{withInput, withOutput, withSlot, withWirePlace, withHomePlace, config, turns, unbound, bound}
+use Rattle.state.proofs.SoundStates.{held, head, single, body, on}
 use Rattle.trace.specs.Bytes.{bigEndian}
+use Rattle.state.specs.Setters.{withCycle}
 use Rattle.rules.specs.declared.Stepped.{Stepped}
 use Rattle.rules.specs.declared.Verdict.the-variants.{Accepted}
 use Rattle.rules.specs.Ports.{overPorts}
 use Rattle.rules.specs.Rows.{rowZero, noOffer, legalOffer, rowLegal}
-use Rattle.rules.specs.Intake.{advanced, sendersPaid, reported, creditsReached, outputsPaid, creditsReturned, landings, landed, offers, offersTaken}
-use Rattle.rules.specs.Allocation.{asks, freeVc, grantOf, bindings, wideMoved, narrowMoved, allocated, isReady, inputPick, request, outputPick, switched, winner}
+use Rattle.rules.specs.Intake.{advanced, sendersPaid, reported, creditsReached, outputsPaid, creditsReturned, landings, landed, offers}
+use Rattle.rules.specs.Intake.{offersTaken}
+use Rattle.rules.specs.Allocation.{asks, freeVc, grantOf, bindings, wideMoved, narrowMoved, allocated, isReady, inputPick, request}
+use Rattle.rules.specs.Allocation.{outputPick, switched, winner}
 use Rattle.rules.specs.Departures.{departures, leavingOf}
 use Rattle.rules.specs.Numbers.{refusing, runFull, rowWrong, creditPastRoom, outOfTurn, noSenderCredit, firstOf, judged}
 use Rattle.rules.specs.Step.{takenIn, sentOut, routerAfter, replyOf, stepOf}
@@ -38,8 +44,17 @@ abbrev idle : List ℕ
 idle = replicate 64 0
 
 -- the last cycle of a run
-pub last-accepted : stepOf (withCycle 999999999 turns) idle ≡ record { verdict = Accepted; router = withCycle 1000000000 turns; reply = emptyReply }
-unfolding withCycle config turns xor firstFrom every orElse inRange firstIllegal illegalField flitOf kindOf destinationOf payloadOf startsKind endsKind nextInTurn pointerAfter blankFrom arbiter.known arbiter.usable arbiter.choice arbiter.moved arbiter.after arbiter.fresh arbiter.sound queueAt places wireOf homeOf flat total isNone all configurationLegal cyclesFit creditsWhole creditsAddUp legalFlit wirePlaceLegal wireLegal homeLegal queuesLegal outputCreditsFit namesAgree arbitersSound reading reads packetsRead channelsUnused slotsEmpty lineUnused arbitersUnused shaped clauses sound frontOf pushed movedUp popped bigEndian overPorts rowZero noOffer legalOffer rowLegal advanced sendersPaid reported creditsReached outputsPaid creditsReturned landings landed offers offersTaken asks freeVc grantOf bindings wideMoved narrowMoved allocated isReady inputPick request outputPick switched winner departures leavingOf runFull rowWrong creditPastRoom outOfTurn noSenderCredit firstOf judged takenIn sentOut routerAfter replyOf stepOf freshRouter
+pub last-accepted : stepOf (withCycle 999999999 turns) idle ≡ record
+    { verdict = Accepted; router = withCycle 1000000000 turns; reply = emptyReply }
+unfolding config turns xor firstFrom every orElse inRange firstIllegal illegalField flitOf kindOf destinationOf payloadOf
+    startsKind endsKind nextInTurn pointerAfter blankFrom arbiter.known arbiter.usable arbiter.choice arbiter.moved arbiter.after
+    arbiter.fresh arbiter.sound queueAt places wireOf homeOf flat total isNone all configurationLegal cyclesFit creditsWhole
+    creditsAddUp legalFlit wirePlaceLegal wireLegal homeLegal queuesLegal outputCreditsFit namesAgree arbitersSound reading reads
+    packetsRead channelsUnused slotsEmpty lineUnused arbitersUnused shaped sound frontOf pushed movedUp popped bigEndian
+    overPorts rowZero noOffer legalOffer rowLegal advanced sendersPaid reported creditsReached outputsPaid creditsReturned landings
+    landed offers offersTaken asks freeVc grantOf bindings wideMoved narrowMoved allocated isReady inputPick request outputPick switched
+    winner departures leavingOf runFull rowWrong creditPastRoom outOfTurn noSenderCredit firstOf judged takenIn sentOut routerAfter
+    replyOf stepOf freshRouter
 last-accepted = refl
 
 module _ (t : Router) (e : t ≡ turns) (x : Stepped) (f : x ≡ stepOf (withCycle 999999999 t) idle) where
@@ -56,20 +71,28 @@ module _ (t : Router) (e : t ≡ turns) (x : Stepped) (f : x ≡ stepOf (withCyc
   last-reply = ap (λ (y : Stepped). y .reply) last-is
 
 full-sound : sound (withCycle 1000000000 turns) ≡ true
-unfolding withCycle config turns xor every inRange firstIllegal illegalField flitOf kindOf destinationOf startsKind endsKind blankFrom arbiter.known arbiter.fresh arbiter.sound queueAt places wireOf homeOf flat total isNone all configurationLegal cyclesFit creditsWhole creditsAddUp legalFlit wirePlaceLegal wireLegal homeLegal queuesLegal outputCreditsFit namesAgree arbitersSound reading reads packetsRead channelsUnused slotsEmpty lineUnused arbitersUnused shaped clauses sound freshRouter
+unfolding config turns xor every inRange firstIllegal illegalField flitOf kindOf destinationOf startsKind endsKind blankFrom
+    arbiter.known arbiter.fresh arbiter.sound queueAt places wireOf homeOf flat total isNone all configurationLegal cyclesFit
+    creditsWhole creditsAddUp legalFlit wirePlaceLegal wireLegal homeLegal queuesLegal outputCreditsFit namesAgree arbitersSound reading
+    reads packetsRead channelsUnused slotsEmpty lineUnused arbitersUnused shaped sound freshRouter
 full-sound = refl
 
 busy-sound : sound busy ≡ true
-unfolding busy busyFrom withInput withOutput withSlot withWire withHome unbound bound held head single body on config turns xor every inRange firstIllegal illegalField flitOf kindOf destinationOf startsKind endsKind blankFrom arbiter.known arbiter.fresh arbiter.sound queueAt places wireOf homeOf flat total isNone all configurationLegal cyclesFit creditsWhole creditsAddUp legalFlit wirePlaceLegal wireLegal homeLegal queuesLegal outputCreditsFit namesAgree arbitersSound reading reads packetsRead channelsUnused slotsEmpty lineUnused arbitersUnused shaped clauses sound freshRouter
+unfolding busy busyFrom withInput withOutput withSlot withWirePlace withHomePlace unbound bound held head single body on config turns
+    xor every
+    inRange firstIllegal illegalField flitOf kindOf destinationOf startsKind endsKind blankFrom arbiter.known arbiter.fresh
+    arbiter.sound queueAt places wireOf homeOf flat total isNone all configurationLegal cyclesFit creditsWhole creditsAddUp legalFlit
+    wirePlaceLegal wireLegal homeLegal queuesLegal outputCreditsFit namesAgree arbitersSound reading reads packetsRead channelsUnused
+    slotsEmpty lineUnused arbitersUnused shaped sound freshRouter
 busy-sound = refl
 
 busy-early : runFull (busy .cycle) ≡ false
-unfolding busy busyFrom withInput withOutput withSlot withWire withHome turns freshRouter runFull
+unfolding busy busyFrom withInput withOutput withSlot withWirePlace withHomePlace turns freshRouter runFull
 busy-early = refl
 
 -- 10 after the last cycle, whatever the part
 pub full-refused : (t : Router) → t ≡ turns → (part : List ℕ) → stepOf (withCycle 1000000000 t) part .verdict ≡ refusing numbers.runFull 0
-unfolding runFull withCycle
+unfolding runFull
 full-refused t e part =
     ten-exactly (withCycle 1000000000 t) part 0 .1 (
       λ i h. ap (λ (x : Router). not (sound (withCycle 1000000000 x))) e ∙ ap not full-sound,
@@ -77,7 +100,8 @@ full-refused t e part =
     )
 
 -- 3 with port 0 where the part is not 64 bytes long
-pub length-refused : (s : Router) → s ≡ busy → (part : List ℕ) → eqb (length part) 64 ≡ false → stepOf s part .verdict ≡ refusing numbers.rowWrong 0
+pub length-refused : (s : Router) → s ≡ busy → (part : List ℕ) → eqb (length part) 64 ≡ false → stepOf s part .verdict
+    ≡ refusing numbers.rowWrong 0
 unfolding runFull rowWrong
 length-refused s e part h =
     three-exactly s part 0 .1 (
@@ -88,8 +112,19 @@ length-refused s e part h =
 
 -- offers that are refused
 pub offers-refused : (s : Router) → s ≡ busy → (stepOf s (set idle 8 5) .verdict ≡ refusing numbers.rowWrong 1)
-    × (stepOf s (set idle 3 1) .verdict ≡ refusing numbers.creditPastRoom 0) × (stepOf s (set idle 8 3) .verdict ≡ refusing numbers.outOfTurn 1)
+    × (stepOf s (set idle 3 1) .verdict ≡ refusing numbers.creditPastRoom 0)
+    × (stepOf s (set idle 8 3) .verdict ≡ refusing numbers.outOfTurn 1)
     × (stepOf s (set idle 0 2) .verdict ≡ refusing numbers.noSenderCredit 0)
-unfolding busy busyFrom withInput withOutput withSlot withWire withHome unbound bound held head single body on config turns xor firstFrom every orElse inRange firstIllegal illegalField flitOf kindOf destinationOf payloadOf startsKind endsKind blankFrom arbiter.known arbiter.fresh arbiter.sound queueAt places wireOf homeOf flat total isNone all configurationLegal cyclesFit creditsWhole creditsAddUp legalFlit wirePlaceLegal wireLegal homeLegal queuesLegal outputCreditsFit namesAgree arbitersSound reading reads packetsRead channelsUnused slotsEmpty lineUnused arbitersUnused shaped clauses sound bigEndian overPorts rowZero noOffer legalOffer rowLegal sendersPaid runFull rowWrong creditPastRoom outOfTurn noSenderCredit firstOf judged stepOf freshRouter
-offers-refused s e =
-    (ap (λ (x : Router). stepOf x (set idle 8 5) .verdict) e, ap (λ (x : Router). stepOf x (set idle 3 1) .verdict) e, ap (λ (x : Router). stepOf x (set idle 8 3) .verdict) e, ap (λ (x : Router). stepOf x (set idle 0 2) .verdict) e)
+unfolding busy busyFrom withInput withOutput withSlot withWirePlace withHomePlace unbound bound held head single body on config turns xor
+    firstFrom every orElse inRange firstIllegal illegalField flitOf kindOf destinationOf payloadOf startsKind endsKind blankFrom
+    arbiter.known arbiter.fresh arbiter.sound queueAt places wireOf homeOf flat total isNone all configurationLegal cyclesFit
+    creditsWhole creditsAddUp legalFlit wirePlaceLegal wireLegal homeLegal queuesLegal outputCreditsFit namesAgree arbitersSound reading
+    reads packetsRead channelsUnused slotsEmpty lineUnused arbitersUnused shaped sound bigEndian overPorts rowZero noOffer
+    legalOffer rowLegal sendersPaid runFull rowWrong creditPastRoom outOfTurn noSenderCredit firstOf judged stepOf freshRouter
+offers-refused s e = (
+  ap (λ (x : Router). stepOf x (set idle 8 5) .verdict) e,
+  ap (λ (x : Router). stepOf x (set idle 3 1) .verdict) e,
+  ap
+      (λ (x : Router). stepOf x (set idle 8 3) .verdict) e,
+  ap (λ (x : Router). stepOf x (set idle 0 2) .verdict) e,
+)

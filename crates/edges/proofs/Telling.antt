@@ -53,7 +53,8 @@ through f g back {x} {y} t = (λ h. sym (back x) ∙ ap g (t .0 h) ∙ back y, �
 pub grown : {A : Type 0} (d : A) (xs ys : List A) (k : ℕ) → k < length xs → k < length ys → (r p q : Bool) → r ≡ (p && q)
     → Tells p (take k xs) (take k ys) → Tells q (getD xs k d) (getD ys k d) → Tells r (take (k + 1) xs) (take (k + 1) ys)
 grown {A} d xs ys k h g r p q e t s = (
-  λ z. let b = both p q (sym e ∙ z) in rw (add-one k, take-suc xs k d h, take-suc ys k d g) (ap₂ (λ (l : List A) (a : A). l ++ (a ∷ [])) (t .0 (b .0)) (s .0 (b .1))),
+  λ z. let b = both p q (sym e ∙ z) in rw (add-one k, take-suc xs k d h, take-suc ys k d g)
+      (ap₂ (λ (l : List A) (a : A). l ++ (a ∷ [])) (t .0 (b .0)) (s .0 (b .1))),
   λ z. e ∙ ap₂ _&&_ (t .1 (shorter z)) (s .1 (last z)),
 )
   where
@@ -73,6 +74,7 @@ grown-all d xs n k h g r p q e t s =
     grown d xs (replicate n d) k h (rw (length-replicate n d) g) r p q e t (rw (getD-replicate n k d d g) s)
 
 -- all elements
-pub whole : {A : Type 0} (xs ys : List A) (n : ℕ) {r : Bool} → length xs ≡ n → length ys ≡ n → Tells r (take n xs) (take n ys) → Tells r xs ys
+pub whole : {A : Type 0} (xs ys : List A) (n : ℕ) {r : Bool} → length xs ≡ n → length ys ≡ n → Tells r (take n xs) (take n ys)
+    → Tells r xs ys
 whole xs ys n e f t =
     (λ h. sym (take-all n xs (omega arith)) ∙ t .0 h ∙ take-all n ys (omega arith), λ h. t .1 (ap (take n) h))

@@ -22,22 +22,24 @@ use Rattle.edges.specs.Same.{Tells}
 use Rattle.edges.proofs.Telling.{numbers, paired, through}
 
 -- what is bound to the same VC; what the same VC holds
-abbrev boundTo : OutVc → Binding → OutVc
-boundTo w Unbound = w
-boundTo w (Bound v) = v
+abbrev boundOr : OutVc → Binding → OutVc
+boundOr w Unbound = w
+boundOr w (Bound v) = v
 
-pub bound-tells : (a b : Binding) (w v : OutVc) (r : Bool) → a ≡ Bound w → b ≡ Bound v → r ≡ (eqb (w .output) (v .output) && eqb (w .vc) (v .vc)) → Tells r a b
+pub bound-tells : (a b : Binding) (w v : OutVc) (r : Bool) → a ≡ Bound w → b ≡ Bound v → r
+    ≡ (eqb (w .output) (v .output) && eqb (w .vc) (v .vc)) → Tells r a b
 bound-tells a b w v r ea eb e =
     let t : Tells r w v =
     through (λ (x : OutVc). (x .output, x .vc)) (λ (p : ℕ × ℕ). record { output = p .0; vc = p .1 }) (λ x. refl)
     (paired r (eqb (w .output) (v .output)) (eqb (w .vc) (v .vc)) e (numbers (w .output) (v .output)) (numbers (w .vc) (v .vc))) in
-    (λ h. ea ∙ ap Bound (t .0 h) ∙ sym eb, λ h. t .1 (ap (boundTo w) (sym ea ∙ h ∙ eb)))
+    (λ h. ea ∙ ap Bound (t .0 h) ∙ sym eb, λ h. t .1 (ap (boundOr w) (sym ea ∙ h ∙ eb)))
 
 abbrev heldBy : InVc → Holder → InVc
 heldBy w Nobody = w
 heldBy w (Held v) = v
 
-pub held-tells : (a b : Holder) (w v : InVc) (r : Bool) → a ≡ Held w → b ≡ Held v → r ≡ (eqb (w .input) (v .input) && eqb (w .vc) (v .vc)) → Tells r a b
+pub held-tells : (a b : Holder) (w v : InVc) (r : Bool) → a ≡ Held w → b ≡ Held v → r
+    ≡ (eqb (w .input) (v .input) && eqb (w .vc) (v .vc)) → Tells r a b
 held-tells a b w v r ea eb e =
     let t : Tells r w v =
     through (λ (x : InVc). (x .input, x .vc)) (λ (p : ℕ × ℕ). record { input = p .0; vc = p .1 }) (λ x. refl)
@@ -52,7 +54,8 @@ abbrev pub isAccepted : Verdict → Bool
 isAccepted Accepted = true
 isAccepted (Refused r) = false
 
-pub refused-tells : (a : Verdict) (w v : Refusal) (r : Bool) → a ≡ Refused w → r ≡ (eqb (w .number) (v .number) && eqb (w .port) (v .port)) → Tells r a (Refused v)
+pub refused-tells : (a : Verdict) (w v : Refusal) (r : Bool) → a ≡ Refused w → r
+    ≡ (eqb (w .number) (v .number) && eqb (w .port) (v .port)) → Tells r a (Refused v)
 refused-tells a w v r ea e =
     let t : Tells r w v =
     through (λ (x : Refusal). (x .number, x .port)) (λ (p : ℕ × ℕ). record { number = p .0; port = p .1 }) (λ x. refl)

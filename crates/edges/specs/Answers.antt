@@ -9,17 +9,17 @@ use Rattle.base.specs.declared.reply.Left.the-variants.{Flit}
 use Rattle.base.specs.declared.reply.Reply.{Reply}
 use Rattle.base.specs.Reply.{emptyReply}
 use Rattle.listing.specs.declared.Written.{Written}
-use Rattle.listing.specs.Writing.{Outcome, outcomeOf}
+use Rattle.listing.specs.Writing.{WriteOutcome, writeOutcome}
 
 -- by listing's own definition of an answer; the buffer has no part in either
 abbrev pub numberOf : Written → ℕ
-numberOf w = outcomeOf w [] .number
+numberOf w = writeOutcome w [] .number
 
 abbrev pub bytesOf : Written → ℕ
-bytesOf w = outcomeOf w [] .bytes
+bytesOf w = writeOutcome w [] .bytes
 
 -- this number, and this line from place 0 on with zeros behind it; no line where the write is refused
-pub record Answers (o : Outcome) (number : ℕ) (line : List ℕ) : Type 0 where
+pub record Answers (o : WriteOutcome) (number : ℕ) (line : List ℕ) : Type 0 where
   pub said : o .number ≡ number
   pub count : o .bytes ≡ length line
   pub fits : length line ≤ length (o .buffer)

@@ -8,7 +8,7 @@ use check::same;
 use listing::Written;
 ghost use mathlib.Core.Path.{_≡_};
 ghost use lib.ListN.{length, replicate};
-ghost use Rattle.listing.specs.Writing.{outcomeOf};
+ghost use Rattle.listing.specs.Writing.{writeOutcome};
 ghost use Rattle.edges.specs.Same.{Tells};
 ghost use Rattle.edges.specs.Answers.{Answers, numberOf, bytesOf};
 
@@ -46,7 +46,7 @@ fn is_zero(bytes: &[u8]) -> bool
 
 // The number, the count of bytes, the line from place 0 on, and nothing behind it. A refused write has no line.
 pub(crate) fn answered(buf: &[u8], written: Written, number: u8, line: &[u8])
-    requires { ⌜ Answers (outcomeOf written (now buf)) number (now line) ⌝ }
+    requires { ⌜ Answers (writeOutcome written (now buf)) number (now line) ⌝ }
 {
     let n = line.len();
     expect(number_of(written) == number);

@@ -1,8 +1,5 @@
-// Routers by value: fresh ones, one in the middle of its work, and the all-zero one.
-use arbiter::Narrow;
-use arbiter::Wide;
+// Routers by value: a fresh one and one in the middle of its work, and what they are made of. All of it starts from a fresh router.
 use base::Config;
-use state::Arbiters;
 use state::Binding;
 use state::Holder;
 use state::InVc;
@@ -11,8 +8,9 @@ use state::OutVc;
 use state::OutputVc;
 use state::Router;
 ghost use mathlib.Core.Path.{_≡_};
-ghost use Rattle.state.specs.Fresh.{freshRouter, noConfig};
-ghost use Rattle.state.proofs.SoundStates.{turns};
+ghost use Rattle.state.specs.Fresh.{freshOutput};
+ghost use Rattle.base.specs.Sizes.{sized};
+ghost use Rattle.state.proofs.SoundStates.{turns, unbound};
 ghost use Rattle.edges.specs.States.{busy};
 
 // Words of flits with payload 7: S and H to output 1, B. On the wire a flit's VC stands above it.
@@ -24,20 +22,51 @@ pub(crate) const BODY: u64 = 2 * 34359738368 + 7;
 
 pub(crate) const ON_VC_1: u64 = 274877906944;
 
-// P = 2, V = 2, D = 3, E = 2, F = 2, B = 2, round robin.
+// P = 2, V = 2, F = 2, B = 2, round robin, with these depths.
+pub(crate) fn config(depth: u8, downstream: u8) -> Config
+    ensures { λ r. ⌜ r ≡ sized 2 2 depth downstream 2 2 1 ⌝ }
+{
+    let mut config = Config::none();
+    config.ports = 2;
+    config.vcs = 2;
+    config.depth = depth;
+    config.downstream = downstream;
+    config.forward = 2;
+    config.back = 2;
+    config.arbiter = 1;
+    config
+}
+
+// The fresh router with D = 3, E = 2.
 pub(crate) fn turns() -> Router
     ensures { λ r. ⌜ r ≡ turns ⌝ }
 {
-    let built = state::fresh(Config {
-        ports: 2,
-        vcs: 2,
-        depth: 3,
-        downstream: 2,
-        forward: 2,
-        back: 2,
-        arbiter: 1,
-    });
+    let built = state::fresh(config(3, 2));
     built.router
+}
+
+// An input VC that is not bound, with these counts.
+pub(crate) fn unbound(credit: u8, opened: bool, queued: u8) -> InputVc
+    ensures { λ r. ⌜ r ≡ unbound credit opened queued ⌝ }
+{
+    let fresh = turns();
+    let inputs = fresh.inputs;
+    let mut input = inputs[0];
+    input.credit = credit;
+    input.opened = opened;
+    input.queued = queued;
+    input
+}
+
+// An output VC that nobody holds, with this credit.
+pub(crate) fn output(credit: u8) -> OutputVc
+    ensures { λ r. ⌜ r ≡ freshOutput credit ⌝ }
+{
+    let fresh = turns();
+    let outputs = fresh.outputs;
+    let mut output = outputs[0];
+    output.credit = credit;
+    output
 }
 
 // Every phase has something to do: a credit home, a flit that lands, a bound packet in its queue.
@@ -45,78 +74,16 @@ pub(crate) fn busy() -> Router
     ensures { λ r. ⌜ r ≡ busy ⌝ }
 {
     let mut router = turns();
-    router.inputs[0] = InputVc {
-        binding: Binding::Bound(OutVc { output: 1, vc: 0 }),
-        credit: 0,
-        inside: true,
-        queued: 3,
-    };
+    let waiting = unbound(0, true, 3);
+    router.inputs[0] = waiting.with_binding(Binding::Bound(OutVc { output: 1, vc: 0 }));
     router.store[0] = HEAD_TO_1;
     router.store[1] = BODY;
     router.store[2] = BODY;
-    router.outputs[2] = OutputVc {
-        holder: Holder::Held(InVc { input: 0, vc: 0 }),
-        credit: 2,
-    };
-    router.inputs[1] = InputVc {
-        binding: Binding::Unbound,
-        credit: 2,
-        inside: false,
-        queued: 0,
-    };
+    let free = output(2);
+    router.outputs[2] = free.with_holder(Holder::Held(InVc { input: 0, vc: 0 }));
+    router.inputs[1] = unbound(2, false, 0);
     router.wire[0] = ON_VC_1 + SINGLE_TO_1;
-    router.inputs[3] = InputVc {
-        binding: Binding::Unbound,
-        credit: 2,
-        inside: false,
-        queued: 0,
-    };
+    router.inputs[3] = unbound(2, false, 0);
     router.home[1] = 2;
     router
-}
-
-// "A refused construction gives an all-zero state."
-pub(crate) fn nothing() -> Router
-    ensures { λ r. ⌜ r ≡ freshRouter noConfig ⌝ }
-{
-    let wide = Wide {
-        pointer: 0,
-        rows: [0u32; 32],
-    };
-    let narrow = Narrow {
-        pointer: 0,
-        rows: [0u32; 8],
-    };
-    let input = InputVc {
-        binding: Binding::Unbound,
-        credit: 0,
-        inside: false,
-        queued: 0,
-    };
-    let output = OutputVc {
-        holder: Holder::Nobody,
-        credit: 0,
-    };
-    Router {
-        config: Config {
-            ports: 0,
-            vcs: 0,
-            depth: 0,
-            downstream: 0,
-            forward: 0,
-            back: 0,
-            arbiter: 0,
-        },
-        cycle: 0,
-        inputs: [input; 32],
-        outputs: [output; 32],
-        store: [0u64; 512],
-        wire: [0u64; 64],
-        home: [0u8; 64],
-        arbiters: Arbiters {
-            vcs: [wide; 8],
-            inputs: [narrow; 8],
-            outputs: [narrow; 8],
-        },
-    }
 }

@@ -43,7 +43,7 @@ fn same_input(a: InputVc, b: InputVc) -> bool
     let x = a.binding;
     let y = b.binding;
     let counts = both(a.credit == b.credit, a.queued == b.queued);
-    let rest = both(bit(a.inside, b.inside), counts);
+    let rest = both(bit(a.opened, b.opened), counts);
     both(same_binding(x, y), rest)
 }
 

@@ -1,28 +1,11 @@
 // "D 16 is legal, 17 and 0 give 1 with field 3."
-use crate::building::nothing;
-use crate::routers::same_router;
-use base::Config;
+use crate::building::config;
 use base::Judged;
 use check::expect;
 ghost use mathlib.Core.Path.{_≡_};
 ghost use mathlib.Core.Option.{some, none};
-ghost use Rattle.base.specs.Sizes.{fieldOf, illegalField};
+ghost use Rattle.base.specs.Sizes.{sized, fieldOf, illegalField};
 ghost use Rattle.edges.specs.Same.{Tells};
-ghost use Rattle.edges.specs.States.{ofDepth};
-
-fn of_depth(depth: u8) -> Config
-    ensures { λ r. ⌜ r ≡ ofDepth depth ⌝ }
-{
-    Config {
-        ports: 2,
-        vcs: 2,
-        depth,
-        downstream: 2,
-        forward: 2,
-        back: 2,
-        arbiter: 1,
-    }
-}
 
 fn is_legal(judged: Judged) -> bool
     ensures { λ r. ⌜ Tells r (fieldOf judged) none ⌝ }
@@ -43,14 +26,14 @@ fn is_field(judged: Judged, field: u8) -> bool
 }
 
 pub(crate) fn depths() {
-    expect(is_legal(of_depth(16).judged()));
-    expect(is_field(of_depth(17).judged(), 3));
-    expect(is_field(of_depth(0).judged(), 3));
+    expect(is_legal(config(16, 2).judged()));
+    expect(is_field(config(17, 2).judged(), 3));
+    expect(is_field(config(0, 2).judged(), 3));
 }
 
 // A fresh router is sound; a refused construction is all zero, and not sound.
 pub(crate) fn constructions() {
-    let legal = state::fresh(of_depth(16));
+    let legal = state::fresh(config(16, 2));
     let judged = legal.judged;
     expect(is_legal(judged));
     let made = legal.router;
@@ -60,12 +43,12 @@ pub(crate) fn constructions() {
 }
 
 fn refused_construction(depth: u8)
-    requires { ⌜ illegalField (ofDepth depth) ≡ some 3 ⌝ }
+    requires { ⌜ illegalField (sized 2 2 depth 2 2 2 1) ≡ some 3 ⌝ }
 {
-    let built = state::fresh(of_depth(depth));
+    let built = state::fresh(config(depth, 2));
     let judged = built.judged;
     expect(is_field(judged, 3));
     let router = built.router;
-    expect(same_router(router, nothing()));
+    expect(state::is_blank(router));
     expect(!state::is_sound(router));
 }

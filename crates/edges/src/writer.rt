@@ -112,7 +112,8 @@ pub(crate) fn longest() {
 }
 
 fn room_at(at: usize, number: u8, bytes: usize)
-    requires { ⌜ (written (replicate 400 0) at (Line·refusal 1 0 0 ∷ []) .number ≡ number) × (written (replicate 400 0) at (Line·refusal 1 0 0 ∷ []) .bytes ≡ bytes) ⌝ }
+    requires { ⌜ (written (replicate 400 0) at (Line·refusal 1 0 0 ∷ []) .number ≡ number)
+        × (written (replicate 400 0) at (Line·refusal 1 0 0 ∷ []) .bytes ≡ bytes) ⌝ }
 {
     let mut buf = [0u8; 400];
     let written = listing::write_refusal(&mut buf, at, 1, 0, 0);

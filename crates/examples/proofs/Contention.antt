@@ -1,5 +1,6 @@
--- Inputs contend for output 1, under either arbiter, on a router of 3 ports with 2 VCs, D = E = F = B = 2: 11 parts, of which one is refused
--- with 5 and one with 6 in the middle. What is expected is worked out by hand from document 01's phases; the run computes the same.
+-- Inputs contend for output 1, under either arbiter, on a router of 3 ports with 2 VCs, D = E = F = B = 2: 11 parts, of which one is
+-- refused with 5 and one with 6 in the middle. What is expected is worked out by hand from document 01's phases; the run computes the
+-- same.
 -- Assumes nothing.
 use mathlib.Core.Path.{_≡_, refl}
 use mathlib.Core.Bool.{Bool, true, cond, xor, _&&_}
@@ -12,9 +13,10 @@ use Rattle.base.specs.declared.flit.Flit.{Flit}
 use Rattle.base.specs.Flit.{head, tail, single, flitOf, kindOf, destinationOf, payloadOf, startsKind, endsKind}
 use Rattle.base.specs.Search.{firstFrom, every, orElse}
 use Rattle.base.proofs.Search as search
-use Rattle.base.specs.Sizes.{Field, inRange, firstIllegal, illegalField}
+use Rattle.base.specs.Sizes.{Field, inRange, firstIllegal, illegalField, sized}
 use Rattle.arbiter.specs.RoundRobin.{nextInTurn, pointerAfter}
-use Rattle.arbiter.specs.Matrix.{beats, beatsEveryOther, champion, raised, defeated, listOf, freshRow, freshRows, totalOrder, within, blankFrom}
+use Rattle.arbiter.specs.Matrix.{beats, beatsEveryOther, champion, raised, defeated, listOf, freshRow, freshRows, totalOrder, within}
+use Rattle.arbiter.specs.Matrix.{blankFrom}
 use Rattle.arbiter.specs.Arbiter as arbiter
 use Rattle.listing.specs.Lines.{Line, credit, flit, finish, refusal, letterOfLine, valuesOf}
 use Rattle.model.specs.Router.{InVc}
@@ -23,16 +25,21 @@ use Rattle.state.specs.declared.Binding.{Binding}
 use Rattle.state.specs.declared.Binding.the-variants.{Unbound, Bound}
 use Rattle.state.specs.declared.InputVc.{InputVc}
 use Rattle.state.specs.declared.Router.{Router}
-use Rattle.state.specs.Fresh.{freshRouter}
+use Rattle.state.specs.Fresh.{freshRouter, freshInput}
 use Rattle.state.specs.Views.{inputAt, queueAt, places, wireOf, homeOf, flat, total}
-use Rattle.state.specs.Sound.{isNone, all, configurationLegal, cyclesFit, creditsWhole, creditsAddUp, legalFlit, wirePlaceLegal, wireLegal, homeLegal, queuesLegal, outputCreditsFit, namesAgree, arbitersSound, reading, reads, packetsRead, channelsUnused, slotsEmpty, lineUnused, arbitersUnused, shaped, clauses, sound}
+use Rattle.state.specs.Sound.{isNone, all, configurationLegal, cyclesFit, creditsWhole, creditsAddUp, legalFlit, wirePlaceLegal}
+use Rattle.state.specs.Sound.{wireLegal, homeLegal, queuesLegal, outputCreditsFit, namesAgree, arbitersSound, reading, reads}
+use Rattle.state.specs.Sound.{packetsRead, channelsUnused, slotsEmpty, lineUnused, arbitersUnused, shaped, sound}
 use Rattle.store.specs.Store.{frontOf, pushed, movedUp, popped}
 use Rattle.trace.specs.Bytes.{bigEndian}
+use Rattle.state.specs.Setters.{withBinding, withOpened}
 use Rattle.rules.specs.declared.Verdict.{Verdict}
 use Rattle.rules.specs.Ports.{overPorts}
 use Rattle.rules.specs.Rows.{rowZero, noOffer, legalOffer, rowLegal}
-use Rattle.rules.specs.Intake.{advanced, sendersPaid, reported, creditsReached, outputsPaid, creditsReturned, landings, landed, offers, offersTaken}
-use Rattle.rules.specs.Allocation.{asks, freeVc, grantOf, bindings, wideMoved, narrowMoved, allocated, isReady, inputPick, request, outputPick, switched, winner}
+use Rattle.rules.specs.Intake.{advanced, sendersPaid, reported, creditsReached, outputsPaid, creditsReturned, landings, landed, offers}
+use Rattle.rules.specs.Intake.{offersTaken}
+use Rattle.rules.specs.Allocation.{asks, freeVc, grantOf, bindings, wideMoved, narrowMoved, allocated, isReady, inputPick, request}
+use Rattle.rules.specs.Allocation.{outputPick, switched, winner}
 use Rattle.rules.specs.Departures.{departures, leavingOf}
 use Rattle.rules.specs.Numbers.{numberOf, portOf, refusing, runFull, rowWrong, creditPastRoom, outOfTurn, noSenderCredit, firstOf, judged}
 use Rattle.rules.specs.Step.{takenIn, sentOut, routerAfter, replyOf, stepOf}
@@ -41,7 +48,7 @@ use Rattle.history.specs.Demand3.{storedCredits, buffered, onWire, goingHome}
 use Rattle.examples.proofs.Same.{same, same-is}
 
 abbrev config : ℕ → Config
-config code = record { ports = 3; vcs = 2; depth = 2; downstream = 2; forward = 2; back = 2; arbiter = code }
+config code = sized 3 2 2 2 2 2 code
 
 -- rows: a flit with a payload below 256 and a credit, a flit, a credit for output VC w, nothing
 abbrev both : ℕ → ℕ → ℕ → ℕ → ℕ → List ℕ
@@ -86,7 +93,13 @@ abbrev linesOf : Entry Flit → List Line
 linesOf e =
     map (λ (r : InVc). credit (e .cycle) (r .input) (r .vc)) (e .reached)
     ++ map (λ (d : Departure Flit).
-    flit (e .cycle) (d .output) (record { «out_vc» = d .outVc; input = d .input; vc = d .vc; kind = kindOf (d .flit); payload = payloadOf (d .flit) }))
+    flit (e .cycle) (d .output) (record {
+      «out_vc» = d .outVc;
+      input = d .input;
+      vc = d .vc;
+      kind = kindOf (d .flit);
+      payload = payloadOf (d .flit);
+    }))
     (e .departures)
 
 -- stored credits, flits on the wire, buffered flits, credits on the way home
@@ -126,25 +139,25 @@ abbrev seenIn : Config → Seen
 seenIn c = seenNext c (runOf c atFirst)
 
 -- `F cycle 1 outvc input invc kind payload`
-abbrev leaves : ℕ → ℕ → ℕ → ℕ → ℕ → ℕ → Line
-leaves cycle w i v kind payload = flit cycle 1 (record { «out_vc» = w; input = i; vc = v; kind = kind; payload = payload })
+abbrev left1 : ℕ → ℕ → ℕ → ℕ → ℕ → ℕ → Line
+left1 cycle w i v kind payload = flit cycle 1 (record { «out_vc» = w; input = i; vc = v; kind = kind; payload = payload })
 
 -- Cycle 2: H of (0,0) beats S of (2,1), is bound and leaves. Cycle 3: (0,1) beats (2,1). Cycle 4: (2,1) has VC 1 at last.
 abbrev alike : List Line
 alike =
-    leaves 2 0 0 0 head 0xa1 ∷ leaves 3 1 0 1 single 0xb1 ∷ credit 4 0 0 ∷ leaves 4 1 2 1 single 0xc1 ∷ credit 5 0 1 ∷ credit 6 2 1 ∷ []
+    left1 2 0 0 0 head 0xa1 ∷ left1 3 1 0 1 single 0xb1 ∷ credit 4 0 0 ∷ left1 4 1 2 1 single 0xc1 ∷ credit 5 0 1 ∷ credit 6 2 1 ∷ []
 
 -- H has left, T is not offered yet: bound to VC 0 of output 1, a packet open, nothing queued
 abbrev emptyBound : InputVc
-emptyBound = record { binding = Bound (record { output = 1; vc = 0 }); credit = 1; inside = true; queued = 0 }
+emptyBound = withBinding (Bound (record { output = 1; vc = 0 })) (withOpened true (freshInput 1))
 
--- Cycle 6: inputs 0 and 1 ask for output 1, whose winners were 0, 0 and 2. The pointer is at 0 again, so T leaves before S of (1,0), and 0xc2
--- is bound to VC 0, which T freed; in cycle 8 that VC has a credit again. 0xc3 is on the wire.
+-- Cycle 6: inputs 0 and 1 ask for output 1, whose winners were 0, 0 and 2. The pointer is at 0 again, so T leaves before S of (1,0), and
+-- 0xc2 is bound to VC 0, which T freed; in cycle 8 that VC has a credit again. 0xc3 is on the wire.
 abbrev byRoundRobin : Seen
 byRoundRobin =
     record {
       cycles = 9;
-      lines = alike ++ (leaves 6 0 0 0 tail 0xa2 ∷ leaves 7 1 1 0 single 0xd1 ∷ credit 8 0 0 ∷ leaves 8 0 2 1 single 0xc2 ∷ []);
+      lines = alike ++ (left1 6 0 0 0 tail 0xa2 ∷ left1 7 1 1 0 single 0xd1 ∷ credit 8 0 0 ∷ left1 8 0 2 1 single 0xc2 ∷ []);
       unpaid = refusing 5 2;
       overpaid = refusing 6 1;
       waiting = emptyBound;
@@ -157,7 +170,7 @@ abbrev byMatrix : Seen
 byMatrix =
     record {
       cycles = 9;
-      lines = alike ++ (leaves 6 1 1 0 single 0xd1 ∷ leaves 7 0 0 0 tail 0xa2 ∷ credit 8 1 0 ∷ []);
+      lines = alike ++ (left1 6 1 1 0 single 0xd1 ∷ left1 7 0 0 0 tail 0xa2 ∷ credit 8 1 0 ∷ []);
       unpaid = refusing 5 2;
       overpaid = refusing 6 1;
       waiting = emptyBound;
@@ -184,13 +197,22 @@ abbrev numbersOf : Seen → List ℕ
 numbersOf x =
     x .cycles ∷ numberOf (x .unpaid) ∷ portOf (x .unpaid) ∷ numberOf (x .overpaid) ∷ portOf (x .overpaid)
     ∷ (bindingNumbers (x .waiting .binding)
-    ++ (x .waiting .credit ∷ cond (x .waiting .inside) 1 0 ∷ x .waiting .queued ∷ (x .zero-zero ++ (x .two-one ++ lineNumbers (x .lines)))))
+    ++ (x .waiting .credit ∷ cond (x .waiting .opened) 1 0 ∷ x .waiting .queued ∷ (x .zero-zero ++ (x .two-one ++ lineNumbers (x .lines)))))
 
 abbrev agrees : ℕ → Seen → Bool
 agrees code expected = same (numbersOf (seenIn (config code))) (numbersOf expected)
 
 computed : (agrees 1 byRoundRobin && agrees 2 byMatrix) ≡ true
-unfolding xor firstFrom every orElse inRange firstIllegal illegalField flitOf kindOf destinationOf payloadOf startsKind endsKind nextInTurn pointerAfter bit wordOf withBit beats beatsEveryOther champion raised defeated listOf freshRow freshRows totalOrder within blankFrom arbiter.known arbiter.usable arbiter.choice arbiter.moved arbiter.after arbiter.fresh arbiter.sound queueAt places wireOf homeOf flat total isNone all configurationLegal cyclesFit creditsWhole creditsAddUp legalFlit wirePlaceLegal wireLegal homeLegal queuesLegal outputCreditsFit namesAgree arbitersSound reading reads packetsRead channelsUnused slotsEmpty lineUnused arbitersUnused shaped clauses sound frontOf pushed movedUp popped bigEndian overPorts rowZero noOffer legalOffer rowLegal advanced sendersPaid reported creditsReached outputsPaid creditsReturned landings landed offers offersTaken asks freeVc grantOf bindings wideMoved narrowMoved allocated isReady inputPick request outputPick switched winner departures leavingOf runFull rowWrong creditPastRoom outOfTurn noSenderCredit firstOf judged takenIn sentOut routerAfter replyOf stepOf freshRouter entryOf runFrom runOf valuesOf
+unfolding xor firstFrom every orElse inRange firstIllegal illegalField flitOf kindOf destinationOf payloadOf startsKind endsKind
+    nextInTurn pointerAfter bit wordOf withBit beats beatsEveryOther champion raised defeated listOf freshRow freshRows totalOrder
+    within blankFrom arbiter.known arbiter.usable arbiter.choice arbiter.moved arbiter.after arbiter.fresh arbiter.sound queueAt places
+    wireOf homeOf flat total isNone all configurationLegal cyclesFit creditsWhole creditsAddUp legalFlit wirePlaceLegal wireLegal
+    homeLegal queuesLegal outputCreditsFit namesAgree arbitersSound reading reads packetsRead channelsUnused slotsEmpty lineUnused
+    arbitersUnused shaped sound frontOf pushed movedUp popped bigEndian overPorts rowZero noOffer legalOffer rowLegal advanced
+    sendersPaid reported creditsReached outputsPaid creditsReturned landings landed offers offersTaken asks freeVc grantOf bindings
+    wideMoved narrowMoved allocated isReady inputPick request outputPick switched winner departures leavingOf runFull rowWrong
+    creditPastRoom outOfTurn noSenderCredit firstOf judged takenIn sentOut routerAfter replyOf stepOf freshRouter entryOf runFrom runOf
+    valuesOf
 computed = refl
 
 pub contention-round-robin : numbersOf (seenIn (config 1)) ≡ numbersOf byRoundRobin

@@ -12,12 +12,16 @@ use Rattle.arbiter.specs.Matrix.{blankFrom}
 use Rattle.arbiter.specs.Arbiter as arbiter
 use Rattle.state.specs.Fresh.{freshRouter}
 use Rattle.state.specs.Views.{queueAt, places, wireOf, homeOf, flat, total}
-use Rattle.state.specs.Sound.{isNone, all, configurationLegal, cyclesFit, creditsWhole, creditsAddUp, legalFlit, wirePlaceLegal, wireLegal, homeLegal, queuesLegal, outputCreditsFit, namesAgree, arbitersSound, reading, reads, packetsRead, channelsUnused, slotsEmpty, lineUnused, arbitersUnused, shaped, clauses, sound}
+use Rattle.state.specs.Sound.{isNone, all, configurationLegal, cyclesFit, creditsWhole, creditsAddUp, legalFlit, wirePlaceLegal}
+use Rattle.state.specs.Sound.{wireLegal, homeLegal, queuesLegal, outputCreditsFit, namesAgree, arbitersSound, reading, reads}
+use Rattle.state.specs.Sound.{packetsRead, channelsUnused, slotsEmpty, lineUnused, arbitersUnused, shaped, sound}
 use Rattle.store.specs.Store.{frontOf, pushed, movedUp, popped}
 use Rattle.rules.specs.Ports.{overPorts}
 use Rattle.rules.specs.Rows.{rowZero, noOffer, legalOffer, rowLegal}
-use Rattle.rules.specs.Intake.{advanced, sendersPaid, reported, creditsReached, outputsPaid, creditsReturned, landings, landed, offers, offersTaken}
-use Rattle.rules.specs.Allocation.{asks, freeVc, grantOf, bindings, wideMoved, narrowMoved, allocated, isReady, inputPick, request, outputPick, switched, winner}
+use Rattle.rules.specs.Intake.{advanced, sendersPaid, reported, creditsReached, outputsPaid, creditsReturned, landings, landed, offers}
+use Rattle.rules.specs.Intake.{offersTaken}
+use Rattle.rules.specs.Allocation.{asks, freeVc, grantOf, bindings, wideMoved, narrowMoved, allocated, isReady, inputPick, request}
+use Rattle.rules.specs.Allocation.{outputPick, switched, winner}
 use Rattle.rules.specs.Departures.{departures, leavingOf}
 use Rattle.rules.specs.Numbers.{runFull, rowWrong, creditPastRoom, outOfTurn, noSenderCredit, firstOf, judged}
 use Rattle.rules.specs.Step.{takenIn, sentOut, routerAfter, replyOf, stepOf}
@@ -25,7 +29,8 @@ use Rattle.trace.specs.Bytes.{bigEndian, zeros}
 use Rattle.trace.specs.Check.{sum, checkOf, checkHolds}
 use Rattle.trace.specs.Blocks.{bodyEnd}
 use Rattle.trace.specs.Place.{mayHold, goodPlace}
-use Rattle.trace.specs.Rules.{placeUnsound, blockShort, checkWrong, kindWrong, numberWrong, countWrong, unusedWrong, orderWrong, totalWrong, formWrong, bytesFollow, blockWrong, fieldWrong}
+use Rattle.trace.specs.Rules.{placeUnsound, blockShort, checkWrong, kindWrong, numberWrong, countWrong, unusedWrong, orderWrong}
+use Rattle.trace.specs.Rules.{totalWrong, formWrong, bytesFollow, blockWrong, fieldWrong}
 use Rattle.trace.specs.Judged.{readOf, taken, byField}
 use Rattle.trace.specs.Judged as trace
 use Rattle.listing.specs.Digits.{glyph, decimalWithin, decimal, lastDigits, hex}
@@ -63,5 +68,16 @@ pub record Printed : Type 0 where
   pub byte-after : listOf (file ++ 0 ∷ []) ≡ listingLines ++ refusedWith 56 54 48
 
 pub printed : Printed
-unfolding xor firstFrom every orElse inRange firstIllegal illegalField flitOf kindOf destinationOf payloadOf startsKind endsKind nextInTurn pointerAfter blankFrom arbiter.known arbiter.usable arbiter.choice arbiter.moved arbiter.after arbiter.fresh arbiter.sound queueAt places wireOf homeOf flat total isNone all configurationLegal cyclesFit creditsWhole creditsAddUp legalFlit wirePlaceLegal wireLegal homeLegal queuesLegal outputCreditsFit namesAgree arbitersSound reading reads packetsRead channelsUnused slotsEmpty lineUnused arbitersUnused shaped clauses sound frontOf pushed movedUp popped overPorts rowZero noOffer legalOffer rowLegal advanced sendersPaid reported creditsReached outputsPaid creditsReturned landings landed offers offersTaken asks freeVc grantOf bindings wideMoved narrowMoved allocated isReady inputPick request outputPick switched winner departures leavingOf runFull rowWrong creditPastRoom outOfTurn noSenderCredit firstOf judged takenIn sentOut routerAfter replyOf stepOf freshRouter bigEndian zeros sum checkOf checkHolds bodyEnd mayHold goodPlace placeUnsound blockShort checkWrong kindWrong numberWrong countWrong unusedWrong orderWrong totalWrong formWrong bytesFollow blockWrong fieldWrong readOf taken byField trace.judged cyclesThen fileFrom cutInto printedOf listOf glyph decimalWithin decimal lastDigits hex spaced print text byPort creditLine flitLine cycleLines flitLines letterOf
+unfolding xor firstFrom every orElse inRange firstIllegal illegalField flitOf kindOf destinationOf payloadOf startsKind endsKind
+    nextInTurn pointerAfter blankFrom arbiter.known arbiter.usable arbiter.choice arbiter.moved arbiter.after arbiter.fresh
+    arbiter.sound queueAt places wireOf homeOf flat total isNone all configurationLegal cyclesFit creditsWhole creditsAddUp legalFlit
+    wirePlaceLegal wireLegal homeLegal queuesLegal outputCreditsFit namesAgree arbitersSound reading reads packetsRead channelsUnused
+    slotsEmpty lineUnused arbitersUnused shaped sound frontOf pushed movedUp popped overPorts rowZero noOffer legalOffer
+    rowLegal advanced sendersPaid reported creditsReached outputsPaid creditsReturned landings landed offers offersTaken asks freeVc
+    grantOf bindings wideMoved narrowMoved allocated isReady inputPick request outputPick switched winner departures leavingOf runFull
+    rowWrong creditPastRoom outOfTurn noSenderCredit firstOf judged takenIn sentOut routerAfter replyOf stepOf freshRouter bigEndian
+    zeros sum checkOf checkHolds bodyEnd mayHold goodPlace placeUnsound blockShort checkWrong kindWrong numberWrong countWrong
+    unusedWrong orderWrong totalWrong formWrong bytesFollow blockWrong fieldWrong readOf taken byField trace.judged cyclesThen fileFrom
+    cutInto printedOf listOf glyph decimalWithin decimal lastDigits hex spaced print text byPort creditLine flitLine cycleLines
+    flitLines letterOf
 printed = record { whole-payload = refl; nothing-read = refl; depth-16 = refl; depth-17 = refl; depth-0 = refl; byte-after = refl }

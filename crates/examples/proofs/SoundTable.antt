@@ -2,139 +2,169 @@
 -- reaches and that are not fresh.
 -- Assumes nothing.
 use mathlib.Core.Path.{_≡_, refl, sym, ap, ap₂, _∙_}
-use mathlib.Core.Bool.{Bool, true, false, xor, _&&_}
+use mathlib.Core.Bool.{Bool, true, false, xor, _&&_, cond, not}
 use mathlib.Core.List.{List, [], _∷_}
 use mathlib.Core.Logic.{inr}
 use Prim.Native.Nat.{ℕ, suc, _+_, _^_, _≤_}
 use native.Mathlib.Omega.{arith}
 use lib.ListN.{set, getD-replicate}
+use mathlib.Core.Option.{Option, some, none}
+use lib.Dec.{eqb}
+use borrow.Author.Tests.{eqb-true, ne-eqb}
 use Rattle.base.specs.Bits.{bit, wordOf, withBit}
 use Rattle.base.specs.Flit.{flitOf, kindOf, destinationOf, startsKind, endsKind}
 use Rattle.base.specs.Search.{every}
-use Rattle.base.specs.Sizes.{illegalField, firstIllegal, inRange}
-use Rattle.base.proofs.Search.{all-every}
+use Rattle.base.specs.Sizes.{illegalField, firstIllegal, inRange, withDownstream}
+use Rattle.base.proofs.Search.{all-every, both}
 use Rattle.arbiter.specs.Arbiter as arbiter
-use Rattle.arbiter.specs.Arbiter.{ofNarrow, ofWide}
+use Rattle.arbiter.specs.Arbiter.{ofNarrow, ofWide, asNarrow, asWide, arbiterOf}
 use Rattle.arbiter.proofs.ByKind.{Known}
 use Rattle.arbiter.proofs.Soundness as arbiters
 use Rattle.arbiter.specs.RoundRobin.{pointerAfter}
 use Rattle.arbiter.specs.Matrix.{beats, raised, defeated, listOf, freshRow, freshRows, totalOrder, within, blankFrom}
 use Rattle.state.specs.declared.Router.{Router}
-use Rattle.state.specs.Fresh.{freshOutput, asNarrow, asWide, pastNarrow, pastWide, freshRouter}
+use Rattle.state.specs.Fresh.{freshOutput, pastNarrow, pastWide, freshRouter}
 use Rattle.state.specs.Views.{queueAt, wireOf, homeOf, places, flat, total}
 use Rattle.state.specs.Sound
-use Rattle.state.specs.Sound.{isNone, all, configurationLegal, cyclesFit, creditsWhole, creditsAddUp, legalFlit, wirePlaceLegal, wireLegal, homeLegal, queuesLegal, outputCreditsFit, namesAgree, arbitersSound, reading, reads, packetsRead, channelsUnused, slotsEmpty, lineUnused, arbitersUnused, shaped, clauses, sound}
+use Rattle.state.specs.Sound.{isNone, all, configurationLegal, cyclesFit, creditsWhole, creditsAddUp, legalFlit, wirePlaceLegal}
+use Rattle.state.specs.Sound.{wireLegal, homeLegal, queuesLegal, outputCreditsFit, namesAgree, arbitersSound, reading, reads}
+use Rattle.state.specs.Sound.{packetsRead, channelsUnused, slotsEmpty, lineUnused, arbitersUnused, shaped, sound}
+use Rattle.state.specs.Sound.{Clause, passes, clauses, theConfiguration, theCycles, theWire, theHome, theWireRest, theHomeRest, theCredits}
+use Rattle.state.specs.Sound.{theQueues, theOutputCredits, theChannels, theSlots, theNames, thePackets, theArbiters, theOtherArbiters}
 use Rattle.state.proofs.Exact.{sound-passes}
-use Rattle.examples.proofs.Same.{same, same-is}
-use Rattle.state.proofs.SoundStates.{withCycle, withInput, withOutput, withSlot, withStore, withWire, withHome, withVcArbiter, withInputArbiter, withOutputArbiter, withArbiters, withConfig, config, turns, orders, unbound, bound, held, head, single, body, tail, on, pointerWide, pointerNarrow, orderWide, stored, queue, middle, fronted, fullWire, homing, deep, picked, pickedArbiters, large}
+use Rattle.state.proofs.SoundStates.{withInput, withOutput, withSlot, withWirePlace, withHomePlace, withVcArbiter}
+use Rattle.state.proofs.SoundStates.{withInputArbiter, withOutputArbiter, config, turns, orders, unbound}
+use Rattle.state.proofs.SoundStates.{bound, held, head, single, body, tail, on, pointerWide, pointerNarrow, orderWide, stored, queue}
+use Rattle.state.proofs.SoundStates.{middle, fronted, fullWire, homing, deep, picked, pickedArbiters, large}
+use Rattle.state.specs.Setters.{withConfig, withCycle}
 
--- the numbers of the clauses that a state breaks
-brokenFrom : ℕ → List Bool → List ℕ
-brokenFrom k [] = []
-brokenFrom k (true ∷ bs) = brokenFrom (suc k) bs
-brokenFrom k (false ∷ bs) = k ∷ brokenFrom (suc k) bs
+-- how many of these clauses a state breaks
+failing : Router → List Clause → ℕ
+failing s [] = 0
+failing s (k ∷ ks) = cond (passes s k) (failing s ks) (suc (failing s ks))
 
-broken : Router → List ℕ
-broken s = brokenFrom 0 (clauses s)
-
--- each row: a state, and the clauses that it breaks
+-- each row: a state, and the clause that it breaks, if it breaks one
 pub record Row : Type 0 where
   pub state : Router
-  pub breaks : List ℕ
+  pub breaks : Option Clause
 
-row : Router → List ℕ → Row
-row s k = record { state = s; breaks = k }
+sound-row : Router → Row
+sound-row s = record { state = s; breaks = none }
+
+row : Router → Clause → Row
+row s k = record { state = s; breaks = some k }
+
+-- it breaks this clause and no other, or none
+abbrev rightly : Router → Option Clause → Bool
+rightly s none = eqb (failing s clauses) 0
+rightly s (some k) = not (passes s k) && eqb (failing s clauses) 1
 
 pub right : Row → Bool
-right r = same (broken (r .state)) (r .breaks)
+right r = rightly (r .state) (r .breaks)
 
 -- all but the large router
 others : List Row
 others =
     -- accepted
-    row turns [] ∷ row orders [] ∷ row middle [] ∷ row fronted [] ∷ row fullWire [] ∷ row homing [] ∷ row (deep 16) [] ∷
+    sound-row turns ∷ sound-row orders ∷ sound-row middle ∷ sound-row fronted ∷ sound-row fullWire ∷ sound-row homing ∷ sound-row
+    (deep 16) ∷
     -- the configuration, the cycle count, the credits
-    row (withConfig (record { ports = 2; vcs = 2; depth = 3; downstream = 17; forward = 2; back = 2; arbiter = 1 }) turns) (0 ∷ []) ∷
-    row (withCycle 1000000001 turns) (1 ∷ []) ∷
-    row (withInput 0 (unbound 2 false 0) turns) (2 ∷ []) ∷
-    row (withInput 0 (unbound 4 false 0) turns) (2 ∷ []) ∷
+    row (withConfig (withDownstream 17 (config 1)) turns) theConfiguration ∷
+    row (withCycle 1000000001 turns) theCycles ∷
+    row (withInput 0 (unbound 2 false 0) turns) theCredits ∷
+    row (withInput 0 (unbound 4 false 0) turns) theCredits ∷
     -- a count of queued flits that no channel has room for
-    row (deep 17) (2 ∷ []) ∷
-    row (deep 255) (2 ∷ []) ∷
+    row (deep 17) theCredits ∷
+    row (deep 255) theCredits ∷
     -- a wire place to a port that there is not, on a VC that there is not; a home place of a VC that there is not
-    row (withWire 0 0 (on 0 (single 3)) (withInput 0 (unbound 2 false 0) turns)) (3 ∷ []) ∷
-    row (withWire 0 0 (on 2 (single 1)) turns) (3 ∷ []) ∷
-    row (withHome 0 0 3 turns) (4 ∷ []) ∷
+    row (withWirePlace 0 0 (on 0 (single 3)) (withInput 0 (unbound 2 false 0) turns)) theWire ∷
+    row (withWirePlace 0 0 (on 2 (single 1)) turns) theWire ∷
+    row (withHomePlace 0 0 3 turns) theHome ∷
     -- queued: to a port that there is not, B with a destination, bits above a flit's
-    row (queue (single 3 ∷ []) (withInput 0 (unbound 2 false 1) turns)) (5 ∷ []) ∷
-    row (queue (head 1 ∷ (body + 2 ^ 32) ∷ []) (withInput 0 (unbound 1 true 2) turns)) (5 ∷ []) ∷
-    row (queue ((single 1 + 2 ^ 38) ∷ []) (withInput 0 (unbound 2 false 1) turns)) (5 ∷ []) ∷
-    row (withOutput 0 (freshOutput 3) turns) (6 ∷ []) ∷
+    row (queue (single 3 ∷ []) (withInput 0 (unbound 2 false 1) turns)) theQueues ∷
+    row (queue (head 1 ∷ (body + 2 ^ 32) ∷ []) (withInput 0 (unbound 1 true 2) turns)) theQueues ∷
+    row (queue ((single 1 + 2 ^ 38) ∷ []) (withInput 0 (unbound 2 false 1) turns)) theQueues ∷
+    row (withOutput 0 (freshOutput 3) turns) theOutputCredits ∷
     -- bound and not held, held and not bound, held by another, beyond P, beyond V, two bound to one
-    row (withInput 0 (bound 1 0 3 true 0) turns) (7 ∷ []) ∷
-    row (withOutput 2 (held 0 0 2) turns) (7 ∷ []) ∷
-    row (withOutput 2 (held 0 1 2) (withInput 0 (bound 1 0 3 true 0) turns)) (7 ∷ []) ∷
-    row (withInput 0 (bound 2 0 3 true 0) turns) (7 ∷ []) ∷
-    row (withInput 0 (bound 1 2 3 true 0) turns) (7 ∷ []) ∷
-    row (withOutput 2 (held 2 0 2) turns) (7 ∷ []) ∷
-    row (withInput 1 (bound 1 0 3 true 0) middle) (7 ∷ []) ∷
+    row (withInput 0 (bound 1 0 3 true 0) turns) theNames ∷
+    row (withOutput 2 (held 0 0 2) turns) theNames ∷
+    row (withOutput 2 (held 0 1 2) (withInput 0 (bound 1 0 3 true 0) turns)) theNames ∷
+    row (withInput 0 (bound 2 0 3 true 0) turns) theNames ∷
+    row (withInput 0 (bound 1 2 3 true 0) turns) theNames ∷
+    row (withOutput 2 (held 2 0 2) turns) theNames ∷
+    row (withInput 1 (bound 1 0 3 true 0) middle) theNames ∷
     -- a pointer equal to its width, rows under round robin, a pointer under a matrix
-    row (withVcArbiter 0 (pointerWide 4) turns) (8 ∷ []) ∷
-    row (withInputArbiter 0 (pointerNarrow 2) turns) (8 ∷ []) ∷
-    row (withOutputArbiter 0 (pointerNarrow 2) turns) (8 ∷ []) ∷
-    row (withVcArbiter 0 (orderWide 0 0 14) turns) (8 ∷ []) ∷
-    row (withVcArbiter 0 (orderWide 1 0 14) orders) (8 ∷ []) ∷
+    row (withVcArbiter 0 (pointerWide 4) turns) theArbiters ∷
+    row (withInputArbiter 0 (pointerNarrow 2) turns) theArbiters ∷
+    row (withOutputArbiter 0 (pointerNarrow 2) turns) theArbiters ∷
+    row (withVcArbiter 0 (orderWide 0 0 14) turns) theArbiters ∷
+    row (withVcArbiter 0 (orderWide 1 0 14) orders) theArbiters ∷
     -- a bit beyond the width, a row beyond it, two equals, one that beats itself
-    row (withVcArbiter 0 (orderWide 0 0 30) orders) (8 ∷ []) ∷
-    row (withVcArbiter 0 (orderWide 0 4 1) orders) (8 ∷ []) ∷
-    row (withVcArbiter 0 (orderWide 0 0 12) orders) (8 ∷ []) ∷
-    row (withVcArbiter 0 (orderWide 0 0 15) orders) (8 ∷ []) ∷
+    row (withVcArbiter 0 (orderWide 0 0 30) orders) theArbiters ∷
+    row (withVcArbiter 0 (orderWide 0 4 1) orders) theArbiters ∷
+    row (withVcArbiter 0 (orderWide 0 0 12) orders) theArbiters ∷
+    row (withVcArbiter 0 (orderWide 0 0 15) orders) theArbiters ∷
     -- 0 beats 1, 1 beats 2, 2 beats 0
-    row (withVcArbiter 0 (record { pointer = 0; rows = set (set (freshRows 32 4) 0 0b1010) 2 0b1001 }) orders) (8 ∷ []) ∷
+    row (withVcArbiter 0 (asWide (arbiterOf 0 (set (set (freshRows 32 4) 0 0b1010) 2 0b1001))) orders) theArbiters ∷
     -- a front for another output, the open mark wrong (three times), a reading from inside a packet that is not bound, H first on the
     -- wire of a bound VC with an empty queue
-    row (withOutput 2 (held 0 0 2) (queue (head 0 ∷ body ∷ []) (withInput 0 (bound 1 0 1 true 2) turns))) (9 ∷ []) ∷
-    row (withInput 0 (bound 1 0 1 false 2) fronted) (9 ∷ []) ∷
-    row (withInput 0 (bound 1 0 3 false 0) middle) (9 ∷ []) ∷
-    row (withInput 0 (unbound 3 true 0) turns) (9 ∷ []) ∷
-    row (queue (body ∷ []) (withInput 0 (unbound 2 true 1) turns)) (9 ∷ []) ∷
-    row (withWire 0 0 (on 0 (head 1)) (withInput 0 (bound 1 0 2 true 0) middle)) (9 ∷ []) ∷
+    row (withOutput 2 (held 0 0 2) (queue (head 0 ∷ body ∷ []) (withInput 0 (bound 1 0 1 true 2) turns))) thePackets ∷
+    row (withInput 0 (bound 1 0 1 false 2) fronted) thePackets ∷
+    row (withInput 0 (bound 1 0 3 false 0) middle) thePackets ∷
+    row (withInput 0 (unbound 3 true 0) turns) thePackets ∷
+    row (queue (body ∷ []) (withInput 0 (unbound 2 true 1) turns)) thePackets ∷
+    row (withWirePlace 0 0 (on 0 (head 1)) (withInput 0 (bound 1 0 2 true 0) middle)) thePackets ∷
     -- channels beyond P and V
-    row (withInput 4 (unbound 1 false 0) turns) (10 ∷ []) ∷
-    row (withInput 31 (unbound 0 true 0) turns) (10 ∷ []) ∷
-    row (withOutput 4 (freshOutput 1) turns) (10 ∷ []) ∷
+    row (withInput 4 (unbound 1 false 0) turns) theChannels ∷
+    row (withInput 31 (unbound 0 true 0) turns) theChannels ∷
+    row (withOutput 4 (freshOutput 1) turns) theChannels ∷
     -- a slot past the queue's end, and of a channel that there is not
-    row (withSlot 0 (single 1) turns) (11 ∷ []) ∷
-    row (withSlot 2 (single 1) fronted) (11 ∷ []) ∷
-    row (withSlot 511 1 turns) (11 ∷ []) ∷
+    row (withSlot 0 (single 1) turns) theSlots ∷
+    row (withSlot 2 (single 1) fronted) theSlots ∷
+    row (withSlot 511 1 turns) theSlots ∷
     -- stages at F and at B, ports at P
-    row (withWire 2 0 (on 0 (single 1)) turns) (12 ∷ []) ∷
-    row (withWire 0 2 (on 0 (single 1)) turns) (12 ∷ []) ∷
-    row (withHome 2 0 1 turns) (13 ∷ []) ∷
-    row (withHome 0 2 1 turns) (13 ∷ []) ∷
+    row (withWirePlace 2 0 (on 0 (single 1)) turns) theWireRest ∷
+    row (withWirePlace 0 2 (on 0 (single 1)) turns) theWireRest ∷
+    row (withHomePlace 2 0 1 turns) theHomeRest ∷
+    row (withHomePlace 0 2 1 turns) theHomeRest ∷
     -- arbiters beyond P
-    row (withVcArbiter 2 (pointerWide 1) turns) (14 ∷ []) ∷
-    row (withInputArbiter 2 (pointerNarrow 1) turns) (14 ∷ []) ∷
-    row (withOutputArbiter 7 (pointerNarrow 1) orders) (14 ∷ []) ∷ []
+    row (withVcArbiter 2 (pointerWide 1) turns) theOtherArbiters ∷
+    row (withInputArbiter 2 (pointerNarrow 1) turns) theOtherArbiters ∷
+    row (withOutputArbiter 7 (pointerNarrow 1) orders) theOtherArbiters ∷ []
 
 others-right : all right others ≡ true
-unfolding xor all right broken brokenFrom clauses others row withCycle withInput withOutput withSlot withStore withWire withHome withVcArbiter withInputArbiter withOutputArbiter withArbiters withConfig config turns orders unbound bound held head single body tail on pointerWide pointerNarrow orderWide stored queue middle fronted fullWire homing deep configurationLegal isNone illegalField firstIllegal inRange cyclesFit creditsAddUp creditsWhole legalFlit wirePlaceLegal wireLegal homeLegal queuesLegal outputCreditsFit namesAgree arbitersSound reading reads packetsRead channelsUnused slotsEmpty lineUnused arbitersUnused shaped every freshRouter queueAt wireOf homeOf places flat total flitOf kindOf destinationOf startsKind endsKind bit wordOf withBit arbiter.sound arbiter.known arbiter.fresh beats listOf freshRow freshRows totalOrder within blankFrom
+unfolding xor all right failing others row sound-row withInput withOutput withSlot withWirePlace withHomePlace
+    withVcArbiter withInputArbiter withOutputArbiter config turns orders unbound bound held head single body
+    tail on pointerWide pointerNarrow orderWide stored queue middle fronted fullWire homing deep configurationLegal isNone illegalField
+    firstIllegal inRange cyclesFit creditsAddUp creditsWhole legalFlit wirePlaceLegal wireLegal homeLegal queuesLegal outputCreditsFit
+    namesAgree arbitersSound reading reads packetsRead channelsUnused slotsEmpty lineUnused arbitersUnused shaped every freshRouter
+    queueAt wireOf homeOf places flat total flitOf kindOf destinationOf startsKind endsKind bit wordOf withBit arbiter.sound
+    arbiter.known arbiter.fresh beats listOf freshRow freshRows totalOrder within blankFrom
 others-right = refl
 
 -- so the test of soundness accepts just the rows that break none
-unfoldable pub none : List ℕ → Bool
-none [] = true
-none (k ∷ ks) = false
+pub isNothing : Option Clause → Bool
+isNothing none = true
+isNothing (some k) = false
 
-all-none : (k : ℕ) (bs : List Bool) → all (λ (b : Bool). b) bs ≡ none (brokenFrom k bs)
-unfolding all none brokenFrom
-all-none k [] = refl
-all-none k (true ∷ bs) = all-none (suc k) bs
-all-none k (false ∷ bs) = refl
+all-none : (s : Router) (ks : List Clause) → all (passes s) ks ≡ eqb (failing s ks) 0
+unfolding all failing
+all-none s [] = refl
+all-none s (k ∷ ks) = go (passes s k) (all-none s ks)
+  where
+    go : (b : Bool) → all (passes s) ks ≡ eqb (failing s ks) 0 → (b && all (passes s) ks)
+        ≡ eqb (cond b (failing s ks) (suc (failing s ks))) 0
+    go true e = e
+    go false e = sym (ne-eqb (suc (failing s ks)) 0 (λ q. omega (arith, q)))
 
-pub right-sound : (r : Row) → right r ≡ true → sound (r .state) ≡ none (r .breaks)
-unfolding right broken sound
-right-sound r e = all-none 0 (clauses (r .state)) ∙ ap none (same-is (broken (r .state)) (r .breaks) e)
+pub right-sound : (r : Row) → right r ≡ true → sound (r .state) ≡ isNothing (r .breaks)
+unfolding right sound isNothing
+right-sound r e = all-none (r .state) clauses ∙ go (r .breaks) e
+  where
+    go : (b : Option Clause) → rightly (r .state) b ≡ true → eqb (failing (r .state) clauses) 0 ≡ isNothing b
+    go none q = q
+    go (some k) q =
+        ap (λ (n : ℕ). eqb n 0) (eqb-true (failing (r .state) clauses) 1 (both (not (passes (r .state) k)) _ q .1))
 
 -- picks keep a matrix sound
 picks : (places n : ℕ) (ws : List ℕ) → Known places 2 n → arbiters.Sound places 2 n (picked places n ws)
@@ -148,7 +178,7 @@ picks-sound places n ws h g =
     arbiters.sound-holds places 2 n (picked places n ws) (picks places n ws (record { some = h; room = g; kind = inr refl }))
 
 large-arbiters : arbitersSound (large .config) (large .arbiters) ≡ true
-unfolding arbitersSound large pickedArbiters withArbiters withHome withWire withOutput stored queue withSlot withInput freshRouter
+unfolding arbitersSound large pickedArbiters withHomePlace withWirePlace withOutput stored queue withSlot withInput freshRouter
 large-arbiters =
     all-every 8 _ (λ i h.
     ap₂ _&&_
@@ -161,38 +191,50 @@ large-arbiters =
     ∙ picks-sound 8 8 (5 ∷ 0 ∷ 7 ∷ []) (omega arith) (omega arith)))
 
 large-sound : Sound.Sound large
-unfolding all pickedArbiters xor withCycle withInput withOutput withSlot withStore withWire withHome withVcArbiter withInputArbiter withOutputArbiter withArbiters withConfig config unbound bound held head single body tail on pointerWide pointerNarrow orderWide stored queue large configurationLegal isNone illegalField firstIllegal inRange cyclesFit creditsAddUp creditsWhole legalFlit wirePlaceLegal wireLegal homeLegal queuesLegal outputCreditsFit namesAgree reading reads packetsRead channelsUnused slotsEmpty lineUnused arbitersUnused shaped every freshRouter queueAt wireOf homeOf places flat total flitOf kindOf destinationOf startsKind endsKind bit wordOf withBit
+unfolding all pickedArbiters xor withInput withOutput withSlot withWirePlace withHomePlace withVcArbiter withInputArbiter
+    withOutputArbiter config unbound bound held head single body tail on pointerWide pointerNarrow orderWide
+    stored queue large configurationLegal isNone illegalField firstIllegal inRange cyclesFit creditsAddUp creditsWhole legalFlit
+    wirePlaceLegal wireLegal homeLegal queuesLegal outputCreditsFit namesAgree reading reads packetsRead channelsUnused slotsEmpty
+    lineUnused arbitersUnused shaped every freshRouter queueAt wireOf homeOf places flat total flitOf kindOf destinationOf startsKind
+    endsKind bit wordOf withBit
 large-sound =
     record {
-      configuration = refl;
-      cycles = refl;
-      credits = refl;
-      wire = refl;
-      home = refl;
-      queues = refl;
-      outputCredits = refl;
-      names = refl;
-      arbiters = large-arbiters;
-      packets = refl;
-      channels = refl;
-      slots = refl;
-      wireRest = refl;
-      homeRest = refl;
-      others = refl;
-      shape = refl;
+      sizes =
+          record {
+            configuration = refl;
+            cycles = refl;
+            wire = refl;
+            home = refl;
+            wireRest = refl;
+            homeRest = refl;
+            shape = refl;
+          };
+      flow =
+          record {
+            credits = refl;
+            queues = refl;
+            outputCredits = refl;
+            channels = refl;
+            slots = refl;
+          };
+      naming =
+          record {
+            names = refl;
+            packets = refl;
+          };
+      arbitration =
+          record {
+            arbiters = large-arbiters;
+            others = refl;
+          };
     }
 
-same-none : (xs : List ℕ) → same xs [] ≡ none xs
-unfolding none
-same-none [] = refl
-same-none (x ∷ xs) = refl
-
-large-right : right (row large []) ≡ true
-unfolding right row broken sound
-large-right = same-none (broken large) ∙ sym (all-none 0 (clauses large)) ∙ sound-passes large large-sound
+large-right : right (sound-row large) ≡ true
+unfolding right sound-row sound
+large-right = sym (all-none large clauses) ∙ sound-passes large large-sound
 
 pub table : List Row
-table = row large [] ∷ others
+table = sound-row large ∷ others
 
 -- each row breaks just the clauses that it names
 pub table-right : all right table ≡ true
@@ -201,5 +243,6 @@ table-right = ap₂ _&&_ large-right others-right
 
 -- of one of its arbiters the test is computed too
 pub picked-computed : arbiter.sound 32 2 32 (picked 32 32 (9 ∷ 0 ∷ 31 ∷ [])) ≡ true
-unfolding picked xor every bit wordOf withBit arbiter.sound arbiter.known arbiter.usable arbiter.moved arbiter.fresh pointerAfter beats raised defeated listOf freshRow freshRows totalOrder within blankFrom
+unfolding picked xor every bit wordOf withBit arbiter.sound arbiter.known arbiter.usable arbiter.moved arbiter.fresh pointerAfter beats
+    raised defeated listOf freshRow freshRows totalOrder within blankFrom
 picked-computed = refl

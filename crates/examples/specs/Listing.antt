@@ -5,10 +5,11 @@ use Prim.Native.Nat.{ℕ, _-_}
 use lib.ListN.{length, replicate}
 use Rattle.base.specs.declared.config.Config.{Config}
 use Rattle.base.specs.Flit.{head, tail, single}
+use Rattle.base.specs.Sizes.{sized}
 
 -- "configuration 3,1,2,2,1,1,1"
 abbrev pub config : Config
-config = record { ports = 3; vcs = 1; depth = 2; downstream = 2; forward = 1; back = 1; arbiter = 1 }
+config = sized 3 1 2 2 1 1 1
 
 -- rows: nothing; a flit on VC 0 with a payload below 256; a credit for VC 0
 abbrev nothing : List ℕ

@@ -8,7 +8,8 @@ use lib.ListN.{length, replicate}
 use Rattle.base.specs.declared.config.Config.{Config}
 use Rattle.base.specs.Bits.{bit}
 use Rattle.base.specs.Flit.{single}
-use Rattle.arbiter.specs.Arbiter.{Arbiter, roundRobin, matrix, choice, after, fresh}
+use Rattle.base.specs.Sizes.{sized}
+use Rattle.arbiter.specs.Arbiter.{Arbiter, roundRobin, matrix, choice, after, fresh, arbiterOf}
 use Rattle.trace.specs.Check.{checkOf}
 use Rattle.state.specs.declared.Router.{Router}
 use Rattle.state.specs.Fresh.{freshRouter}
@@ -18,7 +19,7 @@ use Rattle.rules.specs.Numbers.{refusing}
 use Rattle.rules.specs.Step.{stepOf}
 use Rattle.history.specs.Run.{runOf}
 use Rattle.history.specs.Demand3.{storedCredits, buffered, onWire, goingHome}
-use Rattle.standing.specs.Night.{started}
+use Rattle.runs.specs.Run.{started}
 use Rattle.night.specs.Calls.{Calls}
 use Rattle.night.specs.File.{listOf}
 use Rattle.examples.specs.Listing.{config, cycle0, cycle1, cycle2, cycle3, cycle4, cycle5, block0, block2, file, printed}
@@ -39,14 +40,14 @@ next code n asking a = after 8 code n (wins code n asking a) a
 
 -- "Round robin, n=4, pointer 2", "Fresh matrix, n=3"
 abbrev turned : Arbiter
-turned = record { pointer = 2; rows = replicate 8 0 }
+turned = arbiterOf 2 (replicate 8 0)
 
 abbrev ordered : Arbiter
 ordered = fresh 8 matrix 3
 
 -- "P=V=1, F=B=3, E=16, S offered each cycle": under either arbiter
 abbrev link : ℕ → ℕ → Config
-link depth arbiter = record { ports = 1; vcs = 1; depth = depth; downstream = 16; forward = 3; back = 3; arbiter = arbiter }
+link depth arbiter = sized 1 1 depth 16 3 3 arbiter
 
 abbrev offer : List ℕ
 offer = single ∷ replicate 63 0

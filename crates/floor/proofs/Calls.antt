@@ -9,23 +9,23 @@ use native.Mathlib.Omega.{arith}
 use lib.Dec.{eqb, leb}
 use lib.ListN.{length, take, drop}
 use borrow.Author.Tests.{le-leb, lt-leb, eq-eqb, ne-eqb}
-use Rattle.standing.specs.declared.Night.{Night}
-use Rattle.router.specs.Running.{Outcome, ranOf}
+use Rattle.runs.specs.declared.Run.{Run}
+use Rattle.router.specs.Running.{CallOutcome, ranOf}
 use Rattle.floor.specs.Handing.{Handed, handedBy, isLast, passed, mostCalls, finished, wholeIn, begun, handedOver}
 
 -- all is used
-pub used-last : (part : List ℕ) (o : Outcome) → length part ≤ o .ran .used → isLast part o ≡ true
+pub used-last : (part : List ℕ) (o : CallOutcome) → length part ≤ o .ran .used → isLast part o ≡ true
 used-last part o h = rw (le-leb (length part) (o .ran .used) h)
 
 -- the run is over
-pub over-last : (part : List ℕ) (o : Outcome) → o .ran .night .over ≡ true → isLast part o ≡ true
+pub over-last : (part : List ℕ) (o : CallOutcome) → o .ran .run .over ≡ true → isLast part o ≡ true
 over-last part o e = rw e (or-true (leb (length part) (o .ran .used)))
 
 -- neither
-pub not-last : (part : List ℕ) (o : Outcome) → o .ran .used < length part → o .ran .night .over ≡ false → isLast part o ≡ false
+pub not-last : (part : List ℕ) (o : CallOutcome) → o .ran .used < length part → o .ran .run .over ≡ false → isLast part o ≡ false
 not-last part o h e = rw (lt-leb (length part) (o .ran .used) h, e)
 
-module _ (n : Night) (part buffer : List ℕ) (o : Outcome) (is : o ≡ ranOf n part buffer 0) (fine : o .ran .number ≡ 0) where
+module _ (n : Run) (part buffer : List ℕ) (o : CallOutcome) (is : o ≡ ranOf n part buffer 0) (fine : o .ran .number ≡ 0) where
   -- the last call gives the run and the buffer
   pub last-call : (k : ℕ) → 0 < k → isLast part o ≡ true → passed k n part buffer ≡ some (handedBy o)
   unfolding passed
@@ -33,7 +33,8 @@ module _ (n : Night) (part buffer : List ℕ) (o : Outcome) (is : o ≡ ranOf n 
   last-call (suc k) h e = rw (sym is, fine, e)
 
   -- any other call leaves the rest of the part to those after it
-  pub other-call : (k : ℕ) → 0 < k → isLast part o ≡ false → passed k n part buffer ≡ passed (k - 1) (o .ran .night) (drop (o .ran .used) part) (o .buffer)
+  pub other-call : (k : ℕ) → 0 < k → isLast part o ≡ false → passed k n part buffer
+      ≡ passed (k - 1) (o .ran .run) (drop (o .ran .used) part) (o .buffer)
   unfolding passed
   other-call zero h e = absurd (omega (arith, h))
   other-call (suc k) h e = let one : suc k - 1 ≡ k = omega arith in rw (sym is, fine, e, one)
@@ -47,21 +48,21 @@ module _ (buf : List ℕ) (from bytes : ℕ) (h : Handed) where
   piece-full e = rw (eq-eqb bytes (length buf) e)
 
   -- the run is over already
-  pub piece-over : h .night .over ≡ true → finished buf from bytes (some h) ≡ some h
+  pub piece-over : h .run .over ≡ true → finished buf from bytes (some h) ≡ some h
   unfolding finished
   piece-over e = rw (e, or-true (eqb bytes (length buf)))
 
   -- else it is handed over
-  pub piece-passed : ¬ (bytes ≡ length buf) → h .night .over ≡ false
-      → finished buf from bytes (some h) ≡ passed mostCalls (h .night) (take (bytes - from) (drop from buf)) (h .buffer)
+  pub piece-passed : ¬ (bytes ≡ length buf) → h .run .over ≡ false
+      → finished buf from bytes (some h) ≡ passed mostCalls (h .run) (take (bytes - from) (drop from buf)) (h .buffer)
   unfolding finished
   piece-passed n e = rw (ne-eqb bytes (length buf) n, e)
 
 -- ---- what was read
 
-module _ (n : Night) (buf out : List ℕ) (bytes : ℕ) (o : Option Handed) where
+module _ (n : Run) (buf out : List ℕ) (bytes : ℕ) (o : Option Handed) where
   -- less than a block
-  pub hand-piece : wholeIn bytes ≡ 0 → finished buf 0 bytes (some (record { night = n; buffer = out })) ≡ o → handedOver n buf bytes out ≡ o
+  pub hand-piece : wholeIn bytes ≡ 0 → finished buf 0 bytes (some (record { run = n; buffer = out })) ≡ o → handedOver n buf bytes out ≡ o
   unfolding handedOver begun
   hand-piece e f = rw e f
 

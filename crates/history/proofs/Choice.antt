@@ -1,5 +1,5 @@
--- What is chosen in a cycle: THE choice of the arbiters, in crates/model's words. What it grants, and whose front leaves, is on a channel that
--- there is, and is what the rules grant and let leave.
+-- What is chosen in a cycle: THE choice of the arbiters, in crates/model's words. What it grants, and whose front leaves, is on a channel
+-- that there is, and is what the rules grant and let leave.
 -- Assumes nothing.
 use mathlib.Core.Path.{_≡_, refl, sym, _∙_}
 use mathlib.Core.Bool.{Bool, true, false}
@@ -14,7 +14,7 @@ use Rattle.model.specs.Router.{OutVc}
 use Rattle.model.specs.Cycle.{Choice}
 use Rattle.state.specs.declared.Router.{Router}
 use Rattle.state.specs.Channels.{isThere}
-use Rattle.state.specs.Views.{channel}
+use Rattle.state.specs.Views.{channelNumber}
 use Rattle.trace.specs.Bytes.{AreBytes}
 use Rattle.rules.specs.declared.Verdict.the-variants.{Accepted}
 use Rattle.rules.specs.Chosen.{chosen}
@@ -34,7 +34,7 @@ there-is c i v e = let p = both (ltb i (c .ports)) (ltb v (c .vcs)) e in (ltb-tr
 pub record GrantedTo (s : Router) (part : List ℕ) (i v : ℕ) (b : OutVc) : Type 0 where
   pub port : i < s .config .ports
   pub vc : v < s .config .vcs
-  pub is : nameOf (grantTo (takenIn part s) (channel (s .config) i v)) ≡ some b
+  pub is : nameOf (grantTo (takenIn part s) (channelNumber (s .config) i v)) ≡ some b
 
 pub grant-there : (s : Router) (part : List ℕ) → AreBytes part → stepOf s part .verdict ≡ Accepted
     → (i v : ℕ) (b : OutVc) → choiceOf s part .grant i v ≡ some b → GrantedTo s part i v b

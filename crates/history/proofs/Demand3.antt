@@ -19,7 +19,7 @@ use Rattle.state.specs.declared.Router.{Router}
 use Rattle.state.specs.Channels.{ChannelView, channelView}
 use Rattle.state.specs.Sound.{Sound}
 use Rattle.store.specs.Store.{firstSlot}
-use Rattle.state.specs.Views.{channel, inputAt, slotFlit, queueAt, wireOf, homeOf, flat, total}
+use Rattle.state.specs.Views.{channelNumber, inputAt, slotFlit, queueAt, wireOf, homeOf, flat, total}
 use Rattle.trace.specs.Bytes.{AreBytes}
 use Rattle.rules.specs.declared.Verdict.the-variants.{Accepted}
 use Rattle.rules.specs.Free.{look, sizesOf, channelOf, freeOf}
@@ -64,13 +64,14 @@ module _ (s : Router) (sound : Sound s) (h : History Flit) (t : ℕ) where
       → InputDemand c s h t i v
   input-demand i v port vc d =
       let credit = inputAt c (s .inputs) i v .credit in
-      let sum = credits-sum c (s .inputs) (s .wire) (s .home) (sound .credits) i v port vc in
+      let sum = credits-sum c (s .inputs) (s .wire) (s .home) (sound .flow .credits) i v port vc in
       let stored : credit ≡ c .depth - (c .depth - credit) = omega arith in
       let wire : onWire c s i v ≡ lists.flat (wireOf c (s .wire) i v) = flat-same (wireOf c (s .wire) i v) in
       let home = total-same (homeOf c (s .home) i v) in
       let room = channel-room c (sound-legal s sound) i v port vc in
       let size = sound-lengths s sound .store in
-      let queued = queue-length (s .store) (firstSlot (channel c i v)) (inputAt c (s .inputs) i v .queued) (queued-few s sound i v port vc)
+      let queued = queue-length (s .store) (firstSlot (channelNumber c i v)) (inputAt c (s .inputs) i v .queued)
+      (queued-few s sound i v port vc)
       (omega arith) in
       record {
         wire = ap length wire ∙ d .wire;

@@ -26,7 +26,7 @@ use Rattle.model.proofs.Lists.{keep-each, each-none, each-one}
 use Rattle.state.specs.declared.Router.{Router}
 use Rattle.state.specs.Channels.{ChannelView}
 use Rattle.state.specs.Sound.{Sound}
-use Rattle.state.specs.Views.{channel, homePlace, toVc}
+use Rattle.state.specs.Views.{channelNumber, homePlace, toVc}
 use Rattle.trace.specs.Bytes.{AreBytes}
 use Rattle.rules.specs.declared.Verdict.the-variants.{Accepted}
 use Rattle.rules.specs.declared.Stepped.{Stepped}
@@ -92,7 +92,8 @@ module _ (s : Router) (part : List ℕ) (bytes : AreBytes part) (accepted : step
   offers-same : (i : ℕ) → i < c .ports → offersAt i (eventOf c part .offer i) ≡ offerIn part i
   unfolding eventOf
   offers-same i h =
-      ap (λ (t : Bool). offersAt i (cond (t && brings part i) (some (record { vc = vcAt part i; flit = flitAt part i })) none)) (lt-ltb i (c .ports) h)
+      ap (λ (t : Bool). offersAt i (cond (t && brings part i) (some (record { vc = vcAt part i; flit = flitAt part i })) none))
+      (lt-ltb i (c .ports) h)
       ∙ go (brings part i)
     where
       go : (b : Bool) → offersAt i (cond b (some (record { vc = vcAt part i; flit = flitAt part i })) none)
@@ -143,7 +144,8 @@ module _ (s : Router) (part : List ℕ) (bytes : AreBytes part) (accepted : step
             test true t =
                 let r = reported-exits s part bytes accepted o d q in
                 let here = same-true (d .input) (d .vc) i v t in
-                absurd (off (r .0) (r .1) (ap (λ (x : reply.Departure). x .input) (r .2) ∙ here .0) (ap (λ (x : reply.Departure). x .vc) (r .2) ∙ here .1))
+                absurd (off (r .0) (r .1) (ap (λ (x : reply.Departure). x .input) (r .2) ∙ here .0)
+                (ap (λ (x : reply.Departure). x .vc) (r .2) ∙ here .1))
             test false t = refl
 
     departures-same : departure (freeOf s) (choiceOf s part) i v ≡ keep (from i v) (departuresIn c (stepOf s part .reply))
@@ -168,7 +170,8 @@ module _ (s : Router) (part : List ℕ) (bytes : AreBytes part) (accepted : step
         go false q =
             ap (λ (l : Bool). leaving i v l (boundNow (freeOf s) (choiceOf s part) i v) (queueNow (freeOf s .channel i v))) q
             ∙ sym (each-none (c .ports) found (λ o l. none-found o (λ e r a b.
-            let leaves = leaves-from mid (channel c i v) (record { port = o; deed = e; below = l; acts = r; there = ap₂ (channel c) a b }) in
+            let leaves = leaves-from mid (channelNumber c i v) (record
+            { port = o; deed = e; below = l; acts = r; there = ap₂ (channelNumber c) a b }) in
             true≢false (sym (leaves-alike s part bytes accepted i v port vc ∙ leaves) ∙ q))))
 
   -- the whole entry

@@ -25,7 +25,7 @@ use Rattle.state.specs.Channels.{ChannelView, boundTo, isThere}
 use Rattle.state.specs.Fresh.{freshInput}
 use Rattle.state.specs.Sound.{Sound, frontIsFor}
 use Rattle.store.specs.Store.{firstSlot}
-use Rattle.state.specs.Views.{channel, inputAt, outputAt, queueAt}
+use Rattle.state.specs.Views.{channelNumber, inputAt, outputAt, queueAt}
 use Rattle.trace.specs.Bytes.{AreBytes}
 use Rattle.rules.specs.declared.Verdict.the-variants.{Accepted}
 use Rattle.rules.specs.Allocation.{Grant, grantOf}
@@ -54,7 +54,8 @@ front-asks o (f ∷ q) e =
 bound-named : (x : Binding) (b : free.OutVc) → nameOf (boundTo x) ≡ some b → x ≡ Bound (record { output = b .output; vc = b .vc })
 bound-named Unbound b q = absurd (Option·none-ne-some b q)
 bound-named (Bound a) b q =
-    ap (λ (n : free.OutVc). Bound (record { output = n .output; vc = n .vc })) (Option·some-injective (record { output = a .output; vc = a .vc }) b q)
+    ap (λ (n : free.OutVc). Bound (record { output = n .output; vc = n .vc }))
+    (Option·some-injective (record { output = a .output; vc = a .vc }) b q)
 
 module _ (s : Router) (part : List ℕ) (bytes : AreBytes part) (accepted : stepOf s part .verdict ≡ Accepted) where
   abbrev c : Config
@@ -73,19 +74,22 @@ module _ (s : Router) (part : List ℕ) (bytes : AreBytes part) (accepted : step
     pub below : v < c .vcs
     pub deed : Grant
     pub acts : grantOf came (b .output) ≡ some deed
-    pub there : deed .requester ≡ channel c i v
+    pub there : deed .requester ≡ channelNumber c i v
     pub vc : deed .vc ≡ b .vc
 
   pub grant-gives : (i v : ℕ) (b : free.OutVc) → choiceOf s part .grant i v ≡ some b → Gives i v b
   unfolding takenIn offersTaken landed creditsReturned creditsReached
-  grant-gives i v b q = let r = grant-there s part bytes accepted i v b q in go (r .port) (r .vc) (r .is) (granted-or-not came (channel c i v))
+  grant-gives i v b q = let r = grant-there s part bytes accepted i v b q in
+      go (r .port) (r .vc) (r .is) (granted-or-not came (channelNumber c i v))
     where
-      go : i < c .ports → v < c .vcs → nameOf (grantTo came (channel c i v)) ≡ some b
-          → Actor (grantOf came) (asking came) (c .ports) (channel c i v) ⊎ Untouched (grantOf came) (asking came) (c .ports) (channel c i v)
+      go : i < c .ports → v < c .vcs → nameOf (grantTo came (channelNumber c i v)) ≡ some b
+          → Actor (grantOf came) (asking came) (c .ports) (channelNumber c i v) ⊎ Untouched (grantOf came) (asking came) (c .ports)
+          (channelNumber c i v)
           → Gives i v b
       go h g e (inl a) =
           let same : record { output = a .port; vc = a .deed .vc } ≡ b =
-          Option·some-injective (record { output = a .port; vc = a .deed .vc }) b (ap nameOf (sym (grant-to came (channel c i v) a)) ∙ e) in
+          Option·some-injective (record { output = a .port; vc = a .deed .vc }) b
+          (ap nameOf (sym (grant-to came (channelNumber c i v) a)) ∙ e) in
           record {
             port = h;
             below = g;
@@ -94,7 +98,7 @@ module _ (s : Router) (part : List ℕ) (bytes : AreBytes part) (accepted : step
             there = a .there;
             vc = ap (λ (x : free.OutVc). x .vc) same;
           }
-      go h g e (inr off) = absurd (Option·none-ne-some b (ap nameOf (sym (no-grant-to came (channel c i v) off)) ∙ e))
+      go h g e (inr off) = absurd (Option·none-ne-some b (ap nameOf (sym (no-grant-to came (channelNumber c i v) off)) ∙ e))
 
   module _ (i v : ℕ) (b : free.OutVc) (q : choiceOf s part .grant i v ≡ some b) where
     it : Gives i v b
@@ -116,7 +120,8 @@ module _ (s : Router) (part : List ℕ) (bytes : AreBytes part) (accepted : step
     binds-front =
         front-asks (b .output) (queueNow (freeOf s .channel i v))
         (ap (frontIsFor (b .output)) (queue-came s part bytes accepted i v (it .port) (it .below))
-        ∙ ap (λ (x : ℕ). frontIsFor (b .output) (queueAt (came .store) (firstSlot x) (getD (came .inputs) x (freshInput 0) .queued))) (sym (it .there))
+        ∙ ap (λ (x : ℕ). frontIsFor (b .output) (queueAt (came .store) (firstSlot x) (getD (came .inputs) x (freshInput 0) .queued)))
+        (sym (it .there))
         ∙ granted .front)
 
     pub binds-vc : b .vc < c .vcs
@@ -133,7 +138,7 @@ module _ (s : Router) (part : List ℕ) (bytes : AreBytes part) (accepted : step
             let l = there-is c j u e in
             let to = bound-named (inputAt c (s .inputs) j u .binding) b
             (ap (λ (ch : ChannelView). nameOf (ch .bound)) (sym (view-there s j u (l .0) (l .1))) ∙ p) in
-            let held = names-agree c (s .inputs) (s .outputs) (sound .names) .bound j u (l .0) (l .1) _ to in
+            let held = names-agree c (s .inputs) (s .outputs) (sound .naming .names) .bound j u (l .0) (l .1) _ to in
             nobody-not (outputAt c (s .outputs) (b .output) (b .vc) .holder) (record { input = j; vc = u })
             (ap (λ (w : ℕ). outputAt c (s .outputs) (b .output) w .holder) (sym (it .vc))
             ∙ granted-was-free s part bytes accepted (b .output) (it .deed) (it .acts)) (held .2)

@@ -1,15 +1,16 @@
--- What the rules let leave in an accepted cycle is within the free router's limits: from a bound input VC with a flit, by an output VC with a
--- credit, at most one for each input and each output.
+-- What the rules let leave in an accepted cycle is within the free router's limits: from a bound input VC with a flit, by an output VC
+-- with a credit, at most one for each input and each output.
 -- Assumes nothing.
 use mathlib.Core.Path.{_≡_, refl, sym, ap, ap₂, subst, _∙_}
 use mathlib.Core.Bool.{Bool, true}
 use mathlib.Core.List.{List, [], _∷_}
 use mathlib.Core.Option.{some, Option·some-injective}
-use Prim.Native.Nat.{ℕ, zero, suc, _<_}
+use Prim.Native.Nat.{ℕ, _<_}
 use native.Mathlib.Omega.{arith}
 use lib.ListN.{length}
 use Rattle.base.specs.declared.config.Config.{Config}
 use Rattle.base.specs.declared.flit.Flit.{Flit}
+use Rattle.base.proofs.Search.{some-number}
 use Rattle.model.specs.Channel.{queueNow}
 use Rattle.model.specs.Router as free
 use Rattle.model.specs.Phases.{boundNow, outCreditNow, leaving, departure}
@@ -20,7 +21,7 @@ use Rattle.state.specs.declared.OutputVc.{OutputVc}
 use Rattle.state.specs.declared.Router.{Router}
 use Rattle.state.specs.Channels.{boundTo}
 use Rattle.state.specs.Sound.{Sound}
-use Rattle.state.specs.Views.{channel, inputAt, outputAt, queueOf}
+use Rattle.state.specs.Views.{channelNumber, inputAt, outputAt, queueOf}
 use Rattle.trace.specs.Bytes.{AreBytes}
 use Rattle.rules.specs.declared.Verdict.the-variants.{Accepted}
 use Rattle.rules.specs.Allocation.{allocated}
@@ -104,7 +105,7 @@ module _ (s : Router) (part : List ℕ) (bytes : AreBytes part) (accepted : step
           deed = it .deed;
           below = it .below;
           acts = it .acts;
-          there = ap₂ (channel c) (it .input) (it .vc);
+          there = ap₂ (channelNumber c) (it .input) (it .vc);
         })
 
     pub leaves-flit : 0 < length (queueNow (freeOf s .channel i v))
@@ -120,17 +121,14 @@ module _ (s : Router) (part : List ℕ) (bytes : AreBytes part) (accepted : step
         let one : Bound (w .to) ≡ Bound (record { output = it .output; vc = it .deed .by }) = sym (w .bound) ∙ is .bound in
         let to : w .to ≡ record { output = it .output; vc = it .deed .by } = cc in
         let paid =
-        credit-came s part bytes accepted (it .output) (it .deed .by) (it .below) (exit-named mid sound (it .output) (it .deed) (it .acts) .1)
+        credit-came s part bytes accepted (it .output) (it .deed .by) (it .below)
+        (exit-named mid sound (it .output) (it .deed) (it .acts) .1)
         ∙ sym (outputs-alike (takenIn part s) (taken-sound s part bytes accepted) (λ (y : OutputVc). y .credit) (λ i v y. refl)
-        (channel c (it .output) (it .deed .by))) in
+        (channelNumber c (it .output) (it .deed .by))) in
         subst (λ (x : free.OutVc). 0 < outCreditNow (freeOf s) (eventOf c part) (x .output) (x .vc)) by
         (subst (λ (n : ℕ). 0 < n) (sym paid)
-        (some-credit (outputAt c (mid .outputs) (it .output) (it .deed .by) .credit)
+        (some-number (outputAt c (mid .outputs) (it .output) (it .deed .by) .credit)
         (λ e. w .credit (ap (λ (x : OutVc). outputAt c (mid .outputs) (it .output) (x .vc) .credit) to ∙ e))))
-      where
-        some-credit : (n : ℕ) → (n ≡ 0 → ⊥) → 0 < n
-        some-credit zero f = absurd (f refl)
-        some-credit (suc n) f = omega arith
 
   -- a flit that leaves is one departure
   pub departure-is : (i v : ℕ) (q : choiceOf s part .leaves i v ≡ true)

@@ -53,11 +53,13 @@ offer-is c part i b = go (ltb i (c .ports)) refl (brings part i) refl
     go false e u f q = absurd (Option·none-ne-some b q)
 
 -- the credit that comes back at output o, if it is there and its row names a VC
-pub credit-is : (c : Config) (part : List ℕ) (o w : ℕ) → eventOf c part .credit o ≡ some w → (o < c .ports) × (named (creditAt part o) ≡ some w)
+pub credit-is : (c : Config) (part : List ℕ) (o w : ℕ) → eventOf c part .credit o ≡ some w → (o < c .ports)
+    × (named (creditAt part o) ≡ some w)
 unfolding eventOf
 credit-is c part o w = go (ltb o (c .ports)) refl
   where
-    go : (t : Bool) → ltb o (c .ports) ≡ t → cond t (named (creditAt part o)) none ≡ some w → (o < c .ports) × (named (creditAt part o) ≡ some w)
+    go : (t : Bool) → ltb o (c .ports) ≡ t → cond t (named (creditAt part o)) none ≡ some w → (o < c .ports)
+        × (named (creditAt part o) ≡ some w)
     go true e q = (ltb-true o (c .ports) e, q)
     go false e q = absurd (Option·none-ne-some w q)
 
@@ -100,15 +102,16 @@ module _ (s : Router) (part : List ℕ) (bytes : AreBytes part) (accepted : step
         subst (λ (n : ℕ). n < c .ports)
         (sym (offered-destination c (sound-legal s sound) part bytes i row) ∙ ap (λ (x : Brought Flit). destinationOf (x .flit)) (it .is))
         (ltb-true (destinationAt part i) (c .ports)
-        (ap (λ (t : Bool). cond t (ltb (destinationAt part i) (c .ports)) (eqb (destinationAt part i) 0)) (sym e ∙ starts-is) ∙ row .destination))
+        (ap (λ (t : Bool). cond t (ltb (destinationAt part i) (c .ports)) (eqb (destinationAt part i) 0)) (sym e ∙ starts-is)
+        ∙ row .destination))
 
     -- not 4
     pub offer-kinds : look .starts (b .flit) ≡ not (freeOf s .opened i (b .vc))
     unfolding freeOf
     offer-kinds =
         starts-is
-        ∙ turned (inputAt c (s .inputs) i (vcAt part i) .inside) (startsKind (kindAt part i)) (permitted .turns i (it .port) (it .brought))
-        ∙ ap (λ (x : Brought Flit). not (inputAt c (s .inputs) i (x .vc) .inside)) (it .is)
+        ∙ turned (inputAt c (s .inputs) i (vcAt part i) .opened) (startsKind (kindAt part i)) (permitted .turns i (it .port) (it .brought))
+        ∙ ap (λ (x : Brought Flit). not (inputAt c (s .inputs) i (x .vc) .opened)) (it .is)
         ∙ ap (λ (ch : ChannelView). not (ch .opened)) (sym (view-there s i (b .vc) (it .port) offer-vc))
 
     -- not 5
@@ -119,7 +122,8 @@ module _ (s : Router) (part : List ℕ) (bytes : AreBytes part) (accepted : step
         (let legal = sound-legal s sound in
         let paid : 1 ≤ inputAt c (s .inputs) i (b .vc) .credit + out 0 (homeOf c (s .home) i (b .vc)) =
         subst (λ (n : ℕ). 1 ≤ n)
-        (credit-reaches c (s .home) (s .inputs) (λ j l. home-at s sound 0 j (legal .back .0) l) i (b .vc) (it .port) offer-vc (inputs-room s sound)
+        (credit-reaches c (s .home) (s .inputs) (λ j l. home-at s sound 0 j (legal .back .0) l) i (b .vc) (it .port) offer-vc
+        (inputs-room s sound)
         ∙ ap (λ (n : ℕ). inputAt c (s .inputs) i (b .vc) .credit + n) (sym (home-out c i (b .vc) (s .home) (legal .back .0))))
         (subst (λ (x : Brought Flit). 1 ≤ inputAt c (sendersPaid c (s .home) (s .inputs)) i (x .vc) .credit) (it .is)
         (permitted .paid i (it .port) (it .brought))) in
@@ -134,6 +138,6 @@ module _ (s : Router) (part : List ℕ) (bytes : AreBytes part) (accepted : step
       let fits = permitted .credits o (r .0) in
       let vc = named-there (creditAt part o) (c .vcs) w (fits .there) (r .1) in
       let most = leb-true (outputAt c (s .outputs) o w .credit) (c .downstream)
-      (channel-at c (λ o w. leb (outputAt c (s .outputs) o w .credit) (c .downstream)) (sound .outputCredits) o w (r .0) vc) in
+      (channel-at c (λ o w. leb (outputAt c (s .outputs) o w .credit) (c .downstream)) (sound .flow .outputCredits) o w (r .0) vc) in
       subst (λ (t : Bool). cond t (outputAt c (s .outputs) o w .credit) (c .downstream) < c .downstream) (sym (is-there c o w (r .0) vc))
       (lt-of-le-ne most (fits .room w (r .1)))

@@ -1,5 +1,5 @@
--- The history of a run and its list are one: as many flits left in the history as the list has F lines of the accepted cycles, and it has as
--- many entries as the router counts cycles. Of any configuration and any parts, each a list of bytes.
+-- The history of a run and its list are one: as many flits left in the history as the list has F lines of the accepted cycles, and it has
+-- as many entries as the router counts cycles. Of any configuration and any parts, each a list of bytes.
 -- Assumes nothing.
 use mathlib.Core.Path.{_≡_, refl, sym, ap, _∙_}
 use mathlib.Core.List.{List, [], _∷_}
@@ -60,7 +60,13 @@ from-departed c r (part ∷ parts) bytes counts =
         ≡ departed (r .history) + flitLines (linesThen v (stepOf (r .router) part) (r .router) (λ t. linesFrom t parts))
     go Accepted e more =
         let x = stepOf (r .router) part in
-        omega (arith, more (recorded c part r Accepted x) (accepted-counts c r part (bytes .0) counts e), accepted-departed c r part (bytes .0) counts e, flit-lines-append (cycleLines (r .router .cycle) (x .reply)) (linesFrom (x .router) parts))
+        omega (
+          arith,
+          more (recorded c part r Accepted x) (accepted-counts c r part (bytes .0) counts e),
+          accepted-departed c r part
+              (bytes .0) counts e,
+          flit-lines-append (cycleLines (r .router .cycle) (x .reply)) (linesFrom (x .router) parts),
+        )
     go (Refused n) e more = more r counts
 
 from-counts : (c : Config) (r : Ran) (parts : List (List ℕ)) → All AreBytes parts → Counts c r → Counts c (runFrom c r parts)

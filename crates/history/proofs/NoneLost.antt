@@ -1,6 +1,6 @@
--- No departure is lost on the way into the history, and none doubled: the entry of an accepted cycle has of each output what the reply reports
--- there, as many departures as the list has F lines of the cycle, and as many credits that reached their sender as C lines. Only that the cycle
--- is accepted is asked.
+-- No departure is lost on the way into the history, and none doubled: the entry of an accepted cycle has of each output what the reply
+-- reports there, as many departures as the list has F lines of the cycle, and as many credits that reached their sender as C lines. Only
+-- that the cycle is accepted is asked.
 -- Assumes nothing.
 use mathlib.Core.Path.{_≡_, refl, sym, ap, _∙_}
 use mathlib.Core.Logic.{_≢_}
@@ -55,7 +55,15 @@ each-together : {A : Type 0} (n : ℕ) (f g h : ℕ → List A) → ((i : ℕ) �
     → length (each n f) ≡ length (each n g) + length (each n h)
 each-together zero f g h same = refl
 each-together (suc n) f g h same =
-    omega (arith, each-together n f g h same, same n, length-append (each n f) (f n), length-append (each n g) (g n), length-append (each n h) (h n))
+    omega (
+      arith,
+      each-together n f g h same,
+      same n,
+      length-append (each n f) (f n),
+      length-append (each n g) (g n),
+      length-append
+          (each n h) (h n),
+    )
 
 module _ {A : Type 0} (f : ℕ → List A) (lines : ℕ → List Line) where
   -- where each port has as many lines, all ports have
@@ -63,7 +71,14 @@ module _ {A : Type 0} (f : ℕ → List A) (lines : ℕ → List Line) where
   unfolding byPort
   ports-each zero same = refl
   ports-each (suc n) same =
-      omega (arith, length-append (each n f) (f n), length-append (byPort lines n) (lines n), ports-each n (λ i l. same i (omega arith)), same n (omega arith))
+      omega (
+        arith,
+        length-append (each n f) (f n),
+        length-append (byPort lines n) (lines n),
+        ports-each n
+            (λ i l. same i (omega arith)),
+        same n (omega arith),
+      )
 
   -- also if more ports follow that have none
   ports-past : (p n : ℕ) → p ≤ n → ((i : ℕ) → i < p → length (f i) ≡ length (lines i)) → ((i : ℕ) → p ≤ i → i < n → lines i ≡ [])
@@ -101,7 +116,8 @@ sorted-more n m d ds =
 -- and it is sorted in once, if it left a VC that there is
 sorted-one : (n m : ℕ) (d : Departure Flit) → d .input < n → d .vc < m → sorted n m (d ∷ []) ≡ d ∷ []
 sorted-one n m d input vc =
-    grid-one n m (λ i v. keep (from i v) (d ∷ [])) (d .input) (d .vc) (λ i v ne. go i v ne (from i v d) refl) (λ out. absurd (out (input, vc)))
+    grid-one n m (λ i v. keep (from i v) (d ∷ [])) (d .input) (d .vc) (λ i v ne. go i v ne (from i v d) refl)
+    (λ out. absurd (out (input, vc)))
     ∙ ap (λ (b : Bool). cond b (d ∷ []) []) (same-own (d .input) (d .vc))
   where
     go : (i v : ℕ) → ¬ ((i ≡ d .input) × (v ≡ d .vc)) → (b : Bool) → from i v d ≡ b → cond b (d ∷ []) [] ≡ []
@@ -109,7 +125,8 @@ sorted-one n m d input vc =
     go i v ne false e = refl
 
 -- departures from VCs that there are: sorted, they are as many
-sorted-all : (n m : ℕ) (ds : List (Departure Flit)) → All (λ (d : Departure Flit). (d .input < n) × (d .vc < m)) ds → length (sorted n m ds) ≡ length ds
+sorted-all : (n m : ℕ) (ds : List (Departure Flit)) → All (λ (d : Departure Flit). (d .input < n) × (d .vc < m)) ds
+    → length (sorted n m ds) ≡ length ds
 sorted-all n m [] there = ap length (sorted-none n m)
 sorted-all n m (d ∷ ds) there =
     omega (arith, sorted-more n m d ds, ap length (sorted-one n m d (there .0 .0) (there .0 .1)), sorted-all n m ds (there .1))
@@ -130,7 +147,8 @@ keep-swap {A} p q (x ∷ xs) = go (p x) refl (q x) refl (keep-swap p q xs)
 sorted-kept : (p : Departure Flit → Bool) (n m : ℕ) (ds : List (Departure Flit)) → keep p (sorted n m ds) ≡ sorted n m (keep p ds)
 sorted-kept p n m ds =
     keep-grid p n m (λ i v. keep (from i v) ds)
-    ∙ each-ext n _ _ (λ i l. each-ext m (λ v. keep p (keep (from i v) ds)) (λ v. keep (from i v) (keep p ds)) (λ v k. keep-swap p (from i v) ds))
+    ∙ each-ext n _ _ (λ i l. each-ext m (λ v. keep p (keep (from i v) ds)) (λ v. keep (from i v) (keep p ds))
+    (λ v k. keep-swap p (from i v) ds))
 
 module _ (s : Router) (part : List ℕ) (bytes : AreBytes part) (accepted : stepOf s part .verdict ≡ Accepted) where
   abbrev c : Config
@@ -198,7 +216,14 @@ module _ (s : Router) (part : List ℕ) (bytes : AreBytes part) (accepted : step
   flit-lines-each zero = refl
   flit-lines-each (suc n) =
       let lines = flitLine (s .cycle) told in
-      omega (arith, length-append (byPort lines n) (lines n), flit-lines-append (byPort lines n) (lines n), flit-lines-each n, one (leftAt n) refl)
+      omega (
+        arith,
+        length-append (byPort lines n) (lines n),
+        flit-lines-append (byPort lines n) (lines n),
+        flit-lines-each n,
+        one
+            (leftAt n) refl,
+      )
     where
       one : (l : Left) → leftAt n ≡ l → length (flitLine (s .cycle) told n) ≡ flitLines (flitLine (s .cycle) told n)
       one left.Nothing q = rw (no-flit (s .cycle) told n q)
@@ -210,7 +235,8 @@ module _ (s : Router) (part : List ℕ) (bytes : AreBytes part) (accepted : step
   unfolding entryOf
   departures-told o =
       sorted-kept by (c .ports) (c .vcs) (departuresIn c told)
-      ∙ ap (sorted (c .ports) (c .vcs)) (keep-one by (c .ports) (λ p. departureIn p (departureOf (leftAt p))) o (λ p ne. other p ne (leftAt p)) (beyond (leftAt o) refl)
+      ∙ ap (sorted (c .ports) (c .vcs)) (keep-one by (c .ports) (λ p. departureIn p (departureOf (leftAt p))) o
+      (λ p ne. other p ne (leftAt p)) (beyond (leftAt o) refl)
       ∙ own (leftAt o))
       ∙ alone (leftAt o) (left-in-range o)
     where
@@ -238,8 +264,10 @@ module _ (s : Router) (part : List ℕ) (bytes : AreBytes part) (accepted : step
   pub departures-all : length (entryOf c (s .cycle) part told .departures) ≡ flitLines (cycleLines (s .cycle) told)
   unfolding entryOf
   departures-all =
-      sorted-all (c .ports) (c .vcs) (departuresIn c told) (all-each _ (c .ports) (λ o. departureIn o (departureOf (leftAt o))) (λ o l. left-in-range o))
-      ∙ ports-past (λ o. departureIn o (departureOf (leftAt o))) (flitLine (s .cycle) told) (c .ports) 8 few (λ o l. flit-each o) (λ o past l. flit-past o past)
+      sorted-all (c .ports) (c .vcs) (departuresIn c told) (all-each _ (c .ports) (λ o. departureIn o (departureOf (leftAt o)))
+      (λ o l. left-in-range o))
+      ∙ ports-past (λ o. departureIn o (departureOf (leftAt o))) (flitLine (s .cycle) told) (c .ports) 8 few (λ o l. flit-each o)
+      (λ o past l. flit-past o past)
       ∙ flit-lines-each 8
       ∙ sym (cycle-flit-lines (s .cycle) told)
 
@@ -247,4 +275,5 @@ module _ (s : Router) (part : List ℕ) (bytes : AreBytes part) (accepted : step
   pub reached-all : length (entryOf c (s .cycle) part told .reached) ≡ length (byPort (creditLine (s .cycle) told) mostPorts)
   unfolding entryOf
   reached-all =
-      ports-past (λ i. reachedIn i (creditOf (reachedAt i))) (creditLine (s .cycle) told) (c .ports) 8 few (λ i l. credit-each i) credit-past
+      ports-past (λ i. reachedIn i (creditOf (reachedAt i))) (creditLine (s .cycle) told) (c .ports) 8 few
+      (λ i l. credit-each i) credit-past

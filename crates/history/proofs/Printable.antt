@@ -1,5 +1,5 @@
--- The reply of an accepted cycle is within the writer's ranges: its lines are never refused with 12, they have at most 376 bytes, and F lines
--- at most as many as ports. Only that the cycle is accepted is asked: then the router was sound, and the run not full.
+-- The reply of an accepted cycle is within the writer's ranges: its lines are never refused with 12, they have at most 376 bytes, and F
+-- lines at most as many as ports. Only that the cycle is accepted is asked: then the router was sound, and the run not full.
 -- Assumes nothing.
 use mathlib.Core.Path.{_≡_, refl, sym, ap, ap₂, subst, _∙_}
 use mathlib.Core.Bool.{Bool, true, false, _&&_}
@@ -9,7 +9,7 @@ use Prim.Native.Nat.{ℕ, zero, suc, _+_, _^_, _≤_, _<_, zero-le}
 use native.Mathlib.Omega.{arith}
 use lib.Dec.{leb, ltb}
 use lib.ListN.{length, getD}
-use borrow.Author.Tests.{leb-true, le-leb, ltb-true, ltb-false}
+use borrow.Author.Tests.{leb-true, ltb-true, ltb-false}
 use Rattle.base.specs.declared.config.Config.{Config}
 use Rattle.base.specs.declared.flit.Flit.{Flit}
 use Rattle.base.specs.declared.reply.Departure.{Departure}
@@ -21,10 +21,11 @@ use Rattle.base.specs.declared.reply.Reply.{Reply}
 use Rattle.base.specs.declared.reply.Sender.{Sender}
 use Rattle.base.specs.Flit.{kindOf, head, single}
 use Rattle.base.specs.Numbers.{room}
-use Rattle.base.specs.Sizes.{field, inRange, cycleLimit}
-use Rattle.base.proofs.Configurations.{Legal}
+use Rattle.base.specs.Sizes.{cycleLimit}
+use Rattle.base.proofs.Configurations.{Legal, in-range}
 use Rattle.base.proofs.Search.{both}
-use Rattle.listing.specs.Lines.{Line, credit, flit, valuesOf, allInRange, printable, text, byPort, creditLine, flitLine, cycleLines, flitLines}
+use Rattle.listing.specs.Lines.{Line, credit, flit, valuesOf, allInRange, printable, text, byPort, creditLine, flitLine, cycleLines}
+use Rattle.listing.specs.Lines.{flitLines}
 use Rattle.listing.proofs.Counting.{flit-lines-append, flit-none, flit-most, flits-most, cycle-flit-lines}
 use Rattle.listing.proofs.Lengths.{cycle-length}
 use Rattle.listing.proofs.Ports.{printable-append, no-credit, one-credit, no-flit, one-flit, cycle-printable}
@@ -49,26 +50,21 @@ use Rattle.rules.proofs.Named.{named-there}
 use Rattle.rules.proofs.Reported.{reported-at, reported-past}
 use Rattle.history.proofs.Written.{front-legal}
 
--- a value between its bounds is in its range
-inside : (x least most : ℕ) → least ≤ x → x ≤ most → inRange (field x least most) ≡ true
-unfolding inRange
-inside x least most low high = ap₂ _&&_ (le-leb least x low) (le-leb x most high)
-
 -- a line whose values are in their ranges prints
 credit-prints : (cycle i v : ℕ) → cycle < cycleLimit → i < 8 → v < 4 → printable (credit cycle i v ∷ []) ≡ true
 unfolding printable valuesOf allInRange
 credit-prints cycle i v early port vc =
-    rw (inside cycle 0 999999999 zero-le (omega arith), inside i 0 7 zero-le (omega arith), inside v 0 3 zero-le (omega arith))
+    rw (in-range cycle 0 999999999 zero-le (omega arith), in-range i 0 7 zero-le (omega arith), in-range v 0 3 zero-le (omega arith))
 
 flit-prints : (cycle o : ℕ) (d : Departure) → FlitIn cycle o d → printable (flit cycle o d ∷ []) ≡ true
 unfolding printable valuesOf allInRange
 flit-prints cycle o d is =
-    let when = inside cycle 0 999999999 zero-le (omega arith) in
-    let output = inside o 0 7 zero-le (omega arith) in
-    let by = inside (d .«out_vc») 0 3 zero-le (omega arith) in
-    let input = inside (d .input) 0 7 zero-le (omega arith) in
-    let vc = inside (d .vc) 0 3 zero-le (omega arith) in
-    let kind = inside (d .kind) 1 4 (is .kind-least) (is .kind-most) in
+    let when = in-range cycle 0 999999999 zero-le (omega arith) in
+    let output = in-range o 0 7 zero-le (omega arith) in
+    let by = in-range (d .«out_vc») 0 3 zero-le (omega arith) in
+    let input = in-range (d .input) 0 7 zero-le (omega arith) in
+    let vc = in-range (d .vc) 0 3 zero-le (omega arith) in
+    let kind = in-range (d .kind) 1 4 (is .kind-least) (is .kind-most) in
     λ t. (when t && (output t && (by t && (input t && (vc t && (kind t && true)))))) && true
 
 module _ (f : ℕ → List Line) where
@@ -183,7 +179,8 @@ module _ (s : Router) (part : List ℕ) (bytes : AreBytes part) (accepted : step
   pub reply-printable : printable (cycleLines (s .cycle) reply) ≡ true
   reply-printable =
       cycle-printable (s .cycle) reply
-      ∙ ap₂ _&&_ (ports-print (creditLine (s .cycle) reply) 8 credit-lines-print) (ports-print (flitLine (s .cycle) reply) 8 flit-lines-print)
+      ∙ ap₂ _&&_ (ports-print (creditLine (s .cycle) reply) 8 credit-lines-print)
+      (ports-print (flitLine (s .cycle) reply) 8 flit-lines-print)
 
   -- "Longest cycle: .. 376 bytes."
   pub reply-fits : length (text (cycleLines (s .cycle) reply)) ≤ room
@@ -202,7 +199,8 @@ module _ (s : Router) (part : List ℕ) (bytes : AreBytes part) (accepted : step
   flits-few zero = zero-le
   flits-few (suc n) = go (ltb n (c .ports)) refl (flits-few n)
     where
-      more : flitLines (byPort (flitLine (s .cycle) reply) n ++ flitLine (s .cycle) reply n) ≡ flitLines (byPort (flitLine (s .cycle) reply) n) + flitLines (flitLine (s .cycle) reply n)
+      more : flitLines (byPort (flitLine (s .cycle) reply) n ++ flitLine (s .cycle) reply n)
+          ≡ flitLines (byPort (flitLine (s .cycle) reply) n) + flitLines (flitLine (s .cycle) reply n)
       more = flit-lines-append (byPort (flitLine (s .cycle) reply) n) (flitLine (s .cycle) reply n)
 
       go : (b : Bool) → ltb n (c .ports) ≡ b → flitLines (byPort (flitLine (s .cycle) reply) n) ≤ c .ports

@@ -46,7 +46,8 @@ run-accepts : (s : Router) (h : History Flit) (part : List ℕ) → AreBytes par
 run-accepts s h part bytes accepted count run =
     subst (λ (r : free.Router Flit). Run look (sizesOf (s .config)) r (entryOf (s .config) (length h) part (stepOf s part .reply) ∷ h))
     (sym (step-chosen s part bytes accepted))
-    (subst (λ (e : Entry Flit). Run look (sizesOf (s .config)) (step look (sizesOf (s .config)) (freeOf s) (eventOf (s .config) part) (choiceOf s part)) (e ∷ h))
+    (subst (λ (e : Entry Flit). Run look (sizesOf (s .config))
+    (step look (sizesOf (s .config)) (freeOf s) (eventOf (s .config) part) (choiceOf s part)) (e ∷ h))
     (entry-is s part bytes accepted ∙ ap (λ (n : ℕ). entryOf (s .config) n part (stepOf s part .reply)) count)
     (accept run (eventOf (s .config) part) (choiceOf s part) (legal-step s part bytes accepted)))
 

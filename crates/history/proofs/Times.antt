@@ -1,5 +1,5 @@
--- What follows from the link: the times and limits of 01 and the output credits, of the router that steps. Each is crates/model's law of every
--- run.
+-- What follows from the link: the times and limits of 01 and the output credits, of the router that steps. Each is crates/model's law of
+-- every run.
 -- Assumes nothing.
 use mathlib.Core.Path.{_≡_, sym, ap, subst, _∙_}
 use mathlib.Core.Bool.{Bool, cond}
@@ -42,8 +42,8 @@ module _ (c : Config) (legal : illegalField c ≡ none) (parts : List (List ℕ)
       → Later (c .forward + c .back) (acceptedIn i v (runOf c parts .history)) (reachedIn i v (runOf c parts .history))
   serves-after-F-and-B i v = times.serves-after-F-and-B look (sizesOf c) (legal-delayed c legal) i v (run-is c legal parts bytes)
 
-  -- "Credits that left an input B cycles ago reach its sender": after accepted cycle t, a VC's credits have reached its sender in the cycles in which
-  -- its flits left up to t−B, each B later
+  -- "Credits that left an input B cycles ago reach its sender": after accepted cycle t, a VC's credits have reached its sender in the
+  -- cycles in which its flits left up to t−B, each B later
   pub reaches-after-B : (i v t : ℕ) → length (runOf c parts .history) ≡ suc t
       → reachedIn i v (runOf c parts .history) ≡ map (λ (a : ℕ). a + c .back) (leftIn i v (upTo t (c .back) (runOf c parts .history)))
   reaches-after-B i v t count = go (runOf c parts .history) (demand3 c legal parts bytes t count .cycles) (run-is c legal parts bytes)
@@ -80,6 +80,7 @@ module _ (c : Config) (legal : illegalField c ≡ none) (parts : List (List ℕ)
       let s = runOf c parts .router in
       let seen : outputAt c (s .outputs) o w .credit ≡ outCreditOf s o w =
       ap (λ (t : Bool). cond t (outputAt c (s .outputs) o w .credit) (c .downstream)) (sym (is-there c o w port vc))
-      ∙ ap (λ (d : Config). cond (isThere d o w) (outputAt d (s .outputs) o w .credit) (d .downstream)) (sym (run-runs c legal parts bytes .config)) in
+      ∙ ap (λ (d : Config). cond (isThere d o w) (outputAt d (s .outputs) o w .credit) (d .downstream))
+      (sym (run-runs c legal parts bytes .config)) in
       ap (λ (n : ℕ). n + length (leftOn o w (runOf c parts .history))) seen
       ∙ credits.output-credits look (sizesOf c) (legal-delayed c legal) (run-is c legal parts bytes) o w .sum

@@ -18,7 +18,7 @@ use Rattle.state.specs.declared.Binding.{Binding}
 use Rattle.state.specs.declared.Binding.the-variants.{Bound}
 use Rattle.state.specs.declared.Router.{Router}
 use Rattle.state.specs.Sound.{Sound, all, legalFlit, queuesLegal, packetsRead, reads, reading, endsAs}
-use Rattle.state.specs.Views.{channel, inputAt, queueOf, wireOf, flat}
+use Rattle.state.specs.Views.{channelNumber, inputAt, queueOf, wireOf, flat}
 use Rattle.rules.proofs.Channels.{channel-at}
 use Rattle.rules.proofs.Exits.{Exit, exit, exit-is}
 use Rattle.rules.proofs.LeftNames.{Leaves}
@@ -60,38 +60,43 @@ module _ (s : Router) (sound : Sound s) (o : ℕ) (e : Exit) (below : o < s .con
   vc : v < c .vcs
   vc = exit-is s o e acts .wins .vc-below
 
-  abbrev own : Leaves s sound (channel c i v)
+  abbrev own : Leaves s sound (channelNumber c i v)
   own = record { port = o; deed = e; below = below; acts = acts; there = refl }
 
   pub front-legal : legalFlit c (e .flit) ≡ true
   unfolding queuesLegal all
   front-legal =
       both (legalFlit c (e .flit)) _ (ap (all (legalFlit c)) (sym (exit-front s sound i v port vc own))
-      ∙ channel-at c (λ i v. all (legalFlit c) (queueOf c (s .store) i v (inputAt c (s .inputs) i v .queued))) (sound .queues) i v port vc) .0
+      ∙ channel-at c (λ i v. all (legalFlit c) (queueOf c (s .store) i v (inputAt c (s .inputs) i v .queued)))
+      (sound .flow .queues) i v port vc) .0
 
   front-named : startsKind (kindOf (e .flit)) ≡ true → destinationOf (e .flit) ≡ o
   unfolding packetsRead
   front-named starts =
       let front = exit-front s sound i v port vc own in
-      front-for (e .flit) _ (flat (wireOf c (s .wire) i v)) (record { output = o; vc = e .by }) (inputAt c (s .inputs) i v .inside) starts
-      (ap₂ (λ (q : List Flit) (b : Binding). reads q (flat (wireOf c (s .wire) i v)) b (inputAt c (s .inputs) i v .inside)) (sym front)
+      front-for (e .flit) _ (flat (wireOf c (s .wire) i v)) (record { output = o; vc = e .by }) (inputAt c (s .inputs) i v .opened) starts
+      (ap₂ (λ (q : List Flit) (b : Binding). reads q (flat (wireOf c (s .wire) i v)) b (inputAt c (s .inputs) i v .opened)) (sym front)
       (sym (exit-is s o e acts .bound))
       ∙ channel-at c (λ i v.
-      reads (queueOf c (s .store) i v (inputAt c (s .inputs) i v .queued)) (flat (wireOf c (s .wire) i v)) (inputAt c (s .inputs) i v .binding)
-      (inputAt c (s .inputs) i v .inside)) (sound .packets) i v port vc)
+      reads (queueOf c (s .store) i v (inputAt c (s .inputs) i v .queued)) (flat (wireOf c (s .wire) i v))
+      (inputAt c (s .inputs) i v .binding)
+      (inputAt c (s .inputs) i v .opened)) (sound .naming .packets) i v port vc)
 
   -- it is the flit that left, destination and all
   pub exit-written : e .flit ≡ flitOf (kindOf (e .flit)) (cond (startsKind (kindOf (e .flit))) o 0) (payloadOf (e .flit))
   unfolding legalFlit
   exit-written =
       let kind = leb head (kindOf (e .flit)) && leb (kindOf (e .flit)) single in
-      let p = both (kind && cond (startsKind (kindOf (e .flit))) (ltb (destinationOf (e .flit)) (c .ports)) (eqb (destinationOf (e .flit)) 0))
+      let p = both (kind && cond (startsKind (kindOf (e .flit))) (ltb (destinationOf (e .flit)) (c .ports))
+      (eqb (destinationOf (e .flit)) 0))
       (ltb (e .flit .word) (2 ^ 38)) front-legal in
-      let q = both kind (cond (startsKind (kindOf (e .flit))) (ltb (destinationOf (e .flit)) (c .ports)) (eqb (destinationOf (e .flit)) 0)) (p .0) in
+      let q = both kind (cond (startsKind (kindOf (e .flit))) (ltb (destinationOf (e .flit)) (c .ports))
+      (eqb (destinationOf (e .flit)) 0)) (p .0) in
       flit-parts (e .flit) (ltb-true (e .flit .word) (2 ^ 38) (p .1))
       ∙ ap (λ (d : ℕ). flitOf (kindOf (e .flit)) d (payloadOf (e .flit))) (go (startsKind (kindOf (e .flit))) refl (q .1))
     where
-      go : (b : Bool) → startsKind (kindOf (e .flit)) ≡ b → cond b (ltb (destinationOf (e .flit)) (c .ports)) (eqb (destinationOf (e .flit)) 0) ≡ true
+      go : (b : Bool) → startsKind (kindOf (e .flit)) ≡ b → cond b (ltb (destinationOf (e .flit)) (c .ports))
+          (eqb (destinationOf (e .flit)) 0) ≡ true
           → destinationOf (e .flit) ≡ cond b o 0
       go true starts l = front-named starts
       go false starts l = eqb-true (destinationOf (e .flit)) 0 l

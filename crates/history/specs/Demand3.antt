@@ -1,5 +1,5 @@
--- Demand 3, sentence by sentence, of a router s of configuration c after accepted cycle t, and the history h of its run. The counts over the
--- history are those of crates/model: `upTo t n` keeps the cycles up to t−n, `after t n` those after it.
+-- Demand 3, sentence by sentence, of a router s of configuration c after accepted cycle t, and the history h of its run. The counts over
+-- the history are those of crates/model: `upTo t n` keeps the cycles up to t−n, `after t n` those after it.
 -- Assumes nothing.
 use mathlib.Core.Path.{_≡_}
 use mathlib.Core.List.{List, _++_}
@@ -56,5 +56,6 @@ pub record Demand3 (c : Config) (s : Router) (h : History Flit) (t : ℕ) : Type
   pub cycles : Numbered (suc t) h
   -- "After each accepted cycle, each input channel's ..": the two sentences above
   pub inputs : (i v : ℕ) → i < c .ports → v < c .vcs → InputDemand c s h t i v
-  -- "On each output channel the flits form whole packets one after another, at most the last unfinished, none holding flits of two sources."
+  -- "On each output channel the flits form whole packets one after another, at most the last unfinished, none holding flits of two
+  -- sources."
   pub outputs : (o w : ℕ) → o < c .ports → w < c .vcs → Packets look FromOneSource (leftOn o w h)

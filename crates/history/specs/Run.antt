@@ -60,7 +60,8 @@ entryOf c cycle part r =
     record {
       cycle = cycle;
       offers = each (c .ports) (λ i. offerIn part i);
-      departures = each (c .ports) (λ i. each (c .vcs) (λ v. keep (λ (d : Departure Flit). same (d .input) (d .vc) i v) (departuresIn c r)));
+      departures = each (c .ports) (λ i. each (c .vcs) (λ v. keep (λ (d : Departure Flit). same (d .input) (d .vc) i v)
+          (departuresIn c r)));
       reached = each (c .ports) (λ i. reachedIn i (creditOf (getD (r .senders) i (record { reached = reached.Nothing }) .reached)));
       credits = each (c .ports) (λ o. creditsAt o (named (creditAt part o)));
     }

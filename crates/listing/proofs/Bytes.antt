@@ -23,13 +23,15 @@ pub credit-bytes : (cycle input vc : ℕ) → input < 8 → vc < 4
 unfolding print spaced
 credit-bytes cycle input vc i v = rw (decimal-digit input (omega arith), decimal-digit vc (omega arith))
 
-pub flit-bytes : (cycle output : ℕ) (d : Departure) → FlitIn cycle output d
+pub flit-bytes : (cycle output letter : ℕ) (d : Departure) → FlitIn cycle output d → letter ≡ letterOf (d .kind)
     → (70 ∷ 32 ∷ decimal cycle)
-    ++ ((32 ∷ (48 + output) ∷ 32 ∷ (48 + d .«out_vc») ∷ 32 ∷ (48 + d .input) ∷ 32 ∷ (48 + d .vc) ∷ 32 ∷ letterOf (d .kind) ∷ 32 ∷ []) ++ (hex (d .payload) ++ (10 ∷ [])))
+    ++ ((32 ∷ (48 + output) ∷ 32 ∷ (48 + d .«out_vc») ∷ 32 ∷ (48 + d .input) ∷ 32 ∷ (48 + d .vc) ∷ 32 ∷ letter ∷ 32 ∷ []) ++
+    (hex (d .payload) ++ (10 ∷ [])))
     ≡ print (flit cycle output d)
 unfolding print spaced
-flit-bytes cycle output d x =
+flit-bytes cycle output letter d x e =
     rw (
+      e,
       decimal-digit output (omega arith),
       decimal-digit (d .«out_vc») (omega arith),
       decimal-digit (d .input) (omega arith),
@@ -42,6 +44,7 @@ unfolding print spaced
 finish-bytes cycles flits = refl
 
 pub refusal-bytes : (number cycle place : ℕ) → place ≤ 7
-    → (82 ∷ 32 ∷ []) ++ (decimal number ++ ((32 ∷ []) ++ (decimal cycle ++ (32 ∷ (48 + place) ∷ 10 ∷ [])))) ≡ print (refusal number cycle place)
+    → (82 ∷ 32 ∷ []) ++ (decimal number ++ ((32 ∷ []) ++ (decimal cycle ++ (32 ∷ (48 + place) ∷ 10 ∷ []))))
+    ≡ print (refusal number cycle place)
 unfolding print spaced
 refusal-bytes number cycle place h = rw (decimal-digit place (omega arith))

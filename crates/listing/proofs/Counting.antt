@@ -2,7 +2,6 @@
 -- Assumes nothing.
 use mathlib.Core.Path.{_≡_, refl, ap, _∙_}
 use mathlib.Core.List.{List, [], _∷_, _++_}
-use mathlib.Core.Option.{none}
 use Prim.Native.Nat.{ℕ, zero, suc, _+_, _≤_}
 use native.Mathlib.Omega.{arith}
 use lib.ListN.{getD}
@@ -63,12 +62,14 @@ module _ (cycle : ℕ) (reply : Reply) where
   credits-none : (n : ℕ) → flitLines (byPort (creditLine cycle reply) n) ≡ 0
   unfolding byPort flitLines
   credits-none zero = refl
-  credits-none (suc n) = let e = flit-lines-append (byPort (creditLine cycle reply) n) (creditLine cycle reply n) in let f = credits-none n in let g = credit-none n in omega (arith, e, f, g)
+  credits-none (suc n) = let e = flit-lines-append (byPort (creditLine cycle reply) n) (creditLine cycle reply n) in
+      let f = credits-none n in let g = credit-none n in omega (arith, e, f, g)
 
   pub flits-most : (n : ℕ) → flitLines (byPort (flitLine cycle reply) n) ≤ n
   unfolding byPort flitLines
   flits-most zero = omega arith
-  flits-most (suc n) = let e = flit-lines-append (byPort (flitLine cycle reply) n) (flitLine cycle reply n) in let f = flits-most n in let g = flit-most n in omega (arith, e, f, g)
+  flits-most (suc n) = let e = flit-lines-append (byPort (flitLine cycle reply) n) (flitLine cycle reply n) in let f = flits-most n in
+      let g = flit-most n in omega (arith, e, f, g)
 
   -- of a cycle's lines only those of the outputs count
   pub cycle-flit-lines : flitLines (cycleLines cycle reply) ≡ flitLines (byPort (flitLine cycle reply) mostPorts)

@@ -38,7 +38,8 @@ within-same (suc k) zero n h g = absurd (not-suc-le-zero g)
 within-same (suc k) (suc j) n h g = go (ltb n 10) refl (λ (l : 10 ≤ n). within-same k j (n / 10) (omega arith) (omega arith))
   where
     go : (b : Bool) → ltb n 10 ≡ b → (10 ≤ n → decimalWithin k (n / 10) ≡ decimalWithin j (n / 10))
-        → unless b (λ u. decimalWithin k (n / 10)) ++ (glyph (n % 10) ∷ []) ≡ unless b (λ u. decimalWithin j (n / 10)) ++ (glyph (n % 10) ∷ [])
+        → unless b (λ u. decimalWithin k (n / 10)) ++ (glyph (n % 10) ∷ [])
+        ≡ unless b (λ u. decimalWithin j (n / 10)) ++ (glyph (n % 10) ∷ [])
     go true e same = refl
     go false e same = ap (λ (ds : List ℕ). ds ++ (glyph (n % 10) ∷ [])) (same (ltb-false n 10 e))
 
@@ -52,7 +53,8 @@ decimal-digit n h =
 pub decimal-more : (n : ℕ) → 10 ≤ n → decimal n ≡ decimal (n / 10) ++ (glyph (n % 10) ∷ [])
 unfolding decimal decimalWithin
 decimal-more n h =
-    rw (le-ltb n 10 h) (ap (λ (ds : List ℕ). ds ++ (glyph (n % 10) ∷ [])) (within-same n (suc (n / 10)) (n / 10) (omega arith) (omega arith)))
+    rw (le-ltb n 10 h) (ap (λ (ds : List ℕ). ds ++ (glyph (n % 10) ∷ []))
+    (within-same n (suc (n / 10)) (n / 10) (omega arith) (omega arith)))
 
 pow-pos : (k : ℕ) → 1 ≤ 10 ^ k
 pow-pos zero = lit≤ tt
@@ -80,7 +82,8 @@ decimal-length (suc k) n h = go (ltb n 10) refl (λ (l : 10 ≤ n). decimal-leng
     go true e shorter = let s : length (decimal n) ≡ 1 = ap length (decimal-digit n (ltb-true n 10 e)) in omega arith
     go false e shorter =
         let l = ltb-false n 10 e in
-        let m : length (decimal n) ≡ length (decimal (n / 10)) + 1 = ap length (decimal-more n l) ∙ length-append (decimal (n / 10)) (glyph (n % 10) ∷ []) in
+        let m : length (decimal n) ≡ length (decimal (n / 10)) + 1 = ap length (decimal-more n l)
+        ∙ length-append (decimal (n / 10)) (glyph (n % 10) ∷ []) in
         omega (arith, shorter l)
 
 -- the last k digits are k
@@ -100,7 +103,8 @@ last-drop b j (suc k) n =
     ∙ ap (λ (ds : List ℕ). ds ++ (glyph (n % b) ∷ [])) (last-drop b j k (n / b))
 
 -- a number of k + 1 digits is spelled by ten of which j lead
-pub spelled-by : (k j n : ℕ) → j + suc k ≡ 10 → (n < 10000000000 → n < 10 ^ suc k) → (k ≡ 0) ⊎ (10 ^ k ≤ n) → Spelled n (lastDigits 10 10 n) j
+pub spelled-by : (k j n : ℕ) → j + suc k ≡ 10 → (n < 10000000000 → n < 10 ^ suc k) → (k ≡ 0) ⊎ (10 ^ k ≤ n)
+    → Spelled n (lastDigits 10 10 n) j
 spelled-by k j n e h low =
     record {
       ten = last-length 10 10 n;
@@ -127,7 +131,8 @@ unfolding hex lastDigits
 eight-digits n = simp div-div-eq-div-mul
 
 -- stored one by one they are the eight
-pub hex-laid : (l : List ℕ) (p n a b c d e f g h : ℕ) → a ≡ glyph (n / 268435456 % 16) → b ≡ glyph (n / 16777216 % 16) → c ≡ glyph (n / 1048576 % 16)
+pub hex-laid : (l : List ℕ) (p n a b c d e f g h : ℕ) → a ≡ glyph (n / 268435456 % 16) → b ≡ glyph (n / 16777216 % 16) → c
+    ≡ glyph (n / 1048576 % 16)
     → d ≡ glyph (n / 65536 % 16) → e ≡ glyph (n / 4096 % 16) → f ≡ glyph (n / 256 % 16) → g ≡ glyph (n / 16 % 16) → h ≡ glyph (n % 16)
     → Laid l p (hex n) (stores (set l p a) p 1 (b ∷ c ∷ d ∷ e ∷ f ∷ g ∷ h ∷ [])) (p + 8)
 unfolding hex

@@ -2,7 +2,8 @@
 -- Assumes nothing.
 use mathlib.Core.Path.{_≡_, refl, sym, ap, _∙_}
 use mathlib.Core.Bool.{Bool, true, false, cond, _&&_, _||_, and-false, true≢false, false≢true}
-use mathlib.Core.List.{List, [], _∷_, _++_, append-assoc, List·Memᴰ, List·Memᴰ·head, List·Memᴰ·tail, List·Memᴰ·not-nil, List·Memᴰ·cases-cons}
+use mathlib.Core.List.{List, [], _∷_, _++_, append-assoc, List·Memᴰ, List·Memᴰ·head, List·Memᴰ·tail, List·Memᴰ·not-nil}
+use mathlib.Core.List.{List·Memᴰ·cases-cons}
 use mathlib.Core.Logic.{_⊎_, inl, inr, _↔_}
 use Prim.Native.Nat.{ℕ, _+_, _-_, _≤_, _<_}
 use native.Mathlib.Omega.{arith}
@@ -13,14 +14,15 @@ use borrow.Author.Tests.{leb-false, lt-leb, ltb-true, ltb-false}
 use Rattle.base.specs.Numbers.{done, noRoom, outOfRange, room}
 use Rattle.base.specs.Sizes.{Field, inRange}
 use Rattle.listing.specs.Lines.{Line, valuesOf, allInRange, text, printable}
-use Rattle.listing.specs.Writing.{Outcome, put, lacksRoom, refusedWith, written, Outside}
+use Rattle.listing.specs.Writing.{WriteOutcome, put, lacksRoom, refusedWith, written, Outside}
 
 -- one value out of its range
 field-out : (f : Field) → inRange f ≡ false → (f .value < f .least) ⊎ (f .most < f .value)
 unfolding inRange
 field-out f e = go (leb (f .least) (f .value)) refl (leb (f .value) (f .most)) refl e
   where
-    go : (a : Bool) → leb (f .least) (f .value) ≡ a → (b : Bool) → leb (f .value) (f .most) ≡ b → (a && b) ≡ false → (f .value < f .least) ⊎ (f .most < f .value)
+    go : (a : Bool) → leb (f .least) (f .value) ≡ a → (b : Bool) → leb (f .value) (f .most) ≡ b → (a && b) ≡ false
+        → (f .value < f .least) ⊎ (f .most < f .value)
     go true ea true eb e = absurd (true≢false e)
     go true ea false eb e = inr (leb-false (f .value) (f .most) eb)
     go false ea b eb e = inl (leb-false (f .least) (f .value) ea)
@@ -28,7 +30,8 @@ field-out f e = go (leb (f .least) (f .value)) refl (leb (f .value) (f .most)) r
 out-field : (f : Field) → (f .value < f .least) ⊎ (f .most < f .value) → inRange f ≡ false
 unfolding inRange
 out-field f (inl h) = ap (λ (a : Bool). a && leb (f .value) (f .most)) (lt-leb (f .least) (f .value) h)
-out-field f (inr h) = ap (λ (b : Bool). leb (f .least) (f .value) && b) (lt-leb (f .value) (f .most) h) ∙ and-false (leb (f .least) (f .value))
+out-field f (inr h) = ap (λ (b : Bool). leb (f .least) (f .value) && b) (lt-leb (f .value) (f .most) h)
+    ∙ and-false (leb (f .least) (f .value))
 
 -- among some values
 pub record OutAmong (fs : List Field) : Type 0 where
@@ -78,8 +81,11 @@ out-lines (k ∷ ls) l m e = go (List·Memᴰ·cases-cons m) (λ (n : List·Mem�
 
 -- lines are not printable exactly when some value of theirs is outside its range
 pub outside-is : (ls : List Line) → (printable ls ≡ false) ↔ Outside ls
-outside-is ls =
-    (lines-out ls, λ x. out-lines ls (x .line) (x .among) (out-values (valuesOf (x .line)) (x .value) (x .held) (out-field (x .value) (x .out))))
+outside-is ls = (
+  lines-out ls,
+  λ x. out-lines ls (x .line) (x .among) (out-values (valuesOf (x .line)) (x .value) (x .held)
+      (out-field (x .value) (x .out))),
+)
 
 -- room is lacking exactly when fewer than 376 bytes lie from the place on, as of every place past the end
 pub lacks-is : (l : List ℕ) (p : ℕ) → (lacksRoom l p ≡ true) ↔ (length l < p + room)
@@ -98,8 +104,10 @@ lacks-is l p = (to (ltb (length l) p) refl (ltb (length l - p) room) refl, from 
 
 module _ (l : List ℕ) (p : ℕ) (ls : List Line) where
   -- what a write comes to, by its two tests
-  by-tests : (P : Outcome → Type 0) → (Outside ls → P (refusedWith outOfRange l)) → ((Outside ls → ⊥) → length l < p + room → P (refusedWith noRoom l))
-      → ((Outside ls → ⊥) → p + room ≤ length l → P (record { number = done; bytes = length (text ls); buffer = put l p (text ls) })) → P (written l p ls)
+  by-tests : (P : WriteOutcome → Type 0) → (Outside ls → P (refusedWith outOfRange l))
+      → ((Outside ls → ⊥) → length l < p + room → P (refusedWith noRoom l))
+      → ((Outside ls → ⊥) → p + room ≤ length l → P (record { number = done; bytes = length (text ls); buffer = put l p (text ls) }))
+      → P (written l p ls)
   unfolding written
   by-tests P out full good = go (printable ls) refl (lacksRoom l p) refl
     where
@@ -107,7 +115,8 @@ module _ (l : List ℕ) (p : ℕ) (ls : List Line) where
       fine e x = true≢false (sym e ∙ outside-is ls .1 x)
 
       go : (a : Bool) → printable ls ≡ a → (b : Bool) → lacksRoom l p ≡ b
-          → P (cond a (cond b (refusedWith noRoom l) (record { number = done; bytes = length (text ls); buffer = put l p (text ls) })) (refusedWith outOfRange l))
+          → P (cond a (cond b (refusedWith noRoom l) (record { number = done; bytes = length (text ls); buffer = put l p (text ls) }))
+          (refusedWith outOfRange l))
       go false ea b eb = out (outside-is ls .0 ea)
       go true ea true eb = full (fine ea) (lacks-is l p .0 eb)
       go true ea false eb = good (fine ea) (room-of (ltb (length l) (p + room)) refl)
@@ -119,13 +128,14 @@ module _ (l : List ℕ) (p : ℕ) (ls : List Line) where
   -- 12 comes exactly when some value of the lines is outside its range
   pub twelve-exactly : (written l p ls .number ≡ outOfRange) ↔ Outside ls
   twelve-exactly =
-      by-tests (λ (o : Outcome). (o .number ≡ outOfRange) ↔ Outside ls) (λ x. (λ e. x, λ y. refl)) (λ fine h. (λ e. absurd (omega arith), λ x. absurd (fine x)))
+      by-tests (λ (o : WriteOutcome). (o .number ≡ outOfRange) ↔ Outside ls) (λ x. (λ e. x, λ y. refl))
+      (λ fine h. (λ e. absurd (omega arith), λ x. absurd (fine x)))
       (λ fine h. (λ e. absurd (omega arith), λ x. absurd (fine x)))
 
   -- 11 exactly when none is and fewer than 376 bytes lie from the place on
   pub eleven-exactly : (written l p ls .number ≡ noRoom) ↔ ((Outside ls → ⊥) × (length l < p + room))
   eleven-exactly =
-      by-tests (λ (o : Outcome). (o .number ≡ noRoom) ↔ ((Outside ls → ⊥) × (length l < p + room)))
+      by-tests (λ (o : WriteOutcome). (o .number ≡ noRoom) ↔ ((Outside ls → ⊥) × (length l < p + room)))
       (λ x. (λ e. absurd (omega arith), λ y. absurd (y .0 x)))
       (λ fine h. (λ e. (fine, h), λ y. refl))
       (λ fine h. (λ e. absurd (omega arith), λ y. absurd (omega (arith, y .1))))
@@ -133,7 +143,8 @@ module _ (l : List ℕ) (p : ℕ) (ls : List Line) where
   -- a refused write reports 0 bytes and leaves the buffer
   pub refused-leaves : (written l p ls .number ≡ done → ⊥) → (written l p ls .bytes ≡ 0) × (written l p ls .buffer ≡ l)
   refused-leaves =
-      by-tests (λ (o : Outcome). (o .number ≡ done → ⊥) → (o .bytes ≡ 0) × (o .buffer ≡ l)) (λ x failed. (refl, refl)) (λ fine h failed. (refl, refl)) (λ fine h failed. absurd (failed refl))
+      by-tests (λ (o : WriteOutcome). (o .number ≡ done → ⊥) → (o .bytes ≡ 0) × (o .buffer ≡ l)) (λ x failed. (refl, refl))
+      (λ fine h failed. (refl, refl)) (λ fine h failed. absurd (failed refl))
 
 -- what is put stands from the place on; what lies before it and after it is as it was
 module _ (l bs : List ℕ) (p : ℕ) (fits : p + length bs ≤ length l) where
@@ -148,8 +159,10 @@ module _ (l bs : List ℕ) (p : ℕ) (fits : p + length bs ≤ length l) where
   unfolding put
   put-there =
       ap (λ (k : List ℕ). take (length bs) (drop p k)) (append-assoc (take p l) bs (drop (p + length bs) l))
-      ∙ ap (take (length bs)) (drop-at (take p l) (bs ++ drop (p + length bs) l) p front) ∙ take-at bs (drop (p + length bs) l) (length bs) refl
+      ∙ ap (take (length bs)) (drop-at (take p l) (bs ++ drop (p + length bs) l) p front)
+      ∙ take-at bs (drop (p + length bs) l) (length bs) refl
 
   pub put-after : drop (p + length bs) (put l p bs) ≡ drop (p + length bs) l
   unfolding put
-  put-after = drop-at (take p l ++ bs) (drop (p + length bs) l) (p + length bs) (length-append (take p l) bs ∙ ap (λ (k : ℕ). k + length bs) front)
+  put-after = drop-at (take p l ++ bs) (drop (p + length bs) l) (p + length bs)
+      (length-append (take p l) bs ∙ ap (λ (k : ℕ). k + length bs) front)

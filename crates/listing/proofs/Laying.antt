@@ -20,10 +20,12 @@ module _ (f : ℕ → List Line) where
   -- a port without a line
   pub ports-same : {l m : List ℕ} {p q : ℕ} (n : ℕ) → f n ≡ [] → Laid l p (text (byPort f n)) m q → Laid l p (text (byPort f (n + 1))) m q
   unfolding text
-  ports-same n e x = laid-as x (sym (append-nil (text (byPort f n))) ∙ ap (λ (ls : List Line). text (byPort f n) ++ text ls) (sym e) ∙ text-more n)
+  ports-same n e x = laid-as x (sym (append-nil (text (byPort f n))) ∙ ap (λ (ls : List Line). text (byPort f n) ++ text ls) (sym e)
+      ∙ text-more n)
 
   -- a port with one
-  pub ports-line : {l m o : List ℕ} {p q r : ℕ} (n : ℕ) (line : Line) → f n ≡ line ∷ [] → Laid l p (text (byPort f n)) m q → Laid m q (print line) o r
+  pub ports-line : {l m o : List ℕ} {p q r : ℕ} (n : ℕ) (line : Line) → f n ≡ line ∷ [] → Laid l p (text (byPort f n)) m q
+      → Laid m q (print line) o r
       → Laid l p (text (byPort f (n + 1))) o r
   ports-line n line e x y =
       laid-as (laid-more x y) (ap (λ (bs : List ℕ). text (byPort f n) ++ bs) (sym (text-one line) ∙ ap text (sym e)) ∙ text-more n)

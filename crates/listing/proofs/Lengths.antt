@@ -19,7 +19,8 @@ use Rattle.listing.specs.Digits.{decimal, hex}
 use Rattle.listing.specs.Lines.{Line, credit, flit, finish, refusal, print, text, printable, byPort, creditLine, flitLine, cycleLines}
 use Rattle.listing.proofs.Bytes.{credit-bytes, flit-bytes, finish-bytes, refusal-bytes}
 use Rattle.listing.proofs.Decimals.{decimal-length, hex-length}
-use Rattle.listing.proofs.Ports.{text-append, text-one, printable-at, no-credit, one-credit, no-flit, one-flit, cycle-text, cycle-parts}
+use Rattle.listing.proofs.Ports.{text-append, text-one, printable-at, no-credit, one-credit, no-flit, one-flit, cycle-text}
+use Rattle.listing.proofs.Ports.{cycle-parts}
 use Rattle.listing.proofs.Ranges.{credit-in, flit-in, finish-in, refusal-in}
 
 -- "8·31 + 8·16": a C line has at most 16 bytes, an F line 31
@@ -30,14 +31,16 @@ credit-length cycle input vc e =
     let tail : List ℕ = 32 ∷ (48 + input) ∷ 32 ∷ (48 + vc) ∷ 10 ∷ [] in
     omega (arith, length-append (67 ∷ 32 ∷ decimal cycle) tail, decimal-length 8 cycle (b .0))
 
-pub flit-length : (cycle output : ℕ) (d : Departure) → printable (flit cycle output d ∷ []) ≡ true → length (print (flit cycle output d)) ≤ 31
+pub flit-length : (cycle output : ℕ) (d : Departure) → printable (flit cycle output d ∷ []) ≡ true
+    → length (print (flit cycle output d)) ≤ 31
 flit-length cycle output d e =
     let b = flit-in cycle output d e in
-    let middle : List ℕ = 32 ∷ (48 + output) ∷ 32 ∷ (48 + d .«out_vc») ∷ 32 ∷ (48 + d .input) ∷ 32 ∷ (48 + d .vc) ∷ 32 ∷ letterOf (d .kind) ∷ 32 ∷ [] in
+    let middle : List ℕ = 32 ∷ (48 + output) ∷ 32 ∷ (48 + d .«out_vc») ∷ 32 ∷ (48 + d .input) ∷ 32 ∷ (48 + d .vc) ∷ 32 ∷ letterOf
+    (d .kind) ∷ 32 ∷ [] in
     let rest = hex (d .payload) ++ (10 ∷ []) in
     omega (
       arith,
-      ap length (flit-bytes cycle output d b),
+      ap length (flit-bytes cycle output _ d b refl),
       length-append (70 ∷ 32 ∷ decimal cycle) (middle ++ rest),
       length-append middle rest,
       length-append (hex (d .payload)) (10 ∷ []),
@@ -60,7 +63,8 @@ finish-length cycles flits e =
       decimal-length 9 flits (omega arith),
     )
 
-pub refusal-length : (number cycle place : ℕ) → printable (refusal number cycle place ∷ []) ≡ true → length (print (refusal number cycle place)) ≤ room
+pub refusal-length : (number cycle place : ℕ) → printable (refusal number cycle place ∷ []) ≡ true
+    → length (print (refusal number cycle place)) ≤ room
 refusal-length number cycle place e =
     let b = refusal-in number cycle place e in
     let last : List ℕ = 32 ∷ (48 + place) ∷ 10 ∷ [] in
@@ -80,14 +84,22 @@ unfolding byPort text
 ports-length f m zero each = zero-le
 ports-length f m (suc n) each =
     let before = ports-length f m n (λ i h. each i (omega arith)) in
-    omega (arith, mul-suc m n, each n (omega arith), ap length (text-append (byPort f n) (f n)), length-append (text (byPort f n)) (text (f n)))
+    omega (
+      arith,
+      mul-suc m n,
+      each n (omega arith),
+      ap length (text-append (byPort f n) (f n)),
+      length-append (text (byPort f n))
+          (text (f n)),
+    )
 
 module _ (cycle : ℕ) (reply : Reply) where
   credits-each : (i : ℕ) → printable (creditLine cycle reply i) ≡ true → length (text (creditLine cycle reply i)) ≤ 16
   unfolding text
   credits-each i ok = go (getD (reply .senders) i (record { reached = reached.Nothing }) .reached) refl
     where
-      go : (r : Reached) → getD (reply .senders) i (record { reached = reached.Nothing }) .reached ≡ r → length (text (creditLine cycle reply i)) ≤ 16
+      go : (r : Reached) → getD (reply .senders) i (record { reached = reached.Nothing }) .reached ≡ r
+          → length (text (creditLine cycle reply i)) ≤ 16
       go reached.Nothing e = let l = ap (λ (ls : List Line). length (text ls)) (no-credit cycle reply i e) in omega arith
       go (reached.Vc vc) e =
           let one = one-credit cycle reply i vc e in
@@ -109,7 +121,8 @@ module _ (cycle : ℕ) (reply : Reply) where
   pub cycle-length : printable (cycleLines cycle reply) ≡ true → length (text (cycleLines cycle reply)) ≤ room
   cycle-length ok =
       let parts = cycle-parts cycle reply ok in
-      let cs = ports-length (creditLine cycle reply) 16 8 (λ i h. credits-each i (printable-at (creditLine cycle reply) i 8 h (parts .0))) in
+      let cs = ports-length (creditLine cycle reply) 16 8 (λ i h. credits-each i
+      (printable-at (creditLine cycle reply) i 8 h (parts .0))) in
       let fs = ports-length (flitLine cycle reply) 31 8 (λ i h. flits-each i (printable-at (flitLine cycle reply) i 8 h (parts .1))) in
       omega (
         arith,

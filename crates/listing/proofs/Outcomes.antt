@@ -13,7 +13,7 @@ use Rattle.base.proofs.Lists.{rest-of}
 use Rattle.base.specs.Numbers.{done, noRoom, outOfRange, room}
 use Rattle.listing.specs.Inside.{Laid}
 use Rattle.listing.specs.Lines.{Line, text, printable}
-use Rattle.listing.specs.Writing.{Outcome, put, lacksRoom, refusedWith, written}
+use Rattle.listing.specs.Writing.{WriteOutcome, put, lacksRoom, refusedWith, written}
 use Rattle.listing.proofs.Stores.{part-put}
 
 -- where the test finds room there are 376 bytes from the place on
@@ -38,7 +38,8 @@ module _ (l : List ℕ) (p : ℕ) (ls : List Line) where
   -- the lines laid from the start of the part that was lent
   pub written-lines : (part : List ℕ) (bytes : ℕ) → printable ls ≡ true → not (lacksRoom l p) ≡ true → length (text ls) ≤ room
       → Laid (take (length l - p) (drop p l)) 0 (text ls) part bytes
-      → _≡_ {A = Outcome} (record { number = done; bytes = bytes; buffer = take p l ++ (part ++ drop (length l - p) (drop p l)) }) (written l p ls)
+      → _≡_ {A = WriteOutcome} (record { number = done; bytes = bytes; buffer = take p l ++ (part ++ drop (length l - p) (drop p l)) })
+      (written l p ls)
   unfolding written
   written-lines part bytes ok there short x =
       let fits = room-there l p there in

@@ -15,8 +15,9 @@ use Rattle.base.specs.declared.reply.Reached.the-variants as reached
 use Rattle.base.specs.declared.reply.Departure.{Departure}
 use Rattle.base.specs.declared.reply.Left.the-variants as left
 use Rattle.base.specs.declared.reply.Reply.{Reply}
-use Rattle.listing.specs.Lines.{Line, credit, flit, valuesOf, allInRange, printable, print, text, byPort, creditLine, flitLine, cycleLines}
-use Rattle.listing.proofs.Ranges.{both}
+use Rattle.listing.specs.Lines.{Line, credit, flit, valuesOf, allInRange, printable, print, text, byPort, creditLine, flitLine}
+use Rattle.listing.specs.Lines.{cycleLines}
+use Rattle.base.proofs.Search.{both}
 
 -- the bytes of two runs of lines
 pub text-append : (ks ls : List Line) → text (ks ++ ls) ≡ text ks ++ text ls
@@ -34,7 +35,8 @@ unfolding printable
 printable-append [] ls = refl
 printable-append (k ∷ ks) ls = go (allInRange (valuesOf k)) (printable-append ks ls)
   where
-    go : (b : Bool) → printable (ks ++ ls) ≡ (printable ks && printable ls) → (b && printable (ks ++ ls)) ≡ ((b && printable ks) && printable ls)
+    go : (b : Bool) → printable (ks ++ ls) ≡ (printable ks && printable ls) → (b && printable (ks ++ ls))
+        ≡ ((b && printable ks) && printable ls)
     go true e = e
     go false e = refl
 
@@ -56,7 +58,8 @@ module _ (f : ℕ → List Line) where
       printable-append (byPort f k) (f k) ∙ go (eqb n k) refl (λ (g : n < k). printable-stops n k g bad)
     where
       go : (b : Bool) → eqb n k ≡ b → (n < k → printable (byPort f k) ≡ false) → (printable (byPort f k) && printable (f k)) ≡ false
-      go true e below = ap (λ (b : Bool). printable (byPort f k) && b) (ap (λ (m : ℕ). printable (f m)) (sym (eqb-true n k e)) ∙ bad) ∙ and-false (printable (byPort f k))
+      go true e below = ap (λ (b : Bool). printable (byPort f k) && b) (ap (λ (m : ℕ). printable (f m)) (sym (eqb-true n k e)) ∙ bad)
+          ∙ and-false (printable (byPort f k))
       go false e below = ap (λ (b : Bool). b && printable (f k)) (below (lt-of-le-ne (omega arith) (eqb-false n k e)))
 
   -- where all ports' lines are printable, each port's are
@@ -73,7 +76,8 @@ module _ (cycle : ℕ) (reply : Reply) (i : ℕ) where
   unfolding creditLine
   no-credit e = rw e
 
-  pub one-credit : (vc : ℕ) → getD (reply .senders) i (record { reached = reached.Nothing }) .reached ≡ reached.Vc vc → creditLine cycle reply i ≡ credit cycle i vc ∷ []
+  pub one-credit : (vc : ℕ) → getD (reply .senders) i (record { reached = reached.Nothing }) .reached ≡ reached.Vc vc
+      → creditLine cycle reply i ≡ credit cycle i vc ∷ []
   unfolding creditLine
   one-credit vc e = rw e
 
@@ -81,7 +85,8 @@ module _ (cycle : ℕ) (reply : Reply) (i : ℕ) where
   unfolding flitLine
   no-flit e = rw e
 
-  pub one-flit : (d : Departure) → getD (reply .outputs) i (record { left = left.Nothing }) .left ≡ left.Flit d → flitLine cycle reply i ≡ flit cycle i d ∷ []
+  pub one-flit : (d : Departure) → getD (reply .outputs) i (record { left = left.Nothing }) .left ≡ left.Flit d → flitLine cycle reply i
+      ≡ flit cycle i d ∷ []
   unfolding flitLine
   one-flit d e = rw e
 
@@ -100,4 +105,5 @@ cycle-printable cycle reply = printable-append (byPort (creditLine cycle reply) 
 pub cycle-parts : (cycle : ℕ) (reply : Reply) → printable (cycleLines cycle reply) ≡ true
     → (printable (byPort (creditLine cycle reply) 8) ≡ true) × (printable (byPort (flitLine cycle reply) 8) ≡ true)
 cycle-parts cycle reply ok =
-    both (printable (byPort (creditLine cycle reply) 8)) (printable (byPort (flitLine cycle reply) 8)) (sym (cycle-printable cycle reply) ∙ ok)
+    both (printable (byPort (creditLine cycle reply) 8)) (printable (byPort (flitLine cycle reply) 8))
+    (sym (cycle-printable cycle reply) ∙ ok)

@@ -1,7 +1,7 @@
 -- Values in their ranges: from the test of a line to the bounds of its values.
 -- Assumes nothing.
 use mathlib.Core.Path.{_≡_, refl, sym, ap}
-use mathlib.Core.Bool.{Bool, true, false, not, _&&_, false≢true}
+use mathlib.Core.Bool.{Bool, true, false, not, _&&_}
 use mathlib.Core.List.{List, [], _∷_}
 use Prim.Native.Nat.{ℕ, _≤_, _<_}
 use native.Mathlib.Omega.{arith}
@@ -9,6 +9,7 @@ use lib.Dec.{leb, ltb}
 use borrow.Author.Tests.{leb-true, leb-false, lt-ltb, le-ltb}
 use Rattle.base.specs.declared.reply.Departure.{Departure}
 use Rattle.base.specs.Sizes.{Field, inRange}
+use Rattle.base.proofs.Search.{both}
 use Rattle.listing.specs.Lines.{Line, credit, flit, finish, refusal, valuesOf, allInRange, printable}
 
 -- at most is not more than
@@ -19,13 +20,9 @@ leb-not-ltb a b = go (leb a b) refl
     go true e = sym (ap not (le-ltb b a (leb-true a b e)))
     go false e = sym (ap not (lt-ltb b a (leb-false a b e)))
 
--- both of two tests
-pub both : (a b : Bool) → (a && b) ≡ true → (a ≡ true) × (b ≡ true)
-both true b e = (refl, e)
-both false b e = absurd (false≢true e)
-
 -- the first value is in its range, and so are the others
-pub first-in : (f : Field) (fs : List Field) → allInRange (f ∷ fs) ≡ true → (f .least ≤ f .value) × (f .value ≤ f .most) × (allInRange fs ≡ true)
+pub first-in : (f : Field) (fs : List Field) → allInRange (f ∷ fs) ≡ true → (f .least ≤ f .value) × (f .value ≤ f .most)
+    × (allInRange fs ≡ true)
 unfolding allInRange inRange
 first-in f fs e =
     let here = both (leb (f .least) (f .value) && leb (f .value) (f .most)) (allInRange fs) e in
@@ -81,7 +78,8 @@ finish-in cycles flits e =
     let b = first-in _ _ (a .2) in
     (a .1, b .1)
 
-pub refusal-in : (number cycle place : ℕ) → printable (refusal number cycle place ∷ []) ≡ true → (number ≤ 10) × (cycle ≤ 1000000000) × (place ≤ 7)
+pub refusal-in : (number cycle place : ℕ) → printable (refusal number cycle place ∷ []) ≡ true → (number ≤ 10) × (cycle ≤ 1000000000)
+    × (place ≤ 7)
 unfolding valuesOf
 refusal-in number cycle place e =
     let a = first-in _ _ (line-in (refusal number cycle place) e) in

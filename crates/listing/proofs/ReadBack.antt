@@ -60,7 +60,8 @@ unfolding valueFrom lastDigits
 last-read zero n h = omega arith
 last-read (suc k) n h =
     value-more 16 0 (lastDigits 16 k (n / 16)) (glyph (n % 16))
-    ∙ ap₂ (λ (a d : ℕ). a * 16 + d) (last-read k (n / 16) (omega (arith, pow-suc 16 k))) (digit-read (n % 16) (omega arith)) ∙ div-add-mod' n 16
+    ∙ ap₂ (λ (a d : ℕ). a * 16 + d) (last-read k (n / 16) (omega (arith, pow-suc 16 k))) (digit-read (n % 16) (omega arith))
+    ∙ div-add-mod' n 16
 
 pub hex-read : (n : ℕ) → n < 2 ^ 32 → valueOf 16 (hex n) ≡ n
 unfolding valueOf hex
@@ -78,6 +79,8 @@ decimal-first n = by-tenths (λ (m : ℕ). (0 < length (decimal m)) × (getD (de
         → (0 < length (decimal m)) × (getD (decimal m) 0 0 ≡ 48 → m ≡ 0)
     more m h (some, first) =
         let last = glyph (m % 10) ∷ [] in
-        let longer : length (decimal m) ≡ length (decimal (m / 10)) + 1 = ap length (decimal-more m h) ∙ length-append (decimal (m / 10)) last in
-        let same : getD (decimal m) 0 0 ≡ getD (decimal (m / 10)) 0 0 = ap (λ (ds : List ℕ). getD ds 0 0) (decimal-more m h) ∙ List·getD-append (decimal (m / 10)) last 0 0 some in
+        let longer : length (decimal m) ≡ length (decimal (m / 10)) + 1 = ap length (decimal-more m h)
+        ∙ length-append (decimal (m / 10)) last in
+        let same : getD (decimal m) 0 0 ≡ getD (decimal (m / 10)) 0 0 = ap (λ (ds : List ℕ). getD ds 0 0) (decimal-more m h)
+        ∙ List·getD-append (decimal (m / 10)) last 0 0 some in
         (omega arith, λ e. absurd (let z = first (sym same ∙ e) in omega arith))

@@ -56,7 +56,8 @@ word-more u (c ∷ w) cs p =
     (word-more (u ++ (c ∷ [])) w cs (p .1) ∙ ap (λ (v : List ℕ). cut v cs) (append-assoc u (c ∷ []) w))
 
 -- the words of a line are cut apart again
-pub words-cut : (v : List ℕ) (ws : List (List ℕ)) (rest : List ℕ) → AllPlain ws → cut v (spaced ws ++ rest) ≡ record { words = v ∷ ws; rest = rest }
+pub words-cut : (v : List ℕ) (ws : List (List ℕ)) (rest : List ℕ) → AllPlain ws → cut v (spaced ws ++ rest)
+    ≡ record { words = v ∷ ws; rest = rest }
 unfolding cut spaced
 words-cut v [] rest p = refl
 words-cut v (w ∷ ws) rest p =
@@ -71,11 +72,13 @@ letter-plain (finish cycles flits) = lit< tt
 letter-plain (refusal number cycle place) = lit< tt
 
 -- a line's bytes, with what follows, are read as the line of its words
-line-cut : (l : Line) (rest : List ℕ) → AllPlain (wordsOf l) → readLine (print l ++ rest) ≡ record { line = lineOf ((letterOfLine l ∷ []) ∷ wordsOf l); rest = rest }
+line-cut : (l : Line) (rest : List ℕ) → AllPlain (wordsOf l) → readLine (print l ++ rest)
+    ≡ record { line = lineOf ((letterOfLine l ∷ []) ∷ wordsOf l); rest = rest }
 unfolding readLine print
 line-cut l rest plain =
     ap (λ (x : Cut). record { line = lineOf (x .words); rest = x .rest })
-    (word-more [] (letterOfLine l ∷ []) (spaced (wordsOf l) ++ rest) (letter-plain l, tt) ∙ words-cut (letterOfLine l ∷ []) (wordsOf l) rest plain)
+    (word-more [] (letterOfLine l ∷ []) (spaced (wordsOf l) ++ rest) (letter-plain l, tt)
+    ∙ words-cut (letterOfLine l ∷ []) (wordsOf l) rest plain)
 
 -- a kind is read back from its letter
 pub kind-read : (kind : ℕ) → 1 ≤ kind → kind ≤ 4 → kindOfLetter (letterOf kind) ≡ kind
@@ -98,7 +101,8 @@ letter-of-kind-plain (suc (suc (suc (suc (suc k))))) l m = absurd (omega arith)
 
 -- each kind of line is read back to its fields
 module _ (rest : List ℕ) where
-  pub credit-read : (cycle input vc : ℕ) → readLine (print (credit cycle input vc) ++ rest) ≡ record { line = credit cycle input vc; rest = rest }
+  pub credit-read : (cycle input vc : ℕ) → readLine (print (credit cycle input vc) ++ rest)
+      ≡ record { line = credit cycle input vc; rest = rest }
   unfolding lineOf
   credit-read cycle input vc =
       line-cut (credit cycle input vc) rest (decimal-plain cycle, (decimal-plain input, (decimal-plain vc, tt)))
@@ -109,7 +113,8 @@ module _ (rest : List ℕ) where
   finish-read cycles flits =
       line-cut (finish cycles flits) rest (decimal-plain cycles, (decimal-plain flits, tt)) ∙ rw (decimal-read cycles, decimal-read flits)
 
-  pub refusal-read : (number cycle place : ℕ) → readLine (print (refusal number cycle place) ++ rest) ≡ record { line = refusal number cycle place; rest = rest }
+  pub refusal-read : (number cycle place : ℕ) → readLine (print (refusal number cycle place) ++ rest)
+      ≡ record { line = refusal number cycle place; rest = rest }
   unfolding lineOf
   refusal-read number cycle place =
       line-cut (refusal number cycle place) rest (decimal-plain number, (decimal-plain cycle, (decimal-plain place, tt)))
@@ -119,8 +124,25 @@ module _ (rest : List ℕ) where
       → readLine (print (flit cycle output d) ++ rest) ≡ record { line = flit cycle output d; rest = rest }
   unfolding lineOf hex
   flit-read cycle output d least most word =
-      line-cut (flit cycle output d) rest
-      (decimal-plain cycle, (decimal-plain output, (decimal-plain (d .«out_vc»), (decimal-plain (d .input), (decimal-plain (d .vc), ((letter-of-kind-plain (d .kind) least most, tt), (last-plain 16 8 (d .payload), tt)))))))
+      line-cut (flit cycle output d) rest (
+        decimal-plain cycle,
+        (
+          decimal-plain output,
+          (
+            decimal-plain (d .«out_vc»),
+            (
+              decimal-plain (d .input),
+              (
+                decimal-plain (d .vc),
+                (
+                  (letter-of-kind-plain (d .kind) least most, tt),
+                  (last-plain 16 8 (d .payload), tt),
+                ),
+              ),
+            ),
+          ),
+        ),
+      )
       ∙ rw (
         decimal-read cycle,
         decimal-read output,

@@ -22,7 +22,8 @@ pub room-given : {l : List ℕ} {q n : ℕ} → q + n ≤ length l → length l 
 room-given {l} {q} {n} h long = record { inside = h; small = omega arith }
 
 -- what is left of k + n places after a part of at most k
-pub room-left : {m : List ℕ} {q n : ℕ} (l : List ℕ) (at k : ℕ) → at + (k + n) ≤ length l → length l < 18446744073709551616 → length m ≡ length l → q ≤ at + k → Roomy m q n
+pub room-left : {m : List ℕ} {q n : ℕ} (l : List ℕ) (at k : ℕ) → at + (k + n) ≤ length l → length l < 18446744073709551616 → length m
+    ≡ length l → q ≤ at + k → Roomy m q n
 room-left {m} {q} {n} l at k h long e b = record { inside = omega arith; small = omega arith }
 
 -- less room than there is

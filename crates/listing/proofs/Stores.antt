@@ -48,7 +48,8 @@ laid-stores l p b bs = record { stored = stores-from l p b bs; ahead = refl }
 pub laid-more : {l m n : List ℕ} {p q r : ℕ} {xs bs : List ℕ} → Laid l p xs m q → Laid m q bs n r → Laid l p (xs ++ bs) n r
 laid-more {l} {m} {n} {p} {q} {r} {xs} {bs} x y =
     record {
-      stored = y .stored ∙ ap (λ (k : List ℕ). sets k q bs) (x .stored) ∙ ap (λ (k : ℕ). sets (sets l p xs) k bs) (x .ahead) ∙ sym (sets-append l p xs bs);
+      stored = y .stored ∙ ap (λ (k : List ℕ). sets k q bs) (x .stored) ∙ ap (λ (k : ℕ). sets (sets l p xs) k bs) (x .ahead)
+          ∙ sym (sets-append l p xs bs);
       ahead = omega (arith, x .ahead, y .ahead, length-append xs bs);
     }
 
@@ -74,5 +75,6 @@ unfolding put
 put-length l bs p h = ap length (sym (sets-eq bs l p h)) ∙ length-sets l p bs
 
 -- a copy that goes on: one byte stored, and the rest after it
-pub rest-stored : (l : List ℕ) (p : ℕ) (ds : List ℕ) (i : ℕ) → i < length ds → sets (set l p (getD ds i 0)) (p + 1) (drop (i + 1) ds) ≡ sets l p (drop i ds)
+pub rest-stored : (l : List ℕ) (p : ℕ) (ds : List ℕ) (i : ℕ) → i < length ds → sets (set l p (getD ds i 0)) (p + 1) (drop (i + 1) ds)
+    ≡ sets l p (drop i ds)
 rest-stored l p ds i h = rw (add-one p, add-one i, drop-cons ds i 0 h)

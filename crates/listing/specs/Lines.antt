@@ -58,18 +58,18 @@ text [] = []
 text (l ∷ ls) = print l ++ text ls
 
 -- "ports 0..7, VCs 0..3"
-abbrev pub port : ℕ → Field
-port p = field p 0 (mostPorts - 1)
+abbrev pub portField : ℕ → Field
+portField p = field p 0 (mostPorts - 1)
 
-abbrev pub channel : ℕ → Field
-channel v = field v 0 (mostVcs - 1)
+abbrev pub vcField : ℕ → Field
+vcField v = field v 0 (mostVcs - 1)
 
 -- "Range: kind 1..4; cycle below 10^9 in C and F lines, at most 10^9 in E and R; flits at most 8·10^9; ports 0..7, VCs 0..3;
 -- number 1..10, place 0..7."
 unfoldable pub valuesOf : Line → List Field
-valuesOf (credit cycle input vc) = field cycle 0 (cycleLimit - 1) ∷ port input ∷ channel vc ∷ []
+valuesOf (credit cycle input vc) = field cycle 0 (cycleLimit - 1) ∷ portField input ∷ vcField vc ∷ []
 valuesOf (flit cycle output d) =
-    field cycle 0 (cycleLimit - 1) ∷ port output ∷ channel (d .«out_vc») ∷ port (d .input) ∷ channel (d .vc)
+    field cycle 0 (cycleLimit - 1) ∷ portField output ∷ vcField (d .«out_vc») ∷ portField (d .input) ∷ vcField (d .vc)
     ∷ field (d .kind) head single ∷ []
 valuesOf (finish cycles flits) = field cycles 0 cycleLimit ∷ field flits 0 flitLimit ∷ []
 valuesOf (refusal number cycle place) =

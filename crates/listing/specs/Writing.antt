@@ -13,7 +13,7 @@ use Rattle.listing.specs.declared.Written.the-variants.{Lines, NoRoom, O
 use Rattle.listing.specs.Lines.{Line, valuesOf, text, printable}
 
 -- the number given back, the bytes written, and the buffer afterwards
-pub record Outcome : Type 0 where
+pub record WriteOutcome : Type 0 where
   pub number : ℕ
   pub bytes : ℕ
   pub buffer : List ℕ
@@ -27,11 +27,11 @@ unfoldable pub lacksRoom : List ℕ → ℕ → Bool
 lacksRoom buffer place = ltb (length buffer) place || ltb (length buffer - place) room
 
 -- "a refused write leaves the buffer and reports 0 bytes written"
-abbrev pub refusedWith : ℕ → List ℕ → Outcome
+abbrev pub refusedWith : ℕ → List ℕ → WriteOutcome
 refusedWith number buffer = record { number = number; bytes = 0; buffer = buffer }
 
 -- "Writer: 12, 11."; "Each write, of one cycle's lines (perhaps none) or of an E or R line, asks for 376 bytes."
-unfoldable pub written : List ℕ → ℕ → List Line → Outcome
+unfoldable pub written : List ℕ → ℕ → List Line → WriteOutcome
 written buffer place lines =
     cond (printable lines)
     (cond (lacksRoom buffer place) (refusedWith noRoom buffer)
@@ -39,10 +39,10 @@ written buffer place lines =
     (refusedWith outOfRange buffer)
 
 -- the document's number and values for each answer, beside the buffer
-abbrev pub outcomeOf : Written → List ℕ → Outcome
-outcomeOf (Lines bytes) buffer = record { number = done; bytes = bytes; buffer = buffer }
-outcomeOf NoRoom buffer = refusedWith noRoom buffer
-outcomeOf OutOfRange buffer = refusedWith outOfRange buffer
+abbrev pub writeOutcome : Written → List ℕ → WriteOutcome
+writeOutcome (Lines bytes) buffer = record { number = done; bytes = bytes; buffer = buffer }
+writeOutcome NoRoom buffer = refusedWith noRoom buffer
+writeOutcome OutOfRange buffer = refusedWith outOfRange buffer
 
 -- "reply or line value outside its range": some value of some of the lines that would be written
 pub record Outside (lines : List Line) : Type 0 where

@@ -88,7 +88,8 @@ fn flit(
 
 // "first `C cycle input vc` for each credit reaching a sender, by input"
 fn credits(out: &mut [u8], cycle: u64, digits: &[u8; 10], zeros: usize, reply: Reply) -> usize
-    requires { ⌜ (printable (byPort (creditLine cycle reply) mostPorts) ≡ true) × Spelled cycle (now digits) zeros × (128 ≤ length (now out)) ⌝ }
+    requires { ⌜ (printable (byPort (creditLine cycle reply) mostPorts) ≡ true) × Spelled cycle (now digits) zeros
+        × (128 ≤ length (now out)) ⌝ }
     ensures { λ r. ⌜ Laid (now (out .entry)) 0 (text (byPort (creditLine cycle reply) mostPorts)) (now (out .exit)) r × (r ≤ 128) ⌝ }
 {
     let mut at: usize = 0;
@@ -115,7 +116,8 @@ fn flits(
     zeros: usize,
     reply: Reply,
 ) -> usize
-    requires { ⌜ (printable (byPort (flitLine cycle reply) mostPorts) ≡ true) × Spelled cycle (now digits) zeros × (from + 248 ≤ length (now out)) ⌝ }
+    requires { ⌜ (printable (byPort (flitLine cycle reply) mostPorts) ≡ true) × Spelled cycle (now digits) zeros
+        × (from + 248 ≤ length (now out)) ⌝ }
     ensures { λ r. ⌜ Laid (now (out .entry)) from (text (byPort (flitLine cycle reply) mostPorts)) (now (out .exit)) r ⌝ }
 {
     let mut at: usize = from;

@@ -26,7 +26,8 @@ not-otherwise (no a) f = absurd (f a)
 
 module _ {Flit : Type 0} (i v : ℕ) where
   -- What is offered on an input VC is nothing, or the flit that its port brings for it.
-  pub offered-cases : (e : Event Flit) (P : List Flit → Type 0) → P [] → ((b : Brought Flit) → e .offer i ≡ some b → b .vc ≡ v → P (b .flit ∷ [])) →
+  pub offered-cases : (e : Event Flit) (P : List Flit → Type 0) → P []
+      → ((b : Brought Flit) → e .offer i ≡ some b → b .vc ≡ v → P (b .flit ∷ [])) →
       P (offered e i v)
   offered-cases e P none-offered one-offered = go (e .offer i) refl
     where

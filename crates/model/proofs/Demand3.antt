@@ -17,7 +17,8 @@ use Rattle.model.proofs.Reading.{reading-packets}
 use Rattle.model.proofs.Invariant.{Inv, inv-run}
 use Rattle.model.proofs.Depth.{stored-and-taken}
 
-module _ {Flit : Type 0} (look : Look Flit) (c : Config) (delayed : Delayed c) {s : Router Flit} {h : History Flit} (run : Run look c s h) (t : ℕ)
+module _ {Flit : Type 0} (look : Look Flit) (c : Config) (delayed : Delayed c) {s : Router Flit} {h : History Flit}
+    (run : Run look c s h) (t : ℕ)
     (cycles : Numbered (suc t) h) where
   inv : Inv look c s h
   inv = inv-run look c delayed run

@@ -32,11 +32,13 @@ module _ {Flit : Type 0} (look : Look Flit) (c : Config) where
   taken-fits (accept {s = s} run e k legal) i v = taken-more s e k legal i v (taken-fits run i v)
 
   -- "stored credits, D less [what is taken]", with nothing cut off.
-  pub stored-and-taken : {s : Router Flit} {h : History Flit} → Run look c s h → (i v : ℕ) → stored c (s .channel i v) + s .channel i v .taken ≡ c .depth
+  pub stored-and-taken : {s : Router Flit} {h : History Flit} → Run look c s h → (i v : ℕ)
+      → stored c (s .channel i v) + s .channel i v .taken ≡ c .depth
   stored-and-taken run i v = omega (arith, taken-fits run i v)
 
   -- "A queue can't overflow": not even after phase 3, before a flit leaves.
-  pub queue-fits : Delayed c → {s : Router Flit} {h : History Flit} → Run look c s h → (i v : ℕ) → length (queueNow (s .channel i v)) ≤ c .depth
+  pub queue-fits : Delayed c → {s : Router Flit} {h : History Flit} → Run look c s h → (i v : ℕ)
+      → length (queueNow (s .channel i v)) ≤ c .depth
   queue-fits delayed {s = s} {h = h} run i v =
       let ch = s .channel i v in
       let all : length (ch .queue) + length (onWire ch) ≡ length (queueNow ch) + length (flat (drop 1 (ch .wire))) = sym

@@ -72,12 +72,14 @@ module _ (i v : ℕ) where
     offers-own none = refl
     offers-own (some b) = rw (eqb-same i) (go (eqb (b .vc) v))
       where
-        go : (t : Bool) → map (λ (o : Offer Flit). o .flit) (cond t (record { input = i; vc = b .vc; flit = b .flit } ∷ []) []) ≡ cond t (b .flit ∷ []) []
+        go : (t : Bool) → map (λ (o : Offer Flit). o .flit) (cond t (record { input = i; vc = b .vc; flit = b .flit } ∷ []) [])
+            ≡ cond t (b .flit ∷ []) []
         go true = refl
         go false = refl
 
     -- what leaves from VC u of input j, read by its source
-    leaving-other : (j u : ℕ) (l : Bool) (b : Option OutVc) (q : List Flit) → ¬ ((j ≡ i) × (u ≡ v)) → keep comesFrom (leaving j u l b q) ≡ []
+    leaving-other : (j u : ℕ) (l : Bool) (b : Option OutVc) (q : List Flit) → ¬ ((j ≡ i) × (u ≡ v)) → keep comesFrom (leaving j u l b q)
+        ≡ []
     leaving-other j u l b q ne = leaving-cases j u (λ ds. keep comesFrom ds ≡ []) l b q refl (λ a f x y. rw (same-other j u i v ne))
 
     leaving-own : (l : Bool) (b : Option OutVc) (q : List Flit) → keep comesFrom (leaving i v l b q) ≡ leaving i v l b q
@@ -90,19 +92,23 @@ module _ (i v : ℕ) where
         leaving-cases j u (λ ds. keep goesBy ds ≡ ds) l b q refl
         (λ a f x y. rw (Option·some-injective a (record { output = i; vc = v }) (sym y ∙ e), same-own i v))
 
-    leaving-past : (j u : ℕ) (l : Bool) (b : Option OutVc) (q : List Flit) → b ≢ some (record { output = i; vc = v }) → keep goesBy (leaving j u l b q) ≡ []
+    leaving-past : (j u : ℕ) (l : Bool) (b : Option OutVc) (q : List Flit) → b ≢ some (record { output = i; vc = v })
+        → keep goesBy (leaving j u l b q) ≡ []
     leaving-past j u l b q ne = leaving-cases j u (λ ds. keep goesBy ds ≡ []) l b q refl
         (λ a f x y. rw (same-other (a .output) (a .vc) i v (λ e. ne (y ∙ ap {B = Option OutVc} some (outVc-path a i v (e .0) (e .1))))))
 
     leaving-found : (j u : ℕ) (l : Bool) (b : Option OutVc) (q : List Flit) (d : Departure Flit) (ds : List (Departure Flit)) →
         keep goesBy (leaving j u l b q) ≡ d ∷ ds → (l ≡ true) × (b ≡ some (record { output = i; vc = v }))
     leaving-found j u l b q d ds =
-        leaving-cases j u (λ x. keep goesBy x ≡ d ∷ ds → (l ≡ true) × (b ≡ some (record { output = i; vc = v }))) l b q (λ e. absurd (nil≢cons e))
+        leaving-cases j u (λ x. keep goesBy x ≡ d ∷ ds → (l ≡ true) × (b ≡ some (record { output = i; vc = v }))) l b q
+        (λ e. absurd (nil≢cons e))
         (λ a f x y. go a f x y (same (a .output) (a .vc) i v) refl)
       where
-        go : (a : OutVc) (f : Flit) → l ≡ true → b ≡ some a → (t : Bool) → same (a .output) (a .vc) i v ≡ t → cond t (gone j u a f ∷ []) [] ≡ d ∷ ds →
+        go : (a : OutVc) (f : Flit) → l ≡ true → b ≡ some a → (t : Bool) → same (a .output) (a .vc) i v ≡ t
+            → cond t (gone j u a f ∷ []) [] ≡ d ∷ ds →
             (l ≡ true) × (b ≡ some (record { output = i; vc = v }))
-        go a f x y true t e = let r = same-true (a .output) (a .vc) i v t in (x, y ∙ ap {B = Option OutVc} some (outVc-path a i v (r .0) (r .1)))
+        go a f x y true t e = let r = same-true (a .output) (a .vc) i v t in
+            (x, y ∙ ap {B = Option OutVc} some (outVc-path a i v (r .0) (r .1)))
         go a f x y false t e = absurd (nil≢cons e)
 
   -- the credit of output j
@@ -139,7 +145,8 @@ module _ {Flit : Type 0} (c : Config) (s : Router Flit) (e : Event Flit) (k : Ch
       none-beyond out (some b) q = absurd (out (inside i b q))
 
   -- The credits of the entry for an output VC are what the step adds to it, if no port beyond the last brings one.
-  pub entry-credits : ((o w : ℕ) → e .credit o ≡ some w → o < c .ports) → (o w : ℕ) → length (creditsFor o w (entry c s e k)) ≡ creditFor w (e .credit o)
+  pub entry-credits : ((o w : ℕ) → e .credit o ≡ some w → o < c .ports) → (o w : ℕ) → length (creditsFor o w (entry c s e k))
+      ≡ creditFor w (e .credit o)
   entry-credits inside o w =
       ap length (keep-one (comesBackTo o w) (c .ports) (λ j. creditsAt j (e .credit j)) o (λ j ne. credits-other o w j (e .credit j) ne)
       (λ out. none-beyond out (e .credit o) refl)) ∙ credits-own o w (e .credit o)
@@ -163,24 +170,28 @@ module _ {Flit : Type 0} (c : Config) (s : Router Flit) (e : Event Flit) (k : Ch
   pub entry-from : LeavesInside → (i v : ℕ) → departuresFrom i v (entry c s e k) ≡ departure s k i v
   entry-from inside i v =
       keep-grid-one (comesFrom i v) (c .ports) (c .vcs) (departure s k) i v
-      (λ j u ne. leaving-other i v j u (k .leaves j u) (boundNow s k j u) (queueNow (s .channel j u)) ne) (λ out. own ∙ stays inside i v out) ∙ own
+      (λ j u ne. leaving-other i v j u (k .leaves j u) (boundNow s k j u) (queueNow (s .channel j u)) ne)
+      (λ out. own ∙ stays inside i v out) ∙ own
     where
       own : keep (comesFrom i v) (departure s k i v) ≡ departure s k i v
       own = leaving-own i v (k .leaves i v) (boundNow s k i v) (queueNow (s .channel i v))
 
   -- The departures of the entry on an output VC are what leaves from the one input VC that is bound to it ..
-  pub entry-on : LeavesInside → (i v : ℕ) (b : OutVc) → boundNow s k i v ≡ some b → ((j u : ℕ) → boundNow s k j u ≡ some b → (j ≡ i) × (u ≡ v)) →
+  pub entry-on : LeavesInside → (i v : ℕ) (b : OutVc) → boundNow s k i v ≡ some b
+      → ((j u : ℕ) → boundNow s k j u ≡ some b → (j ≡ i) × (u ≡ v)) →
       departuresOn (b .output) (b .vc) (entry c s e k) ≡ departure s k i v
   entry-on inside i v b q alone =
       keep-grid-one (goesBy (b .output) (b .vc)) (c .ports) (c .vcs) (departure s k) i v
-      (λ j u ne. leaving-past (b .output) (b .vc) j u (k .leaves j u) (boundNow s k j u) (queueNow (s .channel j u)) (λ p. ne (alone j u p)))
+      (λ j u ne. leaving-past (b .output) (b .vc) j u (k .leaves j u) (boundNow s k j u) (queueNow (s .channel j u))
+      (λ p. ne (alone j u p)))
       (λ out. own ∙ stays inside i v out) ∙ own
     where
       own : keep (goesBy (b .output) (b .vc)) (departure s k i v) ≡ departure s k i v
       own = leaving-by (b .output) (b .vc) i v (k .leaves i v) (boundNow s k i v) (queueNow (s .channel i v)) q
 
   -- .. and whatever left on an output VC left from an input VC that is bound to it.
-  pub entry-source : (b : OutVc) (d : Departure Flit) (ds : List (Departure Flit)) → departuresOn (b .output) (b .vc) (entry c s e k) ≡ d ∷ ds →
+  pub entry-source : (b : OutVc) (d : Departure Flit) (ds : List (Departure Flit)) → departuresOn (b .output) (b .vc) (entry c s e k)
+      ≡ d ∷ ds →
       (i : ℕ) × (v : ℕ) × (k .leaves i v ≡ true) × (boundNow s k i v ≡ some b)
   entry-source b d ds q =
       let r = grid-found (c .ports) (c .vcs) (λ j u. keep (goesBy (b .output) (b .vc)) (departure s k j u)) d ds
@@ -194,4 +205,5 @@ module _ {Flit : Type 0} (c : Config) (s : Router Flit) (e : Event Flit) (k : Ch
       reachedFor i v (entry c s e k) ≡ replicate (reaching (s .channel i v)) (record { input = i; vc = v })
   entry-reached i v none-beyond =
       keep-grid-one (comesHomeTo i v) (c .ports) (c .vcs) (λ j u. replicate (reaching (s .channel j u)) (record { input = j; vc = u })) i v
-      (λ j u ne. reached-other i v j u (reaching (s .channel j u)) ne) (λ out. rw (none-beyond out)) ∙ reached-own i v (reaching (s .channel i v))
+      (λ j u ne. reached-other i v j u (reaching (s .channel j u)) ne) (λ out. rw (none-beyond out))
+      ∙ reached-own i v (reaching (s .channel i v))

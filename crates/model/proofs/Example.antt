@@ -1,5 +1,6 @@
 -- A run by value: ten cycles that satisfy `Run`, with their state and history computed. Three ports, two VCs, F = B = 2, D = E = 2.
--- Inputs 0 and 2 contend for output 1. No arbiter of document 01 makes these choices: in cycle 2 the higher free VC is given out and a ready flit stays.
+-- Inputs 0 and 2 contend for output 1. No arbiter of document 01 makes these choices: in cycle 2 the higher free VC is given out and a
+-- ready flit stays.
 -- Assumes nothing.
 use mathlib.Core.Path.{_≡_, refl}
 use mathlib.Core.Option.{some}
@@ -57,7 +58,8 @@ numbers ch = stored config ch ∷ length (onWire ch) ∷ length (ch .queue) ∷ 
 pub bound-and-empty : (router 5 .bound 0 0 ≡ some (record { output = 1; vc = 0 })) × (router 5 .channel 0 0 .queue ≡ [])
 bound-and-empty = (refl, refl)
 
--- The numbers of two channels after cycles 0, 1, .., 9: stored credits, on the wire, buffered, on the way home. They were worked out by hand, from the offers and
+-- The numbers of two channels after cycles 0, 1, .., 9: stored credits, on the wire, buffered, on the way home. They were worked out by
+-- hand, from the offers and
 -- departures of `cycles` and the sentences of document 01.
 abbrev pub numbersOf : ℕ → ℕ → List (List ℕ)
 numbersOf i v = map (λ n. numbers (router n .channel i v)) (1 ∷ 2 ∷ 3 ∷ 4 ∷ 5 ∷ 6 ∷ 7 ∷ 8 ∷ 9 ∷ 10 ∷ [])
@@ -80,7 +82,8 @@ pub left-11 : leftOn 1 1 (history 10) ≡ left 1 1 2 1 (single 1 49) ∷ left 1 
 left-11 = refl
 
 -- When: VC 0 of input 0 took flits in cycles 0 and 5, they left in 3 and 7, and their credits reached the sender in 5 and 9.
-pub times-00 : (acceptedIn 0 0 (history 10) ≡ 0 ∷ 5 ∷ []) × (leftIn 0 0 (history 10) ≡ 3 ∷ 7 ∷ []) × (reachedIn 0 0 (history 10) ≡ 5 ∷ 9 ∷ [])
+pub times-00 : (acceptedIn 0 0 (history 10) ≡ 0 ∷ 5 ∷ []) × (leftIn 0 0 (history 10) ≡ 3 ∷ 7 ∷ [])
+    × (reachedIn 0 0 (history 10) ≡ 5 ∷ 9 ∷ [])
 times-00 = (refl, refl, refl)
 
 -- Demand 3 of this very run.

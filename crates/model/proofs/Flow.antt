@@ -60,9 +60,11 @@ module _ {Flit : Type 0} (c : Config) (delayed : Delayed c) (ch : Channel Flit) 
   -- A credit that reaches its sender is of a slot that is taken.
   pub reaching-taken : Entry Flit → reaching ch ≤ ch .taken
   reaching-taken e =
-      let left : length (leftFrom i v h) + length (ch .queue) ≡ length (accepted i v (drop (c .forward) h)) = simp (length-append, length-map) at
+      let left : length (leftFrom i v h) + length (ch .queue)
+      ≡ length (accepted i v (drop (c .forward) h)) = simp (length-append, length-map) at
       (ap length (flow .order)) in
-      let split : length (accepted i v h) ≡ length (accepted i v (drop (c .forward) h)) + length (accepted i v (take (c .forward) h)) = simp length-append at
+      let split : length (accepted i v h) ≡ length (accepted i v (drop (c .forward) h)) + length
+      (accepted i v (take (c .forward) h)) = simp length-append at
       (ap length (gather-split (offersIn i v) (c .forward) h)) in
       omega (arith, reached-more e, gather-out-le (departuresFrom i v) (c .back) (delayed .onTheWayHome) e h, flow .taken)
 
@@ -70,11 +72,18 @@ module _ {Flit : Type 0} (c : Config) (delayed : Delayed c) (ch : Channel Flit) 
   pub queueNow-le : Entry Flit → length (queueNow ch) ≤ length (accepted i v h)
   queueNow-le e =
       let all : flits (leftFrom i v h) ++ queueNow ch ≡ accepted i v (drop (c .forward) (e ∷ h)) =
-      rw (← append-assoc (flits (leftFrom i v h)), flow .order, flow .wire) (sym (gather-out (offersIn i v) (c .forward) (delayed .onTheWay) e h)) in
-      simp length-append (omega (arith, simp length-append at (ap length all), gather-out-le (offersIn i v) (c .forward) (delayed .onTheWay) e h))
+      rw (← append-assoc (flits (leftFrom i v h)), flow .order, flow .wire)
+      (sym (gather-out (offersIn i v) (c .forward) (delayed .onTheWay) e h)) in
+      simp length-append (omega (
+        arith,
+        simp length-append at (ap length all),
+        gather-out-le (offersIn i v) (c .forward)
+            (delayed .onTheWay) e h,
+      ))
 
   -- The flow is kept by a cycle that takes from the front of the queue what it lets leave.
-  pub flow-step : (e : Entry Flit) (n : ℕ) → length (departuresFrom i v e) ≡ n → flits (departuresFrom i v e) ++ drop n (queueNow ch) ≡ queueNow ch →
+  pub flow-step : (e : Entry Flit) (n : ℕ) → length (departuresFrom i v e) ≡ n → flits (departuresFrom i v e) ++ drop n (queueNow ch)
+      ≡ queueNow ch →
       Flow c (afterCycle ch (offersIn i v e) n) (e ∷ h) i v
   flow-step e n left moved =
       record {
@@ -100,7 +109,8 @@ module _ {Flit : Type 0} (c : Config) (delayed : Delayed c) (ch : Channel Flit) 
   wire-newest = ap flat (flow .wire) ∙ line-flat (offersIn i v) (c .forward) h
 
   pub home-newest : goingHome ch ≡ length (leftFrom i v (take (c .back) h))
-  home-newest = ap total (flow .home) ∙ total-lengths (lineOf (departuresFrom i v) (c .back) h) ∙ ap length (line-flat (departuresFrom i v) (c .back) h)
+  home-newest = ap total (flow .home) ∙ total-lengths (lineOf (departuresFrom i v) (c .back) h)
+      ∙ ap length (line-flat (departuresFrom i v) (c .back) h)
 
   pub queue-older : length (ch .queue) + length (leftFrom i v h) ≡ length (accepted i v (drop (c .forward) h))
   queue-older = omega (arith, simp (length-append, length-map) at (ap length (flow .order)))
@@ -108,9 +118,11 @@ module _ {Flit : Type 0} (c : Config) (delayed : Delayed c) (ch : Channel Flit) 
   -- "taken equals wire + queue + home"
   pub taken-is : ch .taken ≡ length (onWire ch) + length (ch .queue) + goingHome ch
   taken-is =
-      let offers : length (accepted i v h) ≡ length (accepted i v (drop (c .forward) h)) + length (accepted i v (take (c .forward) h)) = simp length-append
+      let offers : length (accepted i v h) ≡ length (accepted i v (drop (c .forward) h)) + length
+      (accepted i v (take (c .forward) h)) = simp length-append
       at (ap length (gather-split (offersIn i v) (c .forward) h)) in
-      let lefts : length (leftFrom i v h) ≡ length (leftFrom i v (drop (c .back) h)) + length (leftFrom i v (take (c .back) h)) = simp length-append at
+      let lefts : length (leftFrom i v h) ≡ length (leftFrom i v (drop (c .back) h)) + length
+      (leftFrom i v (take (c .back) h)) = simp length-append at
       (ap length (gather-split (departuresFrom i v) (c .back) h)) in
       omega (arith, ap length wire-newest, home-newest, queue-older, flow .taken)
 

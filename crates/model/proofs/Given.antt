@@ -1,4 +1,5 @@
--- Cycles given by value: lists of what is offered, of the credits that come back, of what is bound and of what leaves. What no list names does nothing.
+-- Cycles given by value: lists of what is offered, of the credits that come back, of what is bound and of what leaves. What no list
+-- names does nothing.
 -- Assumes nothing.
 use mathlib.Core.Bool.{Bool, true, false, cond}
 use mathlib.Core.Option.{Option, none, some, Option·map}
@@ -36,7 +37,8 @@ module _ {Flit : Type 0} where
   abbrev pub eventOf : Given Flit → Event Flit
   eventOf g =
       record {
-        offer = λ i. Option·map (λ (o : Offer Flit). record { vc = o .vc; flit = o .flit }) (find (λ (o : Offer Flit). eqb (o .input) i) (g .offers));
+        offer = λ i. Option·map (λ (o : Offer Flit). record { vc = o .vc; flit = o .flit })
+            (find (λ (o : Offer Flit). eqb (o .input) i) (g .offers));
         credit = λ o. Option·map (λ (r : OutVc). r .vc) (find (λ (r : OutVc). eqb (r .output) o) (g .credits));
       }
 

@@ -39,7 +39,8 @@ module _ {Flit : Type 0} (look : Look Flit) (c : Config) where
   pub record Inv (s : Router Flit) (h : History Flit) : Type 0 where
     pub numbered : Numbered (s .cycle) h
     pub flow : (i v : ℕ) → Flow c (s .channel i v) h i v
-    pub place : (i v : ℕ) → Place look i v (s .bound i v) (s .channel i v .queue) (onWire (s .channel i v)) (s .opened i v) (leftFrom i v h) (onOutVc h)
+    pub place : (i v : ℕ) → Place look i v (s .bound i v) (s .channel i v .queue) (onWire (s .channel i v)) (s .opened i v)
+        (leftFrom i v h) (onOutVc h)
     pub alone : (i v j u : ℕ) (b : OutVc) → s .bound i v ≡ some b → s .bound j u ≡ some b → (i ≡ j) × (v ≡ u)
     pub outputs : (b : OutVc) → Packets look FromOneSource (onOutVc h b)
     pub idle : (b : OutVc) → Free s b → Whole look FromOneSource (onOutVc h b)
@@ -50,7 +51,13 @@ module _ {Flit : Type 0} (look : Look Flit) (c : Config) where
       record {
         numbered = refl;
         flow = flow-fresh c;
-        place = λ i v. record { inside = none; goes = tt; reads = rw (empty i v) refl; left = nothing; onOutput = λ a e. absurd (Option·none-ne-some a e) };
+        place = λ i v. record {
+          inside = none;
+          goes = tt;
+          reads = rw (empty i v) refl;
+          left = nothing;
+          onOutput = λ a e. absurd (Option·none-ne-some a e);
+        };
         alone = λ i v j u b p q. absurd (Option·none-ne-some b p);
         outputs = λ b. finished nothing;
         idle = λ b f. nothing;
@@ -75,7 +82,8 @@ module _ {Flit : Type 0} (ch : Channel Flit) where
   held offered = rw (flat-append (drop 1 (ch .wire)) (offered ∷ []), append-nil offered, still-held)
       (append-assoc (queueNow ch) (flat (drop 1 (ch .wire))) offered)
 
-module _ {Flit : Type 0} (look : Look Flit) (c : Config) (delayed : Delayed c) (s : Router Flit) (h : History Flit) (inv : Inv look c s h) (e : Event Flit)
+module _ {Flit : Type 0} (look : Look Flit) (c : Config) (delayed : Delayed c) (s : Router Flit) (h : History Flit)
+    (inv : Inv look c s h) (e : Event Flit)
     (k : Choice) (legal : Legal look c s e k) where
   abbrev now : Entry Flit
   now = entry c s e k
@@ -116,14 +124,17 @@ module _ {Flit : Type 0} (look : Look Flit) (c : Config) (delayed : Delayed c) (
   -- The kinds that a sender offers are in order.
   kinds-in-order : (i v : ℕ) → Reads look (s .opened i v) (offered e i v) (openAfter look (s .opened i v) (offered e i v))
   kinds-in-order i v =
-      offered-cases i v e (λ fs. Reads look (s .opened i v) fs (openAfter look (s .opened i v) fs)) refl (λ b q w. (rw w at (legal .kinds i b q), refl))
+      offered-cases i v e (λ fs. Reads look (s .opened i v) fs (openAfter look (s .opened i v) fs)) refl
+      (λ b q w. (rw w at (legal .kinds i b q), refl))
 
   -- One flit leaves from an input VC that is to leave, none from another.
   pub one-leaves : (i v : ℕ) → length (departure s k i v) ≡ cond (k .leaves i v) 1 0
-  one-leaves i v = leaving-front look i v (k .leaves i v) (boundNow s k i v) (queueNow (s .channel i v)) (legal .leavesBound i v) (legal .leavesFlit i v) .0
+  one-leaves i v = leaving-front look i v (k .leaves i v) (boundNow s k i v) (queueNow (s .channel i v)) (legal .leavesBound i v)
+      (legal .leavesFlit i v) .0
 
   -- Each input VC's place after phases 1 to 4, then after phase 5, then after the cycle.
-  place-taken : (i v : ℕ) → Place look i v (s .bound i v) (queueNow (s .channel i v)) (onWire (after .channel i v)) (after .opened i v) (leftFrom i v h)
+  place-taken : (i v : ℕ) → Place look i v (s .bound i v) (queueNow (s .channel i v)) (onWire (after .channel i v)) (after .opened i v)
+      (leftFrom i v h)
       (onOutVc h)
   place-taken i v =
       let p = inv .place i v in
@@ -131,18 +142,21 @@ module _ {Flit : Type 0} (look : Look Flit) (c : Config) (delayed : Delayed c) (
         inside = p .inside;
         goes = goes-append look i v (s .bound i v) (p .inside) (s .channel i v .queue) (out [] (s .channel i v .wire)) (p .goes);
         reads = rw (← held (s .channel i v) (offered e i v))
-            (reads-append look (isOpen (p .inside)) (s .channel i v .queue ++ onWire (s .channel i v)) (offered e i v) (s .opened i v) (after .opened i v)
+            (reads-append look (isOpen (p .inside)) (s .channel i v .queue ++ onWire (s .channel i v)) (offered e i v) (s .opened i v)
+            (after .opened i v)
             (p .reads) (kinds-in-order i v));
         left = p .left;
         onOutput = p .onOutput;
       }
 
-  place-bound : (i v : ℕ) → Place look i v (boundNow s k i v) (queueNow (s .channel i v)) (onWire (after .channel i v)) (after .opened i v) (leftFrom i v h)
+  place-bound : (i v : ℕ) → Place look i v (boundNow s k i v) (queueNow (s .channel i v)) (onWire (after .channel i v))
+      (after .opened i v) (leftFrom i v h)
       (onOutVc h)
   place-bound i v = go (k .grant i v) refl
     where
       go : (g : Option OutVc) → k .grant i v ≡ g →
-          Place look i v (granted g (s .bound i v)) (queueNow (s .channel i v)) (onWire (after .channel i v)) (after .opened i v) (leftFrom i v h) (onOutVc h)
+          Place look i v (granted g (s .bound i v)) (queueNow (s .channel i v)) (onWire (after .channel i v)) (after .opened i v)
+          (leftFrom i v h) (onOutVc h)
       go none q = place-taken i v
       go (some b) q = place-bind look i v b (rw (legal .bindsUnbound i v b q) at (place-taken i v)) (legal .bindsFront i v b q)
           (inv .idle b (legal .bindsFree i v b q))
@@ -151,13 +165,16 @@ module _ {Flit : Type 0} (look : Look Flit) (c : Config) (delayed : Delayed c) (
       (leftFrom i v (now ∷ h)) (onOutVc (now ∷ h))
   place-after i v =
       rw (now-from i v)
-      (place-cycle look i v (k .leaves i v) (boundNow s k i v) (queueNow (s .channel i v)) (legal .leavesBound i v) (legal .leavesFlit i v) (place-bound i v)
+      (place-cycle look i v (k .leaves i v) (boundNow s k i v) (queueNow (s .channel i v)) (legal .leavesBound i v)
+      (legal .leavesFlit i v) (place-bound i v)
       (onOutVc (now ∷ h)) (λ a q. ap (λ (ds : List (Departure Flit)). onOutVc h a ++ ds) (now-on i v a q)))
 
   flow-after : (i v : ℕ) → Flow c (after .channel i v) (now ∷ h) i v
   flow-after i v =
-      let front = leaving-front look i v (k .leaves i v) (boundNow s k i v) (queueNow (s .channel i v)) (legal .leavesBound i v) (legal .leavesFlit i v) in
-      rw (now-offers i v) at (flow-step c delayed (s .channel i v) h i v (inv .flow i v) now (cond (k .leaves i v) 1 0) (rw (now-from i v) (front .0))
+      let front = leaving-front look i v (k .leaves i v) (boundNow s k i v) (queueNow (s .channel i v)) (legal .leavesBound i v)
+      (legal .leavesFlit i v) in
+      rw (now-offers i v) at (flow-step c delayed (s .channel i v) h i v (inv .flow i v) now (cond (k .leaves i v) 1 0)
+      (rw (now-from i v) (front .0))
       (rw (now-from i v) (front .1)))
 
   -- A binding after the cycle was there after phase 5, and one before the cycle still is.
@@ -184,10 +201,12 @@ module _ {Flit : Type 0} (look : Look Flit) (c : Config) (delayed : Delayed c) (
 
       go : (l : Bool) → k .leaves i v ≡ l → ⊥
       go false l = free i v (rw l bound)
-      go true l = let z : _≡_ {A = ℕ} 0 1 = ap length (sym none-left ∙ now-on i v b bound) ∙ one-leaves i v ∙ ap (λ (x : Bool). cond x 1 0) l in omega arith
+      go true l = let z : _≡_ {A = ℕ} 0 1 = ap length (sym none-left ∙ now-on i v b bound) ∙ one-leaves i v
+          ∙ ap (λ (x : Bool). cond x 1 0) l in omega arith
 
   -- Packets on an output VC: nothing left on it, or the front flit of the one input VC that is bound to it.
-  output-after : (b : OutVc) → Packets look FromOneSource (onOutVc (now ∷ h) b) × (Free after b → Whole look FromOneSource (onOutVc (now ∷ h) b))
+  output-after : (b : OutVc) → Packets look FromOneSource (onOutVc (now ∷ h) b)
+      × (Free after b → Whole look FromOneSource (onOutVc (now ∷ h) b))
   output-after b = go (departuresOn (b .output) (b .vc) now) refl
     where
       go : (ds : List (Departure Flit)) → departuresOn (b .output) (b .vc) now ≡ ds →
@@ -198,7 +217,8 @@ module _ {Flit : Type 0} (look : Look Flit) (c : Config) (delayed : Delayed c) (
           let i = from .0 in
           let v = from .1 in
           let l = from .2 in
-          let r = output-cycle look i v (boundNow s k i v) (queueNow (s .channel i v)) b (from .3) (legal .leavesFlit i v l) (place-bound i v) in
+          let r = output-cycle look i v (boundNow s k i v) (queueNow (s .channel i v)) b (from .3) (legal .leavesFlit i v l)
+          (place-bound i v) in
           rw (now-on i v b (from .3), l) (r .0, λ free. r .1 (rw l at (free i v)))
 
   -- Nothing is accepted beyond the ports and VCs.
@@ -220,6 +240,7 @@ module _ {Flit : Type 0} (look : Look Flit) (c : Config) (delayed : Delayed c) (
       }
 
 -- Every run keeps it.
-pub inv-run : {Flit : Type 0} (look : Look Flit) (c : Config) (delayed : Delayed c) {s : Router Flit} {h : History Flit} → Run look c s h → Inv look c s h
+pub inv-run : {Flit : Type 0} (look : Look Flit) (c : Config) (delayed : Delayed c) {s : Router Flit} {h : History Flit}
+    → Run look c s h → Inv look c s h
 inv-run look c delayed start = inv-fresh look c
 inv-run look c delayed (accept {s = s} {h = h} run e k legal) = inv-step look c delayed s h (inv-run look c delayed run) e k legal

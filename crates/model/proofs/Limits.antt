@@ -1,4 +1,5 @@
--- What follows about a cycle's limits: at most one flit leaves each input and each output, each output binds at most one, and every name is in range.
+-- What follows about a cycle's limits: at most one flit leaves each input and each output, each output binds at most one, and every
+-- name is in range.
 -- Assumes nothing.
 use mathlib.Core.Path.{_≡_, refl, sym, ap, _∙_}
 use mathlib.Core.Bool.{Bool, true, false, cond, _&&_}
@@ -30,7 +31,8 @@ use Rattle.model.proofs.OutCredits.{output-credits, credit-in-range}
 
 module _ {Flit : Type 0} where
   -- at most one flit leaves from an input VC
-  kept-le-one : (p : Departure Flit → Bool) (i v : ℕ) (l : Bool) (b : Option OutVc) (q : List Flit) → length (keep p (leaving i v l b q)) ≤ 1
+  kept-le-one : (p : Departure Flit → Bool) (i v : ℕ) (l : Bool) (b : Option OutVc) (q : List Flit)
+      → length (keep p (leaving i v l b q)) ≤ 1
   kept-le-one p i v l b q = leaving-cases i v (λ ds. length (keep p ds) ≤ 1) l b q (omega arith) (λ a f x y. go (p (gone i v a f)) a f)
     where
       go : (t : Bool) (a : OutVc) (f : Flit) → length (cond t (gone i v a f ∷ []) []) ≤ 1
@@ -60,7 +62,8 @@ module _ {Flit : Type 0} (look : Look Flit) (c : Config) where
     kept-once p alone =
         rw (keep-grid test (c .ports) (c .vcs) (departure s k))
         (grid-le-one (c .ports) (c .vcs) (λ i v. keep test (departure s k i v))
-        (λ i v. kept-le-one test i v (k .leaves i v) (boundNow s k i v) (queueNow (s .channel i v))) (λ i v j u x y. both (found i v x) (found j u y)))
+        (λ i v. kept-le-one test i v (k .leaves i v) (boundNow s k i v) (queueNow (s .channel i v)))
+        (λ i v j u x y. both (found i v x) (found j u y)))
       where
         test : Departure Flit → Bool
         test d = p (d .input) (d .output)
@@ -75,7 +78,8 @@ module _ {Flit : Type 0} (look : Look Flit) (c : Config) where
         both {i} {v} {j} {u} x y = alone i v j u (x .1) (y .1) (x .0) (y .0) (x .2) (y .2) (x .3) (y .3)
 
     -- "each output binds at most one per cycle"
-    pub binds-once : (i v j u : ℕ) (a b : OutVc) → s .bound i v ≡ none → s .bound j u ≡ none → boundNow s k i v ≡ some a → boundNow s k j u ≡ some b →
+    pub binds-once : (i v j u : ℕ) (a b : OutVc) → s .bound i v ≡ none → s .bound j u ≡ none → boundNow s k i v ≡ some a
+        → boundNow s k j u ≡ some b →
         a .output ≡ b .output → (i ≡ j) × (v ≡ u)
     binds-once i v j u a b p q x y = legal .bindsOnce i v j u a b (just i v a p x) (just j u b q y)
       where
@@ -92,7 +96,8 @@ module _ {Flit : Type 0} (look : Look Flit) (c : Config) where
         record {
           inputs = λ n. kept-once (λ i o. eqb i n) (λ i v j u a b x y p q f g. one-input n i v j u x y (eqb-true i n f) (eqb-true j n g));
           outputs = λ n. kept-once (λ i o. eqb o n)
-              (λ i v j u a b x y p q f g. legal .outputOnce i v j u a b x y p q (eqb-true (a .output) n f ∙ sym (eqb-true (b .output) n g)));
+              (λ i v j u a b x y p q f g. legal .outputOnce i v j u a b x y p q
+              (eqb-true (a .output) n f ∙ sym (eqb-true (b .output) n g)));
         }
       where
         one-input : (n i v j u : ℕ) → k .leaves i v ≡ true → k .leaves j u ≡ true → i ≡ n → j ≡ n → (i ≡ j) × (v ≡ u)
@@ -105,15 +110,19 @@ module _ {Flit : Type 0} (look : Look Flit) (c : Config) where
 
   module _ (delayed : Delayed c) where
     -- After phase 5 an output VC is held by at most one input VC: "T or S .. frees the output VC, usable from the next cycle".
-    pub one-holder : {s : Router Flit} {h : History Flit} → Run look c s h → (e : Event Flit) (k : Choice) → Legal look c s e k → (i v j u : ℕ) (b : OutVc) →
+    pub one-holder : {s : Router Flit} {h : History Flit} → Run look c s h → (e : Event Flit) (k : Choice) → Legal look c s e k
+        → (i v j u : ℕ) (b : OutVc) →
         boundNow s k i v ≡ some b → boundNow s k j u ≡ some b → (i ≡ j) × (v ≡ u)
     one-holder {s = s} {h = h} run e k legal = alone-now look c delayed s h (inv-run look c delayed run) e k legal
 
     -- A binding stays what it is until T or S leaves.
-    pub stays-bound : {s : Router Flit} {h : History Flit} → Run look c s h → (e : Event Flit) (k : Choice) → Legal look c s e k → (i v : ℕ) (b : OutVc) →
-        s .bound i v ≡ some b → step look c s e k .bound i v ≡ cond (k .leaves i v && endsPacket look (queueNow (s .channel i v))) none (some b)
+    pub stays-bound : {s : Router Flit} {h : History Flit} → Run look c s h → (e : Event Flit) (k : Choice) → Legal look c s e k
+        → (i v : ℕ) (b : OutVc) →
+        s .bound i v ≡ some b → step look c s e k .bound i v ≡ cond (k .leaves i v && endsPacket look (queueNow (s .channel i v))) none
+        (some b)
     stays-bound {s = s} {h = h} run e k legal i v b p =
-        ap (boundAfter look (k .leaves i v) (queueNow (s .channel i v))) (bound-still look c delayed s h (inv-run look c delayed run) e k legal i v b p)
+        ap (boundAfter look (k .leaves i v) (queueNow (s .channel i v)))
+        (bound-still look c delayed s h (inv-run look c delayed run) e k legal i v b p)
 
     -- The front flit of an unbound input VC is H or S, so that no B or T ever asks.
     pub front-starts : {s : Router Flit} {h : History Flit} → Run look c s h → (i v : ℕ) (f : Flit) (q : List Flit) → s .bound i v ≡ none →
@@ -134,8 +143,10 @@ module _ {Flit : Type 0} (look : Look Flit) (c : Config) where
       names-now =
           record {
             offers = all-each _ (c .ports) (λ i. offersAt i (e .offer i)) (λ i l. offer i l (e .offer i) refl);
-            sources = all-each _ (c .ports) (λ i. each (c .vcs) (departure s k i)) (λ i l. all-each _ (c .vcs) (departure s k i) (λ v m. source i v l m));
-            outputs = all-each _ (c .ports) (λ i. each (c .vcs) (departure s k i)) (λ i l. all-each _ (c .vcs) (departure s k i) (λ v m. output i v));
+            sources = all-each _ (c .ports) (λ i. each (c .vcs) (departure s k i))
+                (λ i l. all-each _ (c .vcs) (departure s k i) (λ v m. source i v l m));
+            outputs = all-each _ (c .ports) (λ i. each (c .vcs) (departure s k i))
+                (λ i l. all-each _ (c .vcs) (departure s k i) (λ v m. output i v));
             reached = all-each _ (c .ports) (λ i. each (c .vcs) (λ v. replicate (reaching (s .channel i v)) (record { input = i; vc = v })))
                 (λ i l. all-each _ (c .vcs) (λ v. replicate (reaching (s .channel i v)) (record { input = i; vc = v }))
                 (λ v m. home i v l m (reaching (s .channel i v))));

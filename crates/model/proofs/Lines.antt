@@ -51,7 +51,8 @@ module _ {Flit : Type 0} {A : Type 0} (of : Entry Flit → List A) where
   gather-back (suc n) (e ∷ h) = gather-back n h
 
   -- one cycle on, what comes out of the line is added to what had come out before
-  pub gather-out : (n : ℕ) → 1 ≤ n → (e : Entry Flit) (h : History Flit) → gather of (drop n (e ∷ h)) ≡ gather of (drop n h) ++ out [] (lineOf n h)
+  pub gather-out : (n : ℕ) → 1 ≤ n → (e : Entry Flit) (h : History Flit) → gather of (drop n (e ∷ h))
+      ≡ gather of (drop n h) ++ out [] (lineOf n h)
   gather-out zero l e h = absurd (omega arith)
   gather-out (suc n) l e h = rw (line-out n h) (gather-back n h)
 

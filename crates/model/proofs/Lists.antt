@@ -82,27 +82,32 @@ module _ {A : Type 0} where
       go (no l) = each-none n (λ j. keep p (f j)) (λ j m. other j (λ q. l (subst (λ (x : ℕ). x < n) q m))) ∙ sym (out l)
 
   -- what `each` lists, some place has
-  pub each-found : (n : ℕ) (f : ℕ → List A) (x : A) (xs : List A) → each n f ≡ x ∷ xs → (j : ℕ) × (j < n) × (y : A) × (ys : List A) × (f j ≡ y ∷ ys)
+  pub each-found : (n : ℕ) (f : ℕ → List A) (x : A) (xs : List A) → each n f ≡ x ∷ xs → (j : ℕ) × (j < n) × (y : A) × (ys : List A)
+      × (f j ≡ y ∷ ys)
   each-found zero f x xs e = absurd (let z : _≡_ {A = ℕ} 0 1 = cc in omega arith)
   each-found (suc n) f x xs e = go (each n f) refl (each-found n f) (f n) refl
     where
-      go : (l : List A) → each n f ≡ l → ((x : A) (xs : List A) → each n f ≡ x ∷ xs → (j : ℕ) × (j < n) × (y : A) × (ys : List A) × (f j ≡ y ∷ ys)) →
+      go : (l : List A) → each n f ≡ l → ((x : A) (xs : List A) → each n f ≡ x ∷ xs → (j : ℕ) × (j < n) × (y : A) × (ys : List A)
+          × (f j ≡ y ∷ ys)) →
           (m : List A) → f n ≡ m → (j : ℕ) × (j < suc n) × (y : A) × (ys : List A) × (f j ≡ y ∷ ys)
       go (y ∷ ys) l ih m q = let r = ih y ys l in (r .0, omega (arith, r .1), r .2, r .3, r .4)
       go [] l ih (y ∷ ys) q = (n, omega arith, y, ys, q)
       go [] l ih [] q = absurd (let z : _≡_ {A = ℕ} 0 1 = cc in omega arith)
 
   -- the same of a grid of n rows and m columns: what passes a test, a grid with one place that holds something, and what some place holds
-  pub keep-grid : (p : A → Bool) (n m : ℕ) (f : ℕ → ℕ → List A) → keep p (each n (λ j. each m (f j))) ≡ each n (λ j. each m (λ u. keep p (f j u)))
+  pub keep-grid : (p : A → Bool) (n m : ℕ) (f : ℕ → ℕ → List A) → keep p (each n (λ j. each m (f j)))
+      ≡ each n (λ j. each m (λ u. keep p (f j u)))
   keep-grid p n m f = keep-each p n (λ j. each m (f j)) ∙ ap (each n) (fun-ext (λ j. keep-each p m (f j)))
 
-  pub grid-one : (n m : ℕ) (f : ℕ → ℕ → List A) (i v : ℕ) → ((j u : ℕ) → ¬ ((j ≡ i) × (u ≡ v)) → f j u ≡ []) → (¬ ((i < n) × (v < m)) → f i v ≡ []) →
+  pub grid-one : (n m : ℕ) (f : ℕ → ℕ → List A) (i v : ℕ) → ((j u : ℕ) → ¬ ((j ≡ i) × (u ≡ v)) → f j u ≡ [])
+      → (¬ ((i < n) × (v < m)) → f i v ≡ []) →
       each n (λ j. each m (f j)) ≡ f i v
   grid-one n m f i v other out = go (decLt i n) (decLt v m)
     where
       empty : ¬ ((i < n) × (v < m)) → each n (λ j. each m (f j)) ≡ f i v
       empty q =
-          each-none n (λ j. each m (f j)) (λ j l. each-none m (f j) (λ u k. other j u (λ r. q (subst (λ x. x < n) (r .0) l, subst (λ x. x < m) (r .1) k)))) ∙
+          each-none n (λ j. each m (f j)) (λ j l. each-none m (f j)
+          (λ u k. other j u (λ r. q (subst (λ x. x < n) (r .0) l, subst (λ x. x < m) (r .1) k)))) ∙
           sym (out q)
 
       go : Dec (i < n) → Dec (v < m) → each n (λ j. each m (f j)) ≡ f i v

@@ -1,4 +1,5 @@
--- Each limit is needed: for each fact of `Legal` cycles by value that break it alone, and what then goes wrong. Two ports, two VCs, D = 2, E = F = B = 1.
+-- Each limit is needed: for each fact of `Legal` cycles by value that break it alone, and what then goes wrong. Two ports, two VCs, D =
+-- 2, E = F = B = 1.
 -- Assumes nothing.
 use mathlib.Core.Path.{_≡_, refl}
 use mathlib.Core.Bool.{not}
@@ -30,12 +31,15 @@ history gs = historyAfter looks config (fresh config) [] gs
 abbrev pub sum : Channel Flit → ℕ
 sum ch = stored config ch + length (onWire ch) + length (ch .queue) + goingHome ch
 
--- The cycles `before` are within the limits, the next breaks the n-th fact of `Legal` and no other, the cycles `behind` are within them again. Of the router and
+-- The cycles `before` are within the limits, the next breaks the n-th fact of `Legal` and no other, the cycles `behind` are within them
+-- again. Of the router and
 -- the history after them all `Wrong` holds.
-pub record Breaks (n : ℕ) (before : List (Given Flit)) (bad : Given Flit) (behind : List (Given Flit)) (Wrong : Router Flit → History Flit → Type 0) : Type 0
+pub record Breaks (n : ℕ) (before : List (Given Flit)) (bad : Given Flit) (behind : List (Given Flit))
+    (Wrong : Router Flit → History Flit → Type 0) : Type 0
   where
     pub fine : T (legals? looks config (fresh config) before)
-    pub alone : tests looks config (router before) bad ≡ map (λ m. not (eqb m n)) (0 ∷ 1 ∷ 2 ∷ 3 ∷ 4 ∷ 5 ∷ 6 ∷ 7 ∷ 8 ∷ 9 ∷ 10 ∷ 11 ∷ 12 ∷ 13 ∷ 14 ∷ 15 ∷ [])
+    pub alone : tests looks config (router before) bad ≡ map (λ m. not (eqb m n))
+        (0 ∷ 1 ∷ 2 ∷ 3 ∷ 4 ∷ 5 ∷ 6 ∷ 7 ∷ 8 ∷ 9 ∷ 10 ∷ 11 ∷ 12 ∷ 13 ∷ 14 ∷ 15 ∷ [])
     pub fineAgain : T (legals? looks config (router (before ++ (bad ∷ []))) behind)
     pub wrong : Wrong (router (before ++ (bad ∷ behind))) (history (before ++ (bad ∷ behind)))
 
@@ -57,7 +61,8 @@ pub credit-past-E : Breaks 3 [] (cycle [] (credit 1 0 ∷ []) [] []) [] (λ s h.
 credit-past-E = record { fine = tt; alone = refl; fineAgain = tt; wrong = refl }
 
 -- kinds: a head inside an open packet. On the output VC a head follows a head (demand 3).
-pub head-inside : Breaks 4 (cycle (offer 0 0 (head 1 7) ∷ []) [] [] [] ∷ []) (cycle (offer 0 0 (head 1 8) ∷ []) [] (bind 0 0 1 0 ∷ []) (from 0 0 ∷ []))
+pub head-inside : Breaks 4 (cycle (offer 0 0 (head 1 7) ∷ []) [] [] [] ∷ [])
+    (cycle (offer 0 0 (head 1 8) ∷ []) [] (bind 0 0 1 0 ∷ []) (from 0 0 ∷ []))
     (cycle [] (credit 1 0 ∷ []) [] (from 0 0 ∷ []) ∷ []) (λ s h. leftOn 1 0 h ≡ left 1 0 0 0 (head 1 7) ∷ left 1 0 0 0 (head 1 8) ∷ [])
 head-inside = record { fine = tt; alone = refl; fineAgain = tt; wrong = refl }
 
@@ -72,7 +77,8 @@ pub not-paid : Breaks 5 (cycle (offer 0 0 (single 1 7) ∷ []) [] [] [] ∷ cycl
 not-paid = record { fine = tt; alone = refl; fineAgain = tt; wrong = refl }
 
 -- bindsUnbound: an input VC that is bound is bound to another output VC, though nothing left (stays-bound).
-pub bound-again : Breaks 6 (cycle (offer 0 0 (head 1 7) ∷ []) [] [] [] ∷ cycle [] [] (bind 0 0 1 0 ∷ []) [] ∷ []) (cycle [] [] (bind 0 0 1 1 ∷ []) []) []
+pub bound-again : Breaks 6 (cycle (offer 0 0 (head 1 7) ∷ []) [] [] [] ∷ cycle [] [] (bind 0 0 1 0 ∷ []) [] ∷ [])
+    (cycle [] [] (bind 0 0 1 1 ∷ []) []) []
     (λ s h. (s .bound 0 0 ≡ some (record { output = 1; vc = 1 })) × (leftFrom 0 0 h ≡ []))
 bound-again = record { fine = tt; alone = refl; fineAgain = tt; wrong = (refl, refl) }
 
@@ -87,8 +93,10 @@ pub other-output : Breaks 7 (cycle (offer 0 0 (single 0 7) ∷ []) [] [] [] ∷ 
 other-output = record { fine = tt; alone = refl; fineAgain = tt; wrong = refl }
 
 -- bindsFree: an output VC that one input VC holds is given to another. A packet holds flits of two sources (demand 3).
-pub in-use : Breaks 8 (cycle (offer 0 0 (head 1 7) ∷ offer 1 0 (head 1 8) ∷ []) [] [] [] ∷ cycle [] [] (bind 0 0 1 0 ∷ []) (from 0 0 ∷ []) ∷ [])
-    (cycle [] (credit 1 0 ∷ []) (bind 1 0 1 0 ∷ []) (from 1 0 ∷ [])) [] (λ s h. leftOn 1 0 h ≡ left 1 0 0 0 (head 1 7) ∷ left 1 0 1 0 (head 1 8) ∷ [])
+pub in-use : Breaks 8 (cycle (offer 0 0 (head 1 7) ∷ offer 1 0 (head 1 8) ∷ []) [] [] [] ∷ cycle [] [] (bind 0 0 1 0 ∷ [])
+    (from 0 0 ∷ []) ∷ [])
+    (cycle [] (credit 1 0 ∷ []) (bind 1 0 1 0 ∷ []) (from 1 0 ∷ [])) []
+    (λ s h. leftOn 1 0 h ≡ left 1 0 0 0 (head 1 7) ∷ left 1 0 1 0 (head 1 8) ∷ [])
 in-use = record { fine = tt; alone = refl; fineAgain = tt; wrong = refl }
 
 -- bindsFree: an output VC is given out in the cycle in which a single of another input VC leaves on it (one-holder).
@@ -109,7 +117,8 @@ pub same-output-vc : Breaks 10 (cycle (offer 0 0 (head 1 7) ∷ offer 1 0 (head 
 same-output-vc = record { fine = tt; alone = refl; fineAgain = tt; wrong = refl }
 
 -- bindsOnce: one output binds two in one cycle, to two of its VCs (binds-once).
-pub same-output : Breaks 10 (cycle (offer 0 0 (single 1 7) ∷ offer 1 0 (single 1 7) ∷ []) [] [] [] ∷ []) (cycle [] [] (bind 0 0 1 0 ∷ bind 1 0 1 1 ∷ []) [])
+pub same-output : Breaks 10 (cycle (offer 0 0 (single 1 7) ∷ offer 1 0 (single 1 7) ∷ []) [] [] [] ∷ [])
+    (cycle [] [] (bind 0 0 1 0 ∷ bind 1 0 1 1 ∷ []) [])
     [] (λ s h. (s .bound 0 0 ≡ some (record { output = 1; vc = 0 })) × (s .bound 1 0 ≡ some (record { output = 1; vc = 1 })))
 same-output = record { fine = tt; alone = refl; fineAgain = tt; wrong = (refl, refl) }
 
@@ -124,8 +133,10 @@ pub nothing-leaves : Breaks 12 (cycle (offer 0 0 (head 1 7) ∷ []) [] [] [] ∷
 nothing-leaves = record { fine = tt; alone = refl; fineAgain = tt; wrong = (refl, refl) }
 
 -- leavesCredit: a flit leaves without an output credit, and one credit is short for ever (output-credits).
-pub unpaid-output : Breaks 13 (cycle (offer 0 0 (head 1 7) ∷ []) [] [] [] ∷ cycle (offer 0 0 (tail 8) ∷ []) [] (bind 0 0 1 0 ∷ []) (from 0 0 ∷ []) ∷ [])
-    (cycle [] [] [] (from 0 0 ∷ [])) [] (λ s h. (s .outCredit 1 0 + length (leftOn 1 0 h) ≡ 2) × (config .downstream + length (creditsOn 1 0 h) ≡ 1))
+pub unpaid-output : Breaks 13 (cycle (offer 0 0 (head 1 7) ∷ []) [] [] [] ∷ cycle (offer 0 0 (tail 8) ∷ []) [] (bind 0 0 1 0 ∷ [])
+    (from 0 0 ∷ []) ∷ [])
+    (cycle [] [] [] (from 0 0 ∷ [])) [] (λ s h. (s .outCredit 1 0 + length (leftOn 1 0 h) ≡ 2)
+    × (config .downstream + length (creditsOn 1 0 h) ≡ 1))
 unpaid-output = record { fine = tt; alone = refl; fineAgain = tt; wrong = (refl, refl) }
 
 -- inputOnce: two VCs of input 0 leave together (once-per-port).

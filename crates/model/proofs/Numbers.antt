@@ -17,7 +17,8 @@ module _ {Flit : Type 0} where
 
   upTo-all : (t j n : ℕ) (h : History Flit) → Numbered n h → n + j ≤ suc t → upTo t j h ≡ h
   upTo-all t j n [] q l = refl
-  upTo-all t j n (e ∷ h) q l = rw (leb-yes (e .cycle + j) t (omega arith)) (ap (λ (r : History Flit). e ∷ r) (upTo-all t j (e .cycle) h (q .1) (omega arith)))
+  upTo-all t j n (e ∷ h) q l = rw (leb-yes (e .cycle + j) t (omega arith))
+      (ap (λ (r : History Flit). e ∷ r) (upTo-all t j (e .cycle) h (q .1) (omega arith)))
 
   -- the same with the newest k entries left out
   after-take : (t j k n : ℕ) (h : History Flit) → Numbered n h → n + j ≡ suc t → after t (j + k) h ≡ take k h
@@ -31,7 +32,8 @@ module _ {Flit : Type 0} where
   upTo-drop t j zero n h q l = upTo-all t (j + 0) n h q (omega arith)
   upTo-drop t j (suc k) n [] q l = refl
   upTo-drop t j (suc k) n (e ∷ h) q l =
-      rw (leb-no (e .cycle + (j + suc k)) t (omega arith), add-suc j k, ← suc-add j k) (upTo-drop t (suc j) k (e .cycle) h (q .1) (omega arith))
+      rw (leb-no (e .cycle + (j + suc k)) t (omega arith), add-suc j k, ← suc-add j k)
+      (upTo-drop t (suc j) k (e .cycle) h (q .1) (omega arith))
 
   -- After cycle t, "after t−k" is the newest k entries, and "up to t−k" the others.
   pub after-newest : (t k : ℕ) (h : History Flit) → Numbered (suc t) h → after t k h ≡ take k h

@@ -30,20 +30,28 @@ module _ {Flit : Type 0} (look : Look Flit) (c : Config) (delayed : Delayed c) w
     left-paid : (o w : ℕ) → length (departuresOn o w (entry c s e k)) ≤ outCreditNow s e o w
     left-paid o w = go (departuresOn o w (entry c s e k)) refl
       where
-        go : (ds : List (Departure Flit)) → departuresOn o w (entry c s e k) ≡ ds → length (departuresOn o w (entry c s e k)) ≤ outCreditNow s e o w
+        go : (ds : List (Departure Flit)) → departuresOn o w (entry c s e k) ≡ ds
+            → length (departuresOn o w (entry c s e k)) ≤ outCreditNow s e o w
         go [] q = rw q (omega arith)
         go (d ∷ ds) q =
             let b : OutVc = record { output = o; vc = w } in
             let inv = inv-run look c delayed run in
             let r = entry-source c s e k b d ds q in
-            let one : length (departuresOn o w (entry c s e k)) ≡ 1 = ap length (now-on look c delayed s h inv e k legal (r .0) (r .1) b (r .3)) ∙ one-leaves
+            let one : length (departuresOn o w (entry c s e k))
+            ≡ 1 = ap length (now-on look c delayed s h inv e k legal (r .0) (r .1) b (r .3)) ∙ one-leaves
             look c delayed s h inv e k legal (r .0) (r .1) ∙ ap (λ (x : Bool). cond x 1 0) (r .2) in
             omega (arith, legal .leavesCredit (r .0) (r .1) b (r .2) (r .3))
 
     -- A credit comes back only for an output VC that something has left on, so only for one in range.
     pub credit-in-range : ((o w : ℕ) → OutputCredits c s h o w) → (o w : ℕ) → e .credit o ≡ some w → InRange c o w
     credit-in-range before o w q =
-        not-otherwise (inRange? c o w) (λ out. omega (arith, legal .room o w q, before o w .sum, ap length (nothing-left-beyond look c delayed run o w out)))
+        not-otherwise (inRange? c o w) (λ out. omega (
+          arith,
+          legal .room o w q,
+          before o w .sum,
+          ap length
+              (nothing-left-beyond look c delayed run o w out),
+        ))
 
     credit-fits : (o w : ℕ) → s .outCredit o w ≤ c .downstream → outCreditNow s e o w ≤ c .downstream
     credit-fits o w fits = go (e .credit o) refl
@@ -61,7 +69,11 @@ module _ {Flit : Type 0} (look : Look Flit) (c : Config) (delayed : Delayed c) w
         let b = before o w in
         let credits = entry-credits c s e k (λ p u q. credit-in-range before p u q .0) o w in
         record {
-          sum = rw (length-append (leftOn o w h) (departuresOn o w (entry c s e k)), length-append (creditsOn o w h) (creditsFor o w (entry c s e k)))
+          sum = rw (
+            length-append (leftOn o w h) (departuresOn o w (entry c s e k)),
+            length-append (creditsOn o w h)
+                (creditsFor o w (entry c s e k)),
+          )
               (omega (arith, left-paid o w, b .sum, credits));
           fits = omega (arith, credit-fits o w (b .fits));
         }

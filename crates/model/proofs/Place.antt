@@ -20,7 +20,8 @@ use Rattle.model.proofs.Cases.{gone}
 use Rattle.model.proofs.Reading.{Reads, isOpen, headOf, Reading, read-on, reading-packets}
 
 module _ {Flit : Type 0} (look : Look Flit) (i v : ℕ) where
-  -- An input VC that is unbound stands between packets. One that is bound stands in front of a head for that output, or inside a packet for it.
+  -- An input VC that is unbound stands between packets. One that is bound stands in front of a head for that output, or inside a packet
+  -- for it.
   abbrev pub Goes : Option OutVc → Option (Departure Flit) → List Flit → Type 0
   Goes none none q = Unit {0}
   Goes none (some h) q = ⊥
@@ -28,7 +29,8 @@ module _ {Flit : Type 0} (look : Look Flit) (i v : ℕ) where
   Goes (some b) (some h) q = (look .port (h .flit) ≡ b .output) × (h .input ≡ i) × (h .vc ≡ v)
 
   -- bound to b, with the flits q in the queue and `later` behind them, from which `from` has left, and on each output VC `on`
-  pub record Place (b : Option OutVc) (q later : List Flit) (opened : Bool) (from : List (Departure Flit)) (on : OutVc → List (Departure Flit)) : Type 0 where
+  pub record Place (b : Option OutVc) (q later : List Flit) (opened : Bool) (from : List (Departure Flit))
+      (on : OutVc → List (Departure Flit)) : Type 0 where
     pub inside : Option (Departure Flit)
     pub goes : Goes b inside q
     pub reads : Reads look (isOpen inside) (q ++ later) opened
@@ -51,7 +53,8 @@ module _ {Flit : Type 0} (look : Look Flit) (i v : ℕ) where
       Place none q later opened from on → Asks look q (b .output) → Whole look FromOneSource (on b) → Place (some b) q later opened from on
   place-bind {q} {later} {opened} {from} {on} b p asks idle = go (p .inside) (p .goes) (p .reads) (p .left)
     where
-      go : (h : Option (Departure Flit)) → Goes none h q → Reads look (isOpen h) (q ++ later) opened → Reading look (ByHeadsPort look) h from →
+      go : (h : Option (Departure Flit)) → Goes none h q → Reads look (isOpen h) (q ++ later) opened
+          → Reading look (ByHeadsPort look) h from →
           Place (some b) q later opened from on
       go none g r l =
           record {
@@ -93,7 +96,8 @@ module _ {Flit : Type 0} (look : Look Flit) (i v : ℕ) where
             inside = insideAfter;
             goes = goes (look .ends f) (p .inside) (front-fits (p .inside) q (p .goes));
             reads = reads (look .ends f) (p .inside) (p .reads .1);
-            left = read-on look (ByHeadsPort look) (p .inside) from front (p .left) (p .reads .0) (sym (front-fits (p .inside) q (p .goes) .0));
+            left = read-on look (ByHeadsPort look) (p .inside) from front (p .left) (p .reads .0)
+                (sym (front-fits (p .inside) q (p .goes) .0));
             onOutput = λ a r. out a (look .ends f) r output-reads;
           }
         where
@@ -123,7 +127,8 @@ module _ {Flit : Type 0} (look : Look Flit) (i v : ℕ) where
 
   module _ {later : List Flit} {opened : Bool} {from : List (Departure Flit)} {on : OutVc → List (Departure Flit)} where
     -- An input VC's place after the cycle, in which it lets its front flit leave or not ..
-    pub place-cycle : (l : Bool) (b : Option OutVc) (q : List Flit) → (l ≡ true → IsSome b) → (l ≡ true → 0 < length q) → Place b q later opened from on →
+    pub place-cycle : (l : Bool) (b : Option OutVc) (q : List Flit) → (l ≡ true → IsSome b) → (l ≡ true → 0 < length q)
+        → Place b q later opened from on →
         (after : OutVc → List (Departure Flit)) → ((a : OutVc) → b ≡ some a → after a ≡ on a ++ leaving i v l b q) →
         Place (boundAfter look l q b) (drop (cond l 1 0) q) later opened (from ++ leaving i v l b q) after
     place-cycle false b q bound flit p after e =

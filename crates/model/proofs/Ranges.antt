@@ -36,7 +36,8 @@ module _ {Flit : Type 0} (look : Look Flit) (c : Config) (delayed : Delayed c) w
   nothing-beyond run i v out = let inv = inv-run look c delayed run in omega (arith, inv .flow i v .taken, ap length (inv .beyond i v out))
 
   -- Nothing beyond them is ever bound: there is no flit to ask for it.
-  granted-inside : {s : Router Flit} {h : History Flit} → Run look c s h → (e : Event Flit) (k : Choice) → Legal look c s e k → (i v : ℕ) (b : OutVc) →
+  granted-inside : {s : Router Flit} {h : History Flit} → Run look c s h → (e : Event Flit) (k : Choice) → Legal look c s e k
+      → (i v : ℕ) (b : OutVc) →
       ¬ InRange c i v → s .bound i v ≢ some b → boundNow s k i v ≢ some b
   granted-inside {s = s} {h = h} run e k legal i v b out before = go (k .grant i v) refl
     where
@@ -44,7 +45,8 @@ module _ {Flit : Type 0} (look : Look Flit) (c : Config) (delayed : Delayed c) w
       inv = inv-run look c delayed run
 
       empty : length (queueNow (s .channel i v)) ≡ 0
-      empty = let l = queueNow-le c delayed (s .channel i v) h i v (inv .flow i v) (entry c s e k) in omega (arith, ap length (inv .beyond i v out))
+      empty = let l = queueNow-le c delayed (s .channel i v) h i v (inv .flow i v) (entry c s e k) in
+          omega (arith, ap length (inv .beyond i v out))
 
       go : (g : Option OutVc) → k .grant i v ≡ g → granted g (s .bound i v) ≢ some b
       go none q p = before p
@@ -83,7 +85,8 @@ module _ {Flit : Type 0} (look : Look Flit) (c : Config) (delayed : Delayed c) w
   asks-port (f ∷ q) o r a = rw (a .1) at (r .0 (a .0))
 
   -- What an input VC is bound to is in range, before the cycle and after phase 5.
-  bound-now-in-range : {s : Router Flit} {h : History Flit} → Run look c s h → (e : Event Flit) (k : Choice) → Legal look c s e k → (i v : ℕ) (b : OutVc) →
+  bound-now-in-range : {s : Router Flit} {h : History Flit} → Run look c s h → (e : Event Flit) (k : Choice) → Legal look c s e k
+      → (i v : ℕ) (b : OutVc) →
       (s .bound i v ≡ some b → InRange c (b .output) (b .vc)) → boundNow s k i v ≡ some b → InRange c (b .output) (b .vc)
   bound-now-in-range {s = s} {h = h} run e k legal i v b before = go (k .grant i v) refl
     where
@@ -93,20 +96,23 @@ module _ {Flit : Type 0} (look : Look Flit) (c : Config) (delayed : Delayed c) w
           let r = q ∙ p in
           (asks-port (queueNow (s .channel i v)) (b .output) (queue-routed run i v) (legal .bindsFront i v b r), legal .bindsVc i v b r)
 
-  pub bound-in-range : {s : Router Flit} {h : History Flit} → Run look c s h → (i v : ℕ) (b : OutVc) → s .bound i v ≡ some b → InRange c (b .output) (b .vc)
+  pub bound-in-range : {s : Router Flit} {h : History Flit} → Run look c s h → (i v : ℕ) (b : OutVc) → s .bound i v ≡ some b
+      → InRange c (b .output) (b .vc)
   bound-in-range start i v b p = absurd (Option·none-ne-some b p)
   bound-in-range (accept {s = s} {h = h} run e k legal) i v b p =
       bound-now-in-range run e k legal i v b (λ q. bound-in-range run i v b q)
       (bound-before look c delayed s h (inv-run look c delayed run) e k legal i v b p)
 
-  pub binds-in-range : {s : Router Flit} {h : History Flit} → Run look c s h → (e : Event Flit) (k : Choice) → Legal look c s e k → (i v : ℕ) (b : OutVc) →
+  pub binds-in-range : {s : Router Flit} {h : History Flit} → Run look c s h → (e : Event Flit) (k : Choice) → Legal look c s e k
+      → (i v : ℕ) (b : OutVc) →
       boundNow s k i v ≡ some b → InRange c (b .output) (b .vc)
   binds-in-range run e k legal i v b = bound-now-in-range run e k legal i v b (bound-in-range run i v b)
 
   -- Nothing leaves on an output VC beyond the ranges.
   pub nothing-left-beyond : {s : Router Flit} {h : History Flit} → Run look c s h → (o w : ℕ) → ¬ InRange c o w → leftOn o w h ≡ []
   nothing-left-beyond start o w out = refl
-  nothing-left-beyond (accept {s = s} {h = h} run e k legal) o w out = rw (nothing-left-beyond run o w out) (go (departuresOn o w (entry c s e k)) refl)
+  nothing-left-beyond (accept {s = s} {h = h} run e k legal) o w out = rw (nothing-left-beyond run o w out)
+      (go (departuresOn o w (entry c s e k)) refl)
     where
       go : (ds : List (Departure Flit)) → departuresOn o w (entry c s e k) ≡ ds → departuresOn o w (entry c s e k) ≡ []
       go [] q = q

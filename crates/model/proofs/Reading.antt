@@ -32,18 +32,21 @@ module _ {Flit : Type 0} (look : Look Flit) (Fits : Departure Flit → Departure
   -- whole packets, and then none, or an unfinished one with the given head
   abbrev pub Reading : Option (Departure Flit) → List (Departure Flit) → Type 0
   Reading none ds = Whole look Fits ds
-  Reading (some h) ds = (ps : List (Departure Flit)) × (p : List (Departure Flit)) × (ds ≡ ps ++ p) × Whole look Fits ps × Begun look Fits h p
+  Reading (some h) ds = (ps : List (Departure Flit)) × (p : List (Departure Flit)) × (ds ≡ ps ++ p) × Whole look Fits ps
+      × Begun look Fits h p
 
   pub reading-packets : (r : Option (Departure Flit)) (ds : List (Departure Flit)) → Reading r ds → Packets look Fits ds
   reading-packets none ds w = finished w
   reading-packets (some h) ds w = rw (w .2) (unfinished (w .3) (w .4))
 
   -- one more flit, of a kind that is in order and of the packet that is open
-  pub read-on : (r : Option (Departure Flit)) (ds : List (Departure Flit)) (d : Departure Flit) → Reading r ds → look .starts (d .flit) ≡ not (isOpen r) →
+  pub read-on : (r : Option (Departure Flit)) (ds : List (Departure Flit)) (d : Departure Flit) → Reading r ds → look .starts (d .flit)
+      ≡ not (isOpen r) →
       Fits (headOf r d) d → Reading (cond (look .ends (d .flit)) none (some (headOf r d))) (ds ++ (d ∷ []))
   read-on r ds d w starts fits = go r (look .ends (d .flit)) refl w starts fits
     where
-      go : (r : Option (Departure Flit)) (ends : Bool) → look .ends (d .flit) ≡ ends → Reading r ds → look .starts (d .flit) ≡ not (isOpen r) →
+      go : (r : Option (Departure Flit)) (ends : Bool) → look .ends (d .flit) ≡ ends → Reading r ds → look .starts (d .flit)
+          ≡ not (isOpen r) →
           Fits (headOf r d) d → Reading (cond ends none (some (headOf r d))) (ds ++ (d ∷ []))
       go none true e w s f = next w (single s e f)
       go none false e w s f = (ds, d ∷ [], refl, w, head s e f)

@@ -69,12 +69,14 @@ nth (b ∷ ts) t (suc n) = nth ts (and-right b (every (λ t. t) ts) t) n
 
 -- What is found in a list has the key and passes what every entry passes.
 module _ {A B : Type 0} (key test : A → Bool) (get : A → B) where
-  found : (xs : List A) → T (every test xs) → (b : B) → Option·map get (find key xs) ≡ some b → (x : A) × (key x ≡ true) × (get x ≡ b) × T (test x)
+  found : (xs : List A) → T (every test xs) → (b : B) → Option·map get (find key xs) ≡ some b → (x : A) × (key x ≡ true) × (get x ≡ b)
+      × T (test x)
   found [] t b q = absurd (Option·none-ne-some b q)
   found (x ∷ xs) t b q = go (key x) refl q (found xs (and-right (test x) (every test xs) t) b)
     where
       go : (k : Bool) → key x ≡ k → Option·map get (cond k (some x) (find key xs)) ≡ some b →
-          (Option·map get (find key xs) ≡ some b → (x : A) × (key x ≡ true) × (get x ≡ b) × T (test x)) → (x : A) × (key x ≡ true) × (get x ≡ b) × T (test x)
+          (Option·map get (find key xs) ≡ some b → (x : A) × (key x ≡ true) × (get x ≡ b) × T (test x)) → (x : A) × (key x ≡ true)
+          × (get x ≡ b) × T (test x)
       go true e q ih = (x, e, Option·some-injective (get x) b q, and-left (test x) (every test xs) t)
       go false e q ih = ih q
 
@@ -133,7 +135,8 @@ module _ {Flit : Type 0} (g : Given Flit) where
   abbrev pub k : Choice
   k = choiceOf g
 
-  offers-pass : (p : ℕ → ℕ → Flit → Bool) → T (every (λ (o : Offer Flit). p (o .input) (o .vc) (o .flit)) (g .offers)) → (i : ℕ) (b : Brought Flit) →
+  offers-pass : (p : ℕ → ℕ → Flit → Bool) → T (every (λ (o : Offer Flit). p (o .input) (o .vc) (o .flit)) (g .offers))
+      → (i : ℕ) (b : Brought Flit) →
       e .offer i ≡ some b → T (p i (b .vc) (b .flit))
   offers-pass p t i b q =
       let r = found (λ (o : Offer Flit). eqb (o .input) i) (λ (o : Offer Flit). p (o .input) (o .vc) (o .flit))
@@ -141,7 +144,8 @@ module _ {Flit : Type 0} (g : Given Flit) where
       subst (λ (x : Brought Flit). T (p i (x .vc) (x .flit))) (r .2)
       (subst (λ (j : ℕ). T (p j (r .0 .vc) (r .0 .flit))) (eqb-true (r .0 .input) i (r .1)) (r .3))
 
-  credits-pass : (p : ℕ → ℕ → Bool) → T (every (λ (r : OutVc). p (r .output) (r .vc)) (g .credits)) → (o w : ℕ) → e .credit o ≡ some w → T (p o w)
+  credits-pass : (p : ℕ → ℕ → Bool) → T (every (λ (r : OutVc). p (r .output) (r .vc)) (g .credits)) → (o w : ℕ) → e .credit o ≡ some w
+      → T (p o w)
   credits-pass p t o w q =
       let r = found (λ (r : OutVc). eqb (r .output) o) (λ (r : OutVc). p (r .output) (r .vc)) (λ (r : OutVc). r .vc) (g .credits) t w q in
       subst (λ (u : ℕ). T (p o u)) (r .2) (subst (λ (j : ℕ). T (p j (r .0 .vc))) (eqb-true (r .0 .output) o (r .1)) (r .3))
@@ -149,11 +153,13 @@ module _ {Flit : Type 0} (g : Given Flit) where
   binds-pass : (p : ℕ → ℕ → OutVc → Bool) → T (every (λ (x : Bind). p (x .input) (x .vc) (x .to)) (g .binds)) → (i v : ℕ) (b : OutVc) →
       k .grant i v ≡ some b → T (p i v b)
   binds-pass p t i v b q =
-      let r = found (λ (x : Bind). same (x .input) (x .vc) i v) (λ (x : Bind). p (x .input) (x .vc) (x .to)) (λ (x : Bind). x .to) (g .binds) t b q in
+      let r = found (λ (x : Bind). same (x .input) (x .vc) i v) (λ (x : Bind). p (x .input) (x .vc) (x .to)) (λ (x : Bind). x .to)
+      (g .binds) t b q in
       let here = same-true (r .0 .input) (r .0 .vc) i v (r .1) in
       subst (λ (x : OutVc). T (p i v x)) (r .2) (subst₂ (λ (j u : ℕ). T (p j u (r .0 .to))) (here .0) (here .1) (r .3))
 
-  leaves-pass : (p : ℕ → ℕ → Bool) → T (every (λ (x : InVc). p (x .input) (x .vc)) (g .leaves)) → (i v : ℕ) → k .leaves i v ≡ true → T (p i v)
+  leaves-pass : (p : ℕ → ℕ → Bool) → T (every (λ (x : InVc). p (x .input) (x .vc)) (g .leaves)) → (i v : ℕ) → k .leaves i v ≡ true
+      → T (p i v)
   leaves-pass p t i v q =
       let x = is-some (find (λ (x : InVc). same (x .input) (x .vc) i v) (g .leaves)) q in
       let r = found (λ (x : InVc). same (x .input) (x .vc) i v) (λ (x : InVc). p (x .input) (x .vc)) (λ (x : InVc). x) (g .leaves) t (x .0)
@@ -182,7 +188,8 @@ module _ {Flit : Type 0} (look : Look Flit) (c : Config) (s : Router Flit) (g : 
       every (λ (x : Bind). asks? look (queueNow (s .channel (x .input) (x .vc))) (x .to .output)) (g .binds) ∷
       every (λ (x : Bind). below (c .ports) (λ i. below (c .vcs) (λ v. elsewhere (s .bound i v) (x .to)))) (g .binds) ∷
       every (λ (x : Bind). ltb (x .to .vc) (c .vcs)) (g .binds) ∷
-      every (λ (x : Bind). every (λ (y : Bind). implies (eqb (x .to .output) (y .to .output)) (same (x .input) (x .vc) (y .input) (y .vc))) (g .binds))
+      every (λ (x : Bind). every (λ (y : Bind). implies (eqb (x .to .output) (y .to .output))
+      (same (x .input) (x .vc) (y .input) (y .vc))) (g .binds))
       (g .binds) ∷
       every (λ (x : InVc). isSome (bound? (x .input) (x .vc))) (g .leaves) ∷
       every (λ (x : InVc). ltb 0 (length (queueNow (s .channel (x .input) (x .vc))))) (g .leaves) ∷
@@ -196,34 +203,41 @@ module _ {Flit : Type 0} (look : Look Flit) (c : Config) (s : Router Flit) (g : 
   legal? = every (λ t. t) tests
 
   -- no input VC in range is bound to an output VC that passes, and none beyond is bound
-  free-all : Delayed c → {h : History Flit} → Run look c s h → (b : OutVc) → T (below (c .ports) (λ i. below (c .vcs) (λ v. elsewhere (s .bound i v) b))) →
+  free-all : Delayed c → {h : History Flit} → Run look c s h → (b : OutVc)
+      → T (below (c .ports) (λ i. below (c .vcs) (λ v. elsewhere (s .bound i v) b))) →
       Free s b
   free-all delayed run b t i v = go (inRange? c i v)
     where
       go : Dec (InRange c i v) → s .bound i v ≢ some b
       go (yes r) = is-elsewhere (s .bound i v) b
-          (below-at (c .vcs) (λ u. elsewhere (s .bound i u) b) (below-at (c .ports) (λ j. below (c .vcs) (λ u. elsewhere (s .bound j u) b)) t i (r .0)) v
+          (below-at (c .vcs) (λ u. elsewhere (s .bound i u) b)
+          (below-at (c .ports) (λ j. below (c .vcs) (λ u. elsewhere (s .bound j u) b)) t i (r .0)) v
           (r .1))
       go (no out) = bound-inside look c delayed run i v b out
 
   -- of two that are named, both at one output, or both from one input
-  binds-one : T legal? → (i v j u : ℕ) (a b : OutVc) → (k g) .grant i v ≡ some a → (k g) .grant j u ≡ some b → a .output ≡ b .output → (i ≡ j) × (v ≡ u)
+  binds-one : T legal? → (i v j u : ℕ) (a b : OutVc) → (k g) .grant i v ≡ some a → (k g) .grant j u ≡ some b → a .output ≡ b .output
+      → (i ≡ j) × (v ≡ u)
   binds-one t i v j u a b p q o =
-      let one = binds-pass g (λ i v a. every (λ (y : Bind). implies (eqb (a .output) (y .to .output)) (same i v (y .input) (y .vc))) (g .binds))
+      let one = binds-pass g (λ i v a. every (λ (y : Bind). implies (eqb (a .output) (y .to .output)) (same i v (y .input) (y .vc)))
+      (g .binds))
       (nth tests t 10) i v a p in
       let both = binds-pass g (λ j u b. implies (eqb (a .output) (b .output)) (same i v j u)) one j u b q in
       same-true i v j u (passed (same i v j u) (implied (eqb (a .output) (b .output)) (same i v j u) both (eqb-is o)))
 
   input-one : T legal? → (i v u : ℕ) → (k g) .leaves i v ≡ true → (k g) .leaves i u ≡ true → v ≡ u
   input-one t i v u p q =
-      let one = leaves-pass g (λ i v. every (λ (y : InVc). implies (eqb i (y .input)) (eqb v (y .vc))) (g .leaves)) (nth tests t 14) i v p in
+      let one = leaves-pass g (λ i v. every (λ (y : InVc). implies (eqb i (y .input)) (eqb v (y .vc))) (g .leaves))
+      (nth tests t 14) i v p in
       let both = leaves-pass g (λ j u. implies (eqb i j) (eqb v u)) one i u q in
       eqb-true v u (passed (eqb v u) (implied (eqb i i) (eqb v u) both (eqb-same i)))
 
-  output-one : T legal? → (i v j u : ℕ) (a b : OutVc) → (k g) .leaves i v ≡ true → (k g) .leaves j u ≡ true → bound? i v ≡ some a → bound? j u ≡ some b →
+  output-one : T legal? → (i v j u : ℕ) (a b : OutVc) → (k g) .leaves i v ≡ true → (k g) .leaves j u ≡ true → bound? i v ≡ some a
+      → bound? j u ≡ some b →
       a .output ≡ b .output → (i ≡ j) × (v ≡ u)
   output-one t i v j u a b p q x y o =
-      let one = leaves-pass g (λ i v. every (λ (y : InVc). implies (sameOutput (bound? i v) (bound? (y .input) (y .vc))) (same i v (y .input) (y .vc)))
+      let one = leaves-pass g (λ i v. every (λ (y : InVc). implies (sameOutput (bound? i v) (bound? (y .input) (y .vc)))
+      (same i v (y .input) (y .vc)))
       (g .leaves)) (nth tests t 15) i v p in
       let both = leaves-pass g (λ j u. implies (sameOutput (bound? i v) (bound? j u)) (same i v j u)) one j u q in
       same-true i v j u (passed (same i v j u) (implied (sameOutput (bound? i v) (bound? j u)) (same i v j u) both (rw (x, y) (eqb-is o))))
@@ -265,8 +279,11 @@ module _ {Flit : Type 0} (look : Look Flit) (c : Config) (s : Router Flit) (g : 
           ltb→lt 0 (length (queueNow (s .channel i v)))
               (leaves-pass g (λ i v. ltb 0 (length (queueNow (s .channel i v)))) (nth tests t 12) i v q),
         );
-        leavesCredit = λ i v b q bound. omega
-            (arith, ltb→lt 0 (outCreditNow s (e g) (b .output) (b .vc)) (rw bound at (leaves-pass g (λ i v. paid? (bound? i v)) (nth tests t 13) i v q)));
+        leavesCredit = λ i v b q bound. omega (
+          arith,
+          ltb→lt 0 (outCreditNow s (e g) (b .output) (b .vc))
+              (rw bound at (leaves-pass g (λ i v. paid? (bound? i v)) (nth tests t 13) i v q)),
+        );
         inputOnce = λ i v u p q. omega (arith, input-one t i v u p q);
         outputOnce = λ i v j u a b p q x y o. let one = output-one t i v j u a b p q x y o in (omega (arith, one), omega (arith, one));
       }

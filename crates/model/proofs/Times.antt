@@ -33,14 +33,16 @@ later-more n fs [] more l = tt
 later-more n [] (b ∷ bs) more l = absurd l
 later-more n (a ∷ fs) (b ∷ bs) more l = (l .0, later-more n fs bs more (l .1))
 
-later-next : (n now : ℕ) (firsts more seconds : List ℕ) → Later n (firsts ++ more) seconds → length seconds < length firsts → All (λ a. a + n ≤ now) firsts →
+later-next : (n now : ℕ) (firsts more seconds : List ℕ) → Later n (firsts ++ more) seconds → length seconds < length firsts
+    → All (λ a. a + n ≤ now) firsts →
     Later n (firsts ++ more) (seconds ++ (now ∷ []))
 later-next n now [] more bs l k q = absurd (omega arith)
 later-next n now (a ∷ fs) more [] l k q = (q .0, tt)
 later-next n now (a ∷ fs) more (b ∷ bs) l k q = (l .0, later-next n now fs more bs (l .1) (omega arith) (q .1))
 
 later-now : {A : Type 0} (n now : ℕ) (firsts more seconds : List ℕ) (xs : List A) → Later n (firsts ++ more) seconds →
-    length seconds + length xs ≤ length firsts → All (λ a. a + n ≤ now) firsts → Later n (firsts ++ more) (seconds ++ map (λ (x : A). now) xs)
+    length seconds + length xs ≤ length firsts → All (λ a. a + n ≤ now) firsts
+    → Later n (firsts ++ more) (seconds ++ map (λ (x : A). now) xs)
 later-now n now fs more bs [] l k q = rw (append-nil bs) l
 later-now n now fs more bs (x ∷ xs) l k q =
     rw (← append-snoc bs now (map (λ (y : _). now) xs))
@@ -100,17 +102,20 @@ module _ {Flit : Type 0} (i v : ℕ) where
   back-times m k j n [] q l = refl
   back-times zero k j n (e ∷ h) q l = same-times (e .cycle) (j + 1) (departuresFrom i v e) ∙ ap (replicate (length (departuresFrom i v e)))
       (let r : e .cycle + (j + 1) ≡ n = omega arith in r)
-  back-times (suc m) k j n (e ∷ h) q l = rw (add-suc j (suc m), ← suc-add j (suc m)) (back-times m (e .cycle) (suc j) n h (q .1) (omega arith))
+  back-times (suc m) k j n (e ∷ h) q l = rw (add-suc j (suc m), ← suc-add j (suc m))
+      (back-times m (e .cycle) (suc j) n h (q .1) (omega arith))
 
   -- what comes out of a line of B places in cycle n left in cycle n − B
   out-times : (B n : ℕ) (h : History Flit) → 1 ≤ B → Numbered n h →
       map (λ (a : ℕ). a + B) (out [] (lineOf leftAt B h)) ≡ replicate (length (out [] (lineOf (departuresFrom i v) B h))) n
   out-times zero n h l q = absurd (omega arith)
-  out-times (suc m) n h l q = rw (line-out leftAt m h, line-out (departuresFrom i v) m h) (rw (zero-add (suc m)) at (back-times m n 0 n h q (omega arith)))
+  out-times (suc m) n h l q = rw (line-out leftAt m h, line-out (departuresFrom i v) m h)
+      (rw (zero-add (suc m)) at (back-times m n 0 n h q (omega arith)))
 
 module _ {Flit : Type 0} (look : Look Flit) (c : Config) (delayed : Delayed c) (i v : ℕ) where
   -- One cycle on: what left now is no more than what was accepted at least F ago.
-  left-now : (s : Router Flit) (now : Entry Flit) (h : History Flit) → Inv look c s (now ∷ h) → Later (c .forward) (acceptedIn i v h) (leftIn i v h) →
+  left-now : (s : Router Flit) (now : Entry Flit) (h : History Flit) → Inv look c s (now ∷ h)
+      → Later (c .forward) (acceptedIn i v h) (leftIn i v h) →
       Later (c .forward) (acceptedIn i v (now ∷ h)) (leftIn i v (now ∷ h))
   left-now s now h inv before =
       let F = c .forward in
@@ -131,7 +136,8 @@ module _ {Flit : Type 0} (look : Look Flit) (c : Config) (delayed : Delayed c) (
       rw split (later-now F (now .cycle) (acceptedIn i v (drop F all)) (acceptedIn i v (take F all)) (leftIn i v h) (departuresFrom i v now)
       (rw split at more) room (rw older at (accepted-early i v (now .cycle) F all)))
 
-  -- "So a flit accepted in cycle t leaves in t+F at the earliest": the cycles in which a channel's flits left, against those in which they were accepted.
+  -- "So a flit accepted in cycle t leaves in t+F at the earliest": the cycles in which a channel's flits left, against those in which
+  -- they were accepted.
   pub leaves-after-F : {s : Router Flit} {h : History Flit} → Run look c s h → Later (c .forward) (acceptedIn i v h) (leftIn i v h)
   leaves-after-F start = tt
   leaves-after-F (accept {s = s} {h = h} run e k legal) =
@@ -147,7 +153,8 @@ module _ {Flit : Type 0} (look : Look Flit) (c : Config) (delayed : Delayed c) (
       let none-beyond : ¬ ((i < c .ports) × (v < c .vcs)) →
       reaching (s .channel i v) ≡ 0 = λ out. omega
       (arith, reaching-taken c delayed (s .channel i v) h i v flow now, flow .taken, ap length (inv .beyond i v out)) in
-      let reached : reachedFor i v now ≡ replicate (reaching (s .channel i v)) (record { input = i; vc = v }) = entry-reached c s e k i v none-beyond in
+      let reached : reachedFor i v now ≡ replicate (reaching (s .channel i v))
+      (record { input = i; vc = v }) = entry-reached c s e k i v none-beyond in
       rw (
         before,
         gather-out (leftAt i v) (c .back) (delayed .onTheWayHome) now h,
@@ -158,19 +165,23 @@ module _ {Flit : Type 0} (look : Look Flit) (c : Config) (delayed : Delayed c) (
         times-alike {A = InVc} (s .cycle) (reaching (s .channel i v)) (record { input = i; vc = v }),
       )
 
-  reached-older : {s : Router Flit} {h : History Flit} → Run look c s h → reachedIn i v h ≡ map (λ (a : ℕ). a + c .back) (leftIn i v (drop (c .back) h))
+  reached-older : {s : Router Flit} {h : History Flit} → Run look c s h → reachedIn i v h
+      ≡ map (λ (a : ℕ). a + c .back) (leftIn i v (drop (c .back) h))
   reached-older start = rw (drop-nil (c .back))
   reached-older (accept {s = s} {h = h} run e k legal) = reached-now s h (inv-run look c delayed run) e k (reached-older run)
 
-  -- A credit of a channel reaches its sender in cycle t exactly when a flit left the channel in t−B: the cycles in which its credits reached the sender, up to
+  -- A credit of a channel reaches its sender in cycle t exactly when a flit left the channel in t−B: the cycles in which its credits
+  -- reached the sender, up to
   -- cycle t, are those in which its flits left, up to t−B, each B later.
   pub reaches-after-B : {s : Router Flit} {h : History Flit} {now : Entry Flit} → Run look c s (now ∷ h) →
       reachedIn i v (now ∷ h) ≡ map (λ (a : ℕ). a + c .back) (leftIn i v (upTo (now .cycle) (c .back) (now ∷ h)))
   reaches-after-B {h = h} {now = now} run = rw (upTo-older (now .cycle) (c .back) (now ∷ h) (refl, inv-run look c delayed run .numbered .1))
       (reached-older run)
 
-  -- ".. and its credit serves again in t+F+B": the cycles in which a channel's credits reached the sender, against those in which their flits were accepted.
-  pub serves-after-F-and-B : {s : Router Flit} {h : History Flit} → Run look c s h → Later (c .forward + c .back) (acceptedIn i v h) (reachedIn i v h)
+  -- ".. and its credit serves again in t+F+B": the cycles in which a channel's credits reached the sender, against those in which their
+  -- flits were accepted.
+  pub serves-after-F-and-B : {s : Router Flit} {h : History Flit} → Run look c s h
+      → Later (c .forward + c .back) (acceptedIn i v h) (reachedIn i v h)
   serves-after-F-and-B {h = h} run =
       rw (reached-older run)
       (later-still (c .forward) (c .back) (acceptedIn i v h) (leftIn i v (drop (c .back) h))

@@ -35,7 +35,12 @@ module _ {Flit : Type 0} where
   -- "Each winner leaves its queue, .. and puts a credit on the way home." (01, phase 7)
   abbrev pub afterCycle : Channel Flit → List Flit → ℕ → Channel Flit
   afterCycle ch offered n =
-      record { taken = takenNow ch + length offered; wire = shift (ch .wire) offered; queue = drop n (queueNow ch); home = shift (ch .home) n }
+      record {
+        taken = takenNow ch + length offered;
+        wire = shift (ch .wire) offered;
+        queue = drop n (queueNow ch);
+        home = shift (ch .home) n;
+      }
 
   -- the flits on the wire, oldest first
   abbrev pub onWire : Channel Flit → List Flit

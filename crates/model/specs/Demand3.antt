@@ -43,5 +43,6 @@ pub record Demand3 {Flit : Type 0} (look : Look Flit) (c : Config) (s : Router F
   pub cycles : Numbered (suc t) h
   -- "After each accepted cycle, each input channel's ..": the two sentences above
   pub inputs : (i v : ℕ) → i < c .ports → v < c .vcs → InputDemand look c (s .channel i v) h t i v
-  -- "On each output channel the flits form whole packets one after another, at most the last unfinished, none holding flits of two sources."
+  -- "On each output channel the flits form whole packets one after another, at most the last unfinished, none holding flits of two
+  -- sources."
   pub outputs : (o w : ℕ) → o < c .ports → w < c .vcs → Packets look FromOneSource (leftOn o w h)

@@ -15,7 +15,8 @@ use Rattle.model.specs.Cycle.{Event, Choice, Brought}
 use Rattle.model.specs.Phases.{boundNow, outCreditNow}
 use Rattle.model.specs.Send.{maySend}
 
--- "An unbound one whose front flit is H or S asks at its destination" (01, phase 5). A front that is neither does not occur: `front-starts` of proofs/Limits.
+-- "An unbound one whose front flit is H or S asks at its destination" (01, phase 5). A front that is neither does not occur:
+-- `front-starts` of proofs/Limits.
 abbrev pub Asks : {Flit : Type 0} → Look Flit → List Flit → ℕ → Type 0
 Asks look [] o = ⊥
 Asks look (f ∷ q) o = (look .starts f ≡ true) × (look .port f ≡ o)
@@ -48,7 +49,9 @@ pub record Legal {Flit : Type 0} (look : Look Flit) (c : Config) (s : Router Fli
   pub leavesBound : (i v : ℕ) → k .leaves i v ≡ true → IsSome (boundNow s k i v)
   pub leavesFlit : (i v : ℕ) → k .leaves i v ≡ true → 0 < length (queueNow (s .channel i v))
   pub leavesCredit : (i v : ℕ) (b : OutVc) → k .leaves i v ≡ true → boundNow s k i v ≡ some b → 0 < outCreditNow s e (b .output) (b .vc)
-  -- "Each input's V-wide arbiter picks one ready VC", "each output's P-wide arbiter picks one row": at most one flit per input and per output.
+  -- "Each input's V-wide arbiter picks one ready VC", "each output's P-wide arbiter picks one row": at most one flit per input and per
+  -- output.
   pub inputOnce : (i v u : ℕ) → k .leaves i v ≡ true → k .leaves i u ≡ true → v ≡ u
-  pub outputOnce : (i v j u : ℕ) (a b : OutVc) → k .leaves i v ≡ true → k .leaves j u ≡ true → boundNow s k i v ≡ some a → boundNow s k j u ≡ some b →
+  pub outputOnce : (i v j u : ℕ) (a b : OutVc) → k .leaves i v ≡ true → k .leaves j u ≡ true → boundNow s k i v ≡ some a
+      → boundNow s k j u ≡ some b →
       a .output ≡ b .output → (i ≡ j) × (v ≡ u)

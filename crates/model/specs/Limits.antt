@@ -34,7 +34,8 @@ creditsFor o w e = keep (λ (r : OutVc). same (r .output) (r .vc) o w) (e .credi
 abbrev pub creditsOn : {Flit : Type 0} → ℕ → ℕ → History Flit → List OutVc
 creditsOn o w h = gather (creditsFor o w) h
 
--- "Downstream depth E .. per output VC", "Each credit from downstream raises the named output VC's credit by one", "Each winner .. costs one output credit":
+-- "Downstream depth E .. per output VC", "Each credit from downstream raises the named output VC's credit by one", "Each winner ..
+-- costs one output credit":
 -- what left on VC w of output o is as far ahead of the credits that came back for it as its credit is below E.
 pub record OutputCredits {Flit : Type 0} (c : Config) (s : Router Flit) (h : History Flit) (o w : ℕ) : Type 0 where
   pub sum : s .outCredit o w + length (leftOn o w h) ≡ c .downstream + length (creditsOn o w h)

@@ -11,13 +11,15 @@ module _ {Flit : Type 0} (look : Look Flit) (Fits : Departure Flit → Departure
   -- H, any number of B: a packet with the head h, not yet finished
   pub data Begun (h : Departure Flit) : List (Departure Flit) → Type 0 where
     head : look .starts (h .flit) ≡ true → look .ends (h .flit) ≡ false → Fits h h → Begun h (h ∷ [])
-    body : {p : List (Departure Flit)} {d : Departure Flit} → Begun h p → look .starts (d .flit) ≡ false → look .ends (d .flit) ≡ false → Fits h d →
+    body : {p : List (Departure Flit)} {d : Departure Flit} → Begun h p → look .starts (d .flit) ≡ false → look .ends (d .flit) ≡ false
+        → Fits h d →
         Begun h (p ++ (d ∷ []))
 
   -- "A packet is S alone, or H, any number of B, then T." (01, Sizes)
   pub data Packet : List (Departure Flit) → Type 0 where
     single : {h : Departure Flit} → look .starts (h .flit) ≡ true → look .ends (h .flit) ≡ true → Fits h h → Packet (h ∷ [])
-    tail : {h d : Departure Flit} {p : List (Departure Flit)} → Begun h p → look .starts (d .flit) ≡ false → look .ends (d .flit) ≡ true → Fits h d →
+    tail : {h d : Departure Flit} {p : List (Departure Flit)} → Begun h p → look .starts (d .flit) ≡ false → look .ends (d .flit) ≡ true
+        → Fits h d →
         Packet (p ++ (d ∷ []))
 
   -- "whole packets one after another"

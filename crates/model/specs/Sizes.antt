@@ -2,7 +2,8 @@
 -- Assumes nothing.
 use Prim.Native.Nat.{ℕ, _≤_}
 
--- "Ports P 1..8. VCs per port V 1..4. Input depth D 1..16 flits per VC. Downstream depth E 1..16 per output VC. Forward delay F 1..8, credit delay B 1..8 cycles."
+-- "Ports P 1..8. VCs per port V 1..4. Input depth D 1..16 flits per VC. Downstream depth E 1..16 per output VC. Forward delay F 1..8,
+-- credit delay B 1..8 cycles."
 -- The arbiter code has no place here: any choice is free.
 pub record Config : Type 0 where
   pub ports : ℕ  -- P

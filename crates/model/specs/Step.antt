@@ -47,7 +47,8 @@ module _ {Flit : Type 0} (look : Look Flit) where
   abbrev pub boundAfter : Bool → List Flit → Option OutVc → Option OutVc
   boundAfter left queue b = cond (left && endsPacket queue) none b
 
-  -- The router after the cycle. "Each winner leaves its queue, costs one output credit, .. and puts a credit on the way home." (01, phase 7)
+  -- The router after the cycle. "Each winner leaves its queue, costs one output credit, .. and puts a credit on the way home." (01,
+  -- phase 7)
   abbrev pub step : Config → Router Flit → Event Flit → Choice → Router Flit
   step c s e k =
       record {

@@ -11,12 +11,12 @@ use lib.Seq.{sets, sets-eq}
 use borrow.Author.Tests.{le-ltb}
 use Rattle.base.specs.Numbers.{done, room}
 use Rattle.listing.specs.Lines.{Line, text, printable}
-use Rattle.listing.specs.Writing.{Outcome, put, lacksRoom, written}
+use Rattle.listing.specs.Writing.{WriteOutcome, put, lacksRoom, written}
 use Rattle.listing.proofs.Exactness.{put-before, put-there, put-after}
 use Rattle.listing.proofs.Ports.{text-append, printable-append}
 use Rattle.listing.proofs.Stores.{sets-append, put-length}
-use Rattle.standing.specs.declared.Night.{Night}
-use Rattle.router.specs.Running.{Writing, wrote, onNight}
+use Rattle.runs.specs.declared.Run.{Run}
+use Rattle.router.specs.Running.{Writing, wrote, onRun}
 
 -- what is put is what is stored byte by byte
 put-sets : (b : List ℕ) (at : ℕ) (x : List ℕ) → at + length x ≤ length b → put b at x ≡ sets b at x
@@ -24,7 +24,8 @@ unfolding put
 put-sets b at x h = sym (sets-eq x b at h)
 
 -- bytes put behind bytes
-pub put-both : (b : List ℕ) (at : ℕ) (x y : List ℕ) → at + length x + length y ≤ length b → put (put b at x) (at + length x) y ≡ put b at (x ++ y)
+pub put-both : (b : List ℕ) (at : ℕ) (x y : List ℕ) → at + length x + length y ≤ length b → put (put b at x) (at + length x) y
+    ≡ put b at (x ++ y)
 put-both b at x y h =
     let whole : at + length (x ++ y) ≤ length b = omega (arith, length-append x y, h) in
     let front : at + length x ≤ length b = omega (arith, h) in
@@ -84,17 +85,18 @@ module _ (b : List ℕ) (at : ℕ) (lines : List Line) (fine : printable lines �
   is-written = rw (fine, has-room)
 
   pub written-done : written b at lines .number ≡ done
-  written-done = ap (λ (o : Outcome). o .number) is-written
+  written-done = ap (λ (o : WriteOutcome). o .number) is-written
 
 -- and a write adds them, whatever becomes of the run
-pub wrote-adds : (w : Writing) (f : Night → Night) (lines : List Line) → printable lines ≡ true → length (text lines) ≤ room → w .at + room ≤ length (w .buffer)
-    → Adds w (wrote lines (onNight f w)) lines
+pub wrote-adds : (w : Writing) (f : Run → Run) (lines : List Line) → printable lines ≡ true → length (text lines) ≤ room
+    → w .at + room ≤ length (w .buffer)
+    → Adds w (wrote lines (onRun f w)) lines
 unfolding wrote
 wrote-adds w f lines fine short there =
     let e = is-written (w .buffer) (w .at) lines fine there in
     record {
-      ahead = ap (λ (o : Outcome). w .at + o .bytes) e;
-      stands = ap (λ (o : Outcome). o .buffer) e;
+      ahead = ap (λ (o : WriteOutcome). w .at + o .bytes) e;
+      stands = ap (λ (o : WriteOutcome). o .buffer) e;
       inside = omega arith;
     }
 
@@ -121,7 +123,8 @@ pub record Prints (w v : Writing) (before after : List Line) : Type 0 where
   pub fine : printable lines ≡ true
   pub same : before ≡ lines ++ after
 
-pub prints-none : (w v : Writing) (before after : List Line) → v .at ≡ w .at → v .buffer ≡ w .buffer → w .at ≤ length (w .buffer) → before ≡ after
+pub prints-none : (w v : Writing) (before after : List Line) → v .at ≡ w .at → v .buffer ≡ w .buffer → w .at ≤ length (w .buffer)
+    → before ≡ after
     → Prints w v before after
 unfolding printable
 prints-none w v before after e f h same = record { lines = []; adds = adds-none w v e f h; fine = refl; same = same }
@@ -140,12 +143,23 @@ prints-length x = adds-length (x .adds)
 
 -- the same lines under other names
 pub prints-as : {w v : Writing} {a b c d : List Line} → Prints w v a b → c ≡ a → b ≡ d → Prints w v c d
-prints-as {w} {v} {a} {b} {c} {d} x e f = record { lines = x .lines; adds = x .adds; fine = x .fine; same = e ∙ x .same ∙ ap (λ (l : List Line). x .lines ++ l) f }
+prints-as {w} {v} {a} {b} {c} {d} x e f = record {
+  lines = x .lines;
+  adds = x .adds;
+  fine = x .fine;
+  same = e ∙ x .same ∙ ap (λ (l : List Line). x .lines ++ l) f;
+}
 
 -- and from the same place of another run
-pub prints-from : (w : Writing) (f : Night → Night) {v : Writing} {a b : List Line} → Prints (onNight f w) v a b → Prints w v a b
+pub prints-from : (w : Writing) (f : Run → Run) {v : Writing} {a b : List Line} → Prints (onRun f w) v a b → Prints w v a b
 prints-from w f {v} x =
-    record { lines = x .lines; adds = record { ahead = x .adds .ahead; stands = x .adds .stands; inside = x .adds .inside }; fine = x .fine; same = x .same }
+    record {
+      lines = x .lines;
+      adds = record { ahead = x .adds .ahead; stands = x .adds .stands; inside = x .adds .inside };
+      fine =
+          x .fine;
+      same = x .same;
+    }
 
 -- where the lines left after it are in range, so are those left before it
 pub prints-fine : {w v : Writing} {a b : List Line} → Prints w v a b → printable b ≡ true → printable a ≡ true

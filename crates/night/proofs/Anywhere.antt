@@ -7,68 +7,72 @@ use mathlib.Core.Option.{Option, some, none}
 use Prim.Native.Nat.{ℕ, zero, suc, _+_}
 use native.Mathlib.Omega.{arith}
 use Rattle.trace.specs.Bytes.{AreBytes}
-use Rattle.trace.specs.Judged.{Read, aConfiguration, someCycles, theEnd, noMore, Outcome, judged}
+use Rattle.trace.specs.Judged.{Read, aConfiguration, someCycles, theEnd, noMore, BlockOutcome, judged}
+use Rattle.trace.specs.Blocks.{partAt}
 use Rattle.rules.specs.declared.Verdict.{Verdict}
 use Rattle.rules.specs.declared.Verdict.the-variants.{Accepted, Refused}
 use Rattle.rules.specs.Step.{stepOf}
-use Rattle.standing.specs.declared.Night.{Night}
-use Rattle.router.specs.Running.{Writing, wrote, withPlace, onNight, endedBy, byVerdict, cycled, partAt, cyclesFrom, byOutcome, blockTaken}
+use Rattle.runs.specs.declared.Run.{Run}
+use Rattle.router.specs.Running.{Writing, wrote, withPlace, onRun, endedBy, byVerdict, cycled, cyclesFrom, byOutcome, blockTaken}
 use Rattle.router.specs.Inside.{Within, GoesOn}
 use Rattle.router.proofs.Going.{cycled-goes-on}
 
 -- a run that writes nowhere
-abbrev pub anywhere : Night → Writing
-anywhere n = record { night = n; at = 0; buffer = [] }
+abbrev pub anywhere : Run → Writing
+anywhere n = record { run = n; at = 0; buffer = [] }
 
 pub nowhere : Within 0 []
 nowhere = record { inside = omega arith; short = omega arith }
 
-cycled-night : (part : List ℕ) (w : Writing) → cycled part w .night ≡ cycled part (anywhere (w .night)) .night
+cycled-run : (part : List ℕ) (w : Writing) → cycled part w .run ≡ cycled part (anywhere (w .run)) .run
 unfolding cycled endedBy wrote
-cycled-night part w = go (stepOf (w .night .router) part .verdict)
+cycled-run part w = go (stepOf (w .run .router) part .verdict)
   where
-    go : (v : Verdict) → byVerdict v (stepOf (w .night .router) part) w .night ≡ byVerdict v (stepOf (w .night .router) part) (anywhere (w .night)) .night
+    go : (v : Verdict) → byVerdict v (stepOf (w .run .router) part) w .run
+        ≡ byVerdict v (stepOf (w .run .router) part) (anywhere (w .run)) .run
     go Accepted = refl
     go (Refused r) = refl
 
-cycles-night : (block : List ℕ) (n k : ℕ) (w : Writing) → cyclesFrom block k n w .night ≡ cyclesFrom block k n (anywhere (w .night)) .night
+cycles-run : (block : List ℕ) (n k : ℕ) (w : Writing) → cyclesFrom block k n w .run ≡ cyclesFrom block k n (anywhere (w .run)) .run
 unfolding cyclesFrom
-cycles-night block zero k w = refl
-cycles-night block (suc n) k w =
-    go (w .night .over)
-    (cycles-night block n (k + 1) (cycled part w) ∙ ap (λ (m : Night). cyclesFrom block (k + 1) n (anywhere m) .night) (cycled-night part w)
-    ∙ sym (cycles-night block n (k + 1) (cycled part (anywhere (w .night)))))
+cycles-run block zero k w = refl
+cycles-run block (suc n) k w =
+    go (w .run .over)
+    (cycles-run block n (k + 1) (cycled part w) ∙ ap (λ (m : Run). cyclesFrom block (k + 1) n (anywhere m) .run) (cycled-run part w)
+    ∙ sym (cycles-run block n (k + 1) (cycled part (anywhere (w .run)))))
   where
     part : List ℕ
     part = partAt block k
 
-    go : (o : Bool) → cyclesFrom block (k + 1) n (cycled (partAt block k) w) .night ≡ cyclesFrom block (k + 1) n (cycled (partAt block k) (anywhere (w .night))) .night
-        → cond o w (cyclesFrom block (k + 1) n (cycled (partAt block k) w)) .night
-        ≡ cond o (anywhere (w .night)) (cyclesFrom block (k + 1) n (cycled (partAt block k) (anywhere (w .night)))) .night
+    go : (o : Bool) → cyclesFrom block (k + 1) n (cycled (partAt block k) w) .run
+        ≡ cyclesFrom block (k + 1) n (cycled (partAt block k) (anywhere (w .run))) .run
+        → cond o w (cyclesFrom block (k + 1) n (cycled (partAt block k) w)) .run
+        ≡ cond o (anywhere (w .run)) (cyclesFrom block (k + 1) n (cycled (partAt block k) (anywhere (w .run)))) .run
     go true e = refl
     go false e = e
 
-pub block-night : (block : List ℕ) (w : Writing) → blockTaken block w .night ≡ blockTaken block (anywhere (w .night)) .night
+pub block-run : (block : List ℕ) (w : Writing) → blockTaken block w .run ≡ blockTaken block (anywhere (w .run)) .run
 unfolding blockTaken endedBy wrote
-block-night block w = go (judged (w .night .place) (w .night .router .cycle) block)
+block-run block w = go (judged (w .run .place) (w .run .router .cycle) block)
   where
-    go : (o : Outcome) → byOutcome (o .read) o block w .night ≡ byOutcome (o .read) o block (anywhere (w .night)) .night
+    go : (o : BlockOutcome) → byOutcome (o .read) o block w .run ≡ byOutcome (o .read) o block (anywhere (w .run)) .run
     go o = which (o .read)
       where
-        which : (r : Option Read) → byOutcome r o block w .night ≡ byOutcome r o block (anywhere (w .night)) .night
+        which : (r : Option Read) → byOutcome r o block w .run ≡ byOutcome r o block (anywhere (w .run)) .run
         which none = refl
         which (some (aConfiguration c)) = refl
-        which (some (someCycles n)) = cycles-night block n 0 (onNight (withPlace (o .place)) w)
+        which (some (someCycles n)) = cycles-run block n 0 (onRun (withPlace (o .place)) w)
         which (some theEnd) = refl
         which (some noMore) = refl
 
 -- a run that goes on, wherever it writes
-abbrev pub Goes : Night → Type 0
+abbrev pub Goes : Run → Type 0
 Goes n = GoesOn (anywhere n)
 
-pub goes-anywhere : (w : Writing) → GoesOn w → Goes (w .night)
+pub goes-anywhere : (w : Writing) → GoesOn w → Goes (w .run)
 goes-anywhere w g = record { sound = g .sound; few = g .few; room = nowhere }
 
-pub cycled-goes : (part : List ℕ) → AreBytes part → (w : Writing) → Goes (w .night) → Goes (cycled part w .night)
+pub cycled-goes : (part : List ℕ) → AreBytes part → (w : Writing) → Goes (w .run) → Goes (cycled part w .run)
 cycled-goes part bytes w g =
-    subst Goes (sym (cycled-night part w)) (goes-anywhere (cycled part (anywhere (w .night))) (cycled-goes-on part bytes (anywhere (w .night)) g))
+    subst Goes (sym (cycled-run part w)) (goes-anywhere (cycled part (anywhere (w .run)))
+    (cycled-goes-on part bytes (anywhere (w .run)) g))

@@ -13,9 +13,9 @@ use Rattle.trace.specs.Bytes.{AreBytes}
 use Rattle.trace.specs.Place.{goodPlace}
 use Rattle.listing.specs.Lines.{Line, text, printable}
 use Rattle.listing.proofs.Ports.{text-append}
-use Rattle.standing.specs.declared.Night.{Night}
-use Rattle.standing.specs.Night.{stoppedInside, placeRight, nightSound}
-use Rattle.router.specs.Running.{Writing, blockTaken, blockRoom, blocksIn, lacksBlockRoom, Call, goesOn, Outcome, answered, ranOf}
+use Rattle.runs.specs.declared.Run.{Run}
+use Rattle.runs.specs.Run.{stoppedInside, placeRight, runSound}
+use Rattle.router.specs.Running.{Writing, blockTaken, blockRoom, blocksIn, lacksBlockRoom, Call, goesOn, CallOutcome, answered, ranOf}
 use Rattle.router.proofs.RunLaws.{run-goes, configured-ongoing, unconfigured-none}
 use Rattle.night.specs.File.{Printed, fileFrom, cutInto, blocksOf}
 use Rattle.night.specs.Calls.{MayHand, whole, last, wroteIn}
@@ -26,10 +26,10 @@ use Rattle.night.proofs.Anywhere.{nowhere}
 use Rattle.night.proofs.BlockLines.{Ready, goes-ready, block-prints}
 use Rattle.night.proofs.PartLines.{block-room, file-end, one-prints, goes-print}
 
-module _ (n : Night) (sound : nightSound n ≡ true) (going : n .over ≡ false) where
+module _ (n : Run) (sound : runSound n ≡ true) (going : n .over ≡ false) where
   -- a run that is not over stands at a place that some file leads to
   pub good-place : goodPlace (n .place) (n .router .cycle) ≡ true
-  unfolding nightSound placeRight
+  unfolding runSound placeRight
   good-place = go (goodPlace (n .place) (n .router .cycle)) refl
     where
       go : (b : Bool) → goodPlace (n .place) (n .router .cycle) ≡ b → b ≡ true
@@ -39,26 +39,32 @@ module _ (n : Night) (sound : nightSound n ≡ true) (going : n .over ≡ false)
           ∙ ap₂ (λ (x o : Bool). x || (o && stoppedInside (n .place) (n .router .cycle))) g going))
 
   -- and can take a block
-  night-ready : Ready n
-  night-ready = go (n .place .configured) refl
+  run-ready : Ready n
+  run-ready = go (n .place .configured) refl
     where
       go : (b : Bool) → n .place .configured ≡ b → Ready n
       go true e = let g = configured-ongoing n [] [] 0 sound e nowhere going in goes-ready n (g .0) (g .1)
       go false e =
           let z = unconfigured-none n [] [] 0 sound e going in
-          record { early = omega (arith, z .0); few = omega (arith, z .1); sound = λ f. absurd (true≢false (sym f ∙ e)); unbegun = λ f. z .1 }
+          record {
+            early = omega (arith, z .0);
+            few = omega (arith, z .1);
+            sound = λ f. absurd (true≢false (sym f ∙ e));
+            unbegun = λ f. z .1;
+          }
 
 -- A call that is done, and that leaves the buffer before its place and behind what it wrote.
-pub record Keeps (buffer : List ℕ) (at : ℕ) (o : Outcome) : Type 0 where
+pub record Keeps (buffer : List ℕ) (at : ℕ) (o : CallOutcome) : Type 0 where
   pub number : o .ran .number ≡ numbers.done
   pub before : take at (o .buffer) ≡ take at buffer
   pub behind : drop (at + o .ran .written) (o .buffer) ≡ drop (at + o .ran .written) buffer
   pub long : length (o .buffer) ≡ length buffer
 
 -- one call
-module _ (n : Night) (buffer : List ℕ) (at : ℕ) (sound : nightSound n ≡ true) (going : n .over ≡ false) (room : lacksBlockRoom buffer at ≡ false) where
+module _ (n : Run) (buffer : List ℕ) (at : ℕ) (sound : runSound n ≡ true) (going : n .over ≡ false)
+    (room : lacksBlockRoom buffer at ≡ false) where
   abbrev pub handed : Writing
-  handed = record { night = n; at = at; buffer = buffer }
+  handed = record { run = n; at = at; buffer = buffer }
 
   abbrev pub begin : Call
   begin = record { used = 0; writing = handed }
@@ -70,10 +76,11 @@ module _ (n : Night) (buffer : List ℕ) (at : ℕ) (sound : nightSound n ≡ tr
   there = block-room buffer at room
 
   ready : Ready n
-  ready = night-ready n sound going
+  ready = run-ready n sound going
 
   abbrev Prints-on : List ℕ → Call → Type 0
-  Prints-on left d = Prints handed (d .writing) (leftIn n (fileFrom (blocksOf left))) (leftIn (d .writing .night) (fileFrom (blocksOf (drop (d .used) left))))
+  Prints-on left d = Prints handed (d .writing) (leftIn n (fileFrom (blocksOf left)))
+      (leftIn (d .writing .run) (fileFrom (blocksOf (drop (d .used) left))))
 
   -- the last, shorter piece is one block
   abbrev pub taken : List ℕ → Call
@@ -91,18 +98,22 @@ module _ (n : Night) (buffer : List ℕ) (at : ℕ) (sound : nightSound n ≡ tr
   unfolding cutInto
   last-prints [] bytes h =
       prints-as (block-prints [] bytes handed ready going there (fileFrom []))
-      (ap₂ (λ (b : Bool) (p : Printed). cond b [] (leftOf (n .flits) p)) going (file-end (n .place) (n .router) (good-place n sound going))) refl
-  last-prints (b ∷ l) bytes h = one-prints (b ∷ l) bytes handed ready going there 0 (omega arith) (b ∷ l) (sym (take-all 512 (b ∷ l) (omega arith)))
+      (ap₂ (λ (b : Bool) (p : Printed). cond b [] (leftOf (n .flits) p)) going
+      (file-end (n .place) (n .router) (good-place n sound going))) refl
+  last-prints (b ∷ l) bytes h = one-prints (b ∷ l) bytes handed ready going there 0 (omega arith) (b ∷ l)
+      (sym (take-all 512 (b ∷ l) (omega arith)))
 
   call-prints : (left part : List ℕ) → AreBytes left → MayHand left part → Prints-on left (ends part)
   call-prints left _ bytes (whole k a b) =
-      goes-print left bytes (k * 512) b (blocksIn (take (k * 512) left)) begin (omega (arith, whole-blocks k left a b)) (λ e. ready) (omega (arith, there))
+      goes-print left bytes (k * 512) b (blocksIn (take (k * 512) left)) begin (omega (arith, whole-blocks k left a b)) (λ e. ready)
+      (omega (arith, there))
   call-prints left _ bytes (last h) = subst (Prints-on left) (last-goes left h) (last-prints left bytes h)
 
   -- what a call writes, and what is left after it, is what was left before it
-  abbrev Writes : List ℕ → List ℕ → Outcome → Type 0
+  abbrev Writes : List ℕ → List ℕ → CallOutcome → Type 0
   Writes left more o =
-      more ≡ text (leftIn (o .ran .night) (fileFrom (blocksOf (drop (o .ran .used) left)))) → wroteIn at o ++ more ≡ text (leftIn n (fileFrom (blocksOf left)))
+      more ≡ text (leftIn (o .ran .run) (fileFrom (blocksOf (drop (o .ran .used) left)))) → wroteIn at o ++ more
+      ≡ text (leftIn n (fileFrom (blocksOf left)))
 
   pub call-writes : (left part more : List ℕ) → AreBytes left → MayHand left part → Writes left more (ranOf n part buffer at)
   call-writes left part more bytes hand =
@@ -111,9 +122,10 @@ module _ (n : Night) (buffer : List ℕ) (at : ℕ) (sound : nightSound n ≡ tr
       (λ e. ap₂ _++_ (adds-there (p .adds)) e ∙ sym (text-append (p .lines) _) ∙ ap text (sym (p .same)))
 
   -- and in range, where what is left after it is
-  abbrev Fine : List ℕ → Outcome → Type 0
+  abbrev Fine : List ℕ → CallOutcome → Type 0
   Fine left o =
-      printable (leftIn (o .ran .night) (fileFrom (blocksOf (drop (o .ran .used) left)))) ≡ true → printable (leftIn n (fileFrom (blocksOf left))) ≡ true
+      printable (leftIn (o .ran .run) (fileFrom (blocksOf (drop (o .ran .used) left)))) ≡ true
+      → printable (leftIn n (fileFrom (blocksOf left))) ≡ true
 
   pub call-fine : (left part : List ℕ) → AreBytes left → MayHand left part → Fine left (ranOf n part buffer at)
   call-fine left part bytes hand =

@@ -9,13 +9,13 @@ use lib.ListN.{length}
 use Rattle.base.specs.Numbers.{room}
 use Rattle.state.specs.declared.Router.{Router}
 use Rattle.trace.specs.Bytes.{AreBytes}
-use Rattle.trace.specs.Blocks.{cycleLength, cycleStart}
+use Rattle.trace.specs.Blocks.{cycleLength, cycleStart, partAt}
 use Rattle.listing.specs.Lines.{Line, refusal, printable, text, cycleLines, flitLines}
 use Rattle.rules.specs.declared.Verdict.{Verdict}
 use Rattle.rules.specs.declared.Verdict.the-variants.{Accepted, Refused}
 use Rattle.rules.specs.declared.Stepped.{Stepped}
 use Rattle.rules.specs.Step.{stepOf}
-use Rattle.router.specs.Running.{Writing, wrote, withRouter, withFlits, finished, endedBy, byVerdict, cycled, partAt, cyclesFrom}
+use Rattle.router.specs.Running.{Writing, wrote, withRouter, withFlits, finished, endedBy, byVerdict, cycled, cyclesFrom}
 use Rattle.state.proofs.Legal.{sound-cycle}
 use Rattle.router.proofs.Going.{cycled-place, piece-bytes}
 use Rattle.router.proofs.Writes.{Fitting, refusal-fits}
@@ -36,16 +36,16 @@ short-enough a s = omega (arith, a .ahead, s)
 
 -- the last line of a run: then nothing is left
 pub ended-prints : (line : Line) (w : Writing) (rest : Router → Printed) → printable (line ∷ []) ≡ true → Fitting (line ∷ [])
-    → w .at + room ≤ length (w .buffer) → Printing w (endedBy line w) (line ∷ []) (leftFrom (endedBy line w .night) rest)
+    → w .at + room ≤ length (w .buffer) → Printing w (endedBy line w) (line ∷ []) (leftFrom (endedBy line w .run) rest)
 unfolding endedBy wrote
 ended-prints line w rest fine fit there =
     let a = wrote-adds w finished (line ∷ []) fine (fit fine) there in
     record { prints = record { lines = line ∷ []; adds = a; fine = fine; same = refl }; short = short-enough a (fit fine) }
 
-module _ (part : List ℕ) (bytes : AreBytes part) (w : Writing) (g : Goes (w .night)) (going : w .night .over ≡ false)
+module _ (part : List ℕ) (bytes : AreBytes part) (w : Writing) (g : Goes (w .run)) (going : w .run .over ≡ false)
     (there : w .at + room ≤ length (w .buffer)) (rest : Router → Printed) where
   abbrev s : Router
-  s = w .night .router
+  s = w .run .router
 
   abbrev x : Stepped
   x = stepOf s part
@@ -54,7 +54,7 @@ module _ (part : List ℕ) (bytes : AreBytes part) (w : Writing) (g : Goes (w .n
   lines = cycleLines (s .cycle) (x .reply)
 
   abbrev Step : Verdict → Type 0
-  Step v = Printing w (byVerdict v x w) (leftOf (w .night .flits) (cycleThen v x s rest)) (leftFrom (byVerdict v x w .night) rest)
+  Step v = Printing w (byVerdict v x w) (leftOf (w .run .flits) (cycleThen v x s rest)) (leftFrom (byVerdict v x w .run) rest)
 
   step : (v : Verdict) → x .verdict ≡ v → Step v
   unfolding wrote endedBy
@@ -68,8 +68,8 @@ module _ (part : List ℕ) (bytes : AreBytes part) (w : Writing) (g : Goes (w .n
           adds = a;
           fine = reply-printable s part bytes e;
           same =
-              left-after (w .night .flits) lines (rest (x .router))
-              ∙ ap (λ (b : Bool). lines ++ cond b [] (leftOf (w .night .flits + flitLines lines) (rest (x .router)))) (sym going);
+              left-after (w .run .flits) lines (rest (x .router))
+              ∙ ap (λ (b : Bool). lines ++ cond b [] (leftOf (w .run .flits + flitLines lines) (rest (x .router)))) (sym going);
         };
         short = short-enough a fits;
       }
@@ -78,42 +78,46 @@ module _ (part : List ℕ) (bytes : AreBytes part) (w : Writing) (g : Goes (w .n
       let fine = refusal-prints (r .number) (s .cycle) (r .port) (refusal-named s part (g .sound) r e) (sound-cycle (g .sound)) in
       ended-prints line w rest fine (refusal-fits (r .number) (s .cycle) (r .port)) there
 
-  pub cycle-prints : Printing w (cycled part w) (leftOf (w .night .flits) (cycleThen (x .verdict) x s rest)) (leftFrom (cycled part w .night) rest)
+  pub cycle-prints : Printing w (cycled part w) (leftOf (w .run .flits) (cycleThen (x .verdict) x s rest))
+      (leftFrom (cycled part w .run) rest)
   unfolding cycled
   cycle-prints = step (x .verdict) refl
 
 -- the cycles of a block, one after another
-pub cycles-print : (block : List ℕ) → AreBytes block → (rest : Router → Printed) (n k : ℕ) (w : Writing) → Goes (w .night)
+pub cycles-print : (block : List ℕ) → AreBytes block → (rest : Router → Printed) (n k : ℕ) (w : Writing) → Goes (w .run)
     → w .at + room * n ≤ length (w .buffer)
-    → Prints w (cyclesFrom block k n w) (leftFrom (w .night) (cyclesThen rest block k n)) (leftFrom (cyclesFrom block k n w .night) rest)
+    → Prints w (cyclesFrom block k n w) (leftFrom (w .run) (cyclesThen rest block k n)) (leftFrom (cyclesFrom block k n w .run) rest)
 unfolding cyclesFrom cyclesThen
 cycles-print block bytes rest zero k w g there = prints-none w w _ _ refl refl (omega arith) refl
-cycles-print block bytes rest (suc n) k w g there = go (w .night .over) refl (λ v h r. cycles-print block bytes rest n (k + 1) v h r)
+cycles-print block bytes rest (suc n) k w g there = go (w .run .over) refl (λ v h r. cycles-print block bytes rest n (k + 1) v h r)
   where
     piece : AreBytes (partAt block k)
     piece = piece-bytes cycleLength (cycleStart k) block bytes
 
-    go : (o : Bool) → w .night .over ≡ o
-        → ((u : Writing) → Goes (u .night) → u .at + room * n ≤ length (u .buffer)
-        → Prints u (cyclesFrom block (k + 1) n u) (leftFrom (u .night) (cyclesThen rest block (k + 1) n)) (leftFrom (cyclesFrom block (k + 1) n u .night) rest))
+    go : (o : Bool) → w .run .over ≡ o
+        → ((u : Writing) → Goes (u .run) → u .at + room * n ≤ length (u .buffer)
+        → Prints u (cyclesFrom block (k + 1) n u) (leftFrom (u .run) (cyclesThen rest block (k + 1) n))
+        (leftFrom (cyclesFrom block (k + 1) n u .run) rest))
         → Prints w (cond o w (cyclesFrom block (k + 1) n (cycled (partAt block k) w)))
-        (cond o [] (leftOf (w .night .flits) (cyclesThen rest block k (suc n) (w .night .router))))
-        (leftFrom (cond o w (cyclesFrom block (k + 1) n (cycled (partAt block k) w)) .night) rest)
+        (cond o [] (leftOf (w .run .flits) (cyclesThen rest block k (suc n) (w .run .router))))
+        (leftFrom (cond o w (cyclesFrom block (k + 1) n (cycled (partAt block k) w)) .run) rest)
     go true e more =
-        prints-none w w [] (leftFrom (w .night) rest) refl refl (omega arith)
-        (ap (λ (b : Bool). cond b [] (leftOf (w .night .flits) (rest (w .night .router)))) (sym e))
+        prints-none w w [] (leftFrom (w .run) rest) refl refl (omega arith)
+        (ap (λ (b : Bool). cond b [] (leftOf (w .run .flits) (rest (w .run .router)))) (sym e))
     go false e more =
         let c = cycle-prints (partAt block k) piece w g e (omega (arith, there)) (cyclesThen rest block (k + 1) n) in
         let l = prints-length (c .prints) in
-        prints-both (c .prints) (more (cycled (partAt block k) w) (cycled-goes (partAt block k) piece w g) (omega (arith, there, l, c .short)))
+        prints-both (c .prints) (more (cycled (partAt block k) w) (cycled-goes (partAt block k) piece w g)
+        (omega (arith, there, l, c .short)))
 
 -- the cycles of a block leave the place in the file
-pub cycles-place : (block : List ℕ) (n k : ℕ) (w : Writing) → cyclesFrom block k n w .night .place ≡ w .night .place
+pub cycles-place : (block : List ℕ) (n k : ℕ) (w : Writing) → cyclesFrom block k n w .run .place ≡ w .run .place
 unfolding cyclesFrom
 cycles-place block zero k w = refl
-cycles-place block (suc n) k w = go (w .night .over) (cycles-place block n (k + 1) (cycled (partAt block k) w) ∙ cycled-place (partAt block k) w)
+cycles-place block (suc n) k w = go (w .run .over) (cycles-place block n (k + 1) (cycled (partAt block k) w)
+    ∙ cycled-place (partAt block k) w)
   where
-    go : (o : Bool) → cyclesFrom block (k + 1) n (cycled (partAt block k) w) .night .place ≡ w .night .place
-        → cond o w (cyclesFrom block (k + 1) n (cycled (partAt block k) w)) .night .place ≡ w .night .place
+    go : (o : Bool) → cyclesFrom block (k + 1) n (cycled (partAt block k) w) .run .place ≡ w .run .place
+        → cond o w (cyclesFrom block (k + 1) n (cycled (partAt block k) w)) .run .place ≡ w .run .place
     go true e = refl
     go false e = e

@@ -9,13 +9,14 @@ use native.Mathlib.Omega.{arith}
 use lib.Dec.{eqb}
 use lib.ListN.{length, take, drop}
 use Rattle.base.specs.declared.config.Config.{Config}
+use Rattle.base.specs.Sizes.{noConfig}
 use Rattle.state.specs.declared.Router.{Router}
-use Rattle.state.specs.Fresh.{noConfig, freshRouter}
+use Rattle.state.specs.Fresh.{freshRouter}
 use Rattle.trace.specs.declared.place.Place.{Place}
-use Rattle.trace.specs.Blocks.{kindOf, heldOf, configOf, cycleLength, cycleStart}
+use Rattle.trace.specs.Blocks.{kindOf, heldOf, configOf, cycleLength, cycleStart, partAt}
 use Rattle.trace.specs.Bytes.{AreBytes}
 use Rattle.trace.specs.Place.{start}
-use Rattle.trace.specs.Judged.{Outcome, nextPlace, judged}
+use Rattle.trace.specs.Judged.{BlockOutcome, nextPlace, judged}
 use Rattle.trace.proofs.Found.{FoundAs, refuses, configures, holds, ends, is-over, found-as}
 use Rattle.listing.specs.Lines.{Line, finish, cycleLines, flitLines}
 use Rattle.model.specs.Lists.{All}
@@ -28,7 +29,8 @@ use Rattle.history.specs.Run.{Ran, recorded, runFrom, runOf}
 use Rattle.history.proofs.Listed.{run-departed, run-counted}
 use Rattle.router.proofs.Going.{piece-bytes}
 use Rattle.night.specs.File as file
-use Rattle.night.specs.File.{finishes, Printed, cycleThen, partOf, cyclesThen, blockThen, fileFrom, cutInto, blocksOf, lastLine, printedOf}
+use Rattle.night.specs.File.{finishes, Printed, cycleThen, cyclesThen, blockThen, fileFrom, cutInto, blocksOf, lastLine}
+use Rattle.night.specs.File.{printedOf}
 use Rattle.night.specs.Accepted.{counted, acceptedIn, acceptedBy, acceptedFrom, acceptedOf}
 use Rattle.night.specs.Histories.{partsFrom, partsIn, partsOf, configurationOf, acceptedParts, historyOf}
 use Rattle.night.proofs.Cuts.{drop-bytes}
@@ -65,38 +67,44 @@ module _ (c : Config) where
     unfolding cyclesThen acceptedIn partsFrom
     cycles-join rest later more same zero k r = same r
     cycles-join rest later more same (suc n) k r =
-        go (stepOf (r .router) (partOf block k) .verdict) refl (λ q. cycles-join rest later more same n (k + 1) q)
+        go (stepOf (r .router) (partAt block k) .verdict) refl (λ q. cycles-join rest later more same n (k + 1) q)
       where
-        go : (v : Verdict) → stepOf (r .router) (partOf block k) .verdict ≡ v
-            → ((q : Ran) → Joins c q (take (acceptedIn later block (k + 1) n (q .router)) (partsFrom block (k + 1) n ++ more)) (cyclesThen rest block (k + 1) n (q .router)))
-            → Joins c r (take (counted v (acceptedIn later block (k + 1) n (stepOf (r .router) (partOf block k) .router))) (partOf block k ∷ (partsFrom block (k + 1) n ++ more)))
-            (cycleThen v (stepOf (r .router) (partOf block k)) (r .router) (cyclesThen rest block (k + 1) n))
+        go : (v : Verdict) → stepOf (r .router) (partAt block k) .verdict ≡ v
+            → ((q : Ran) → Joins c q (take (acceptedIn later block (k + 1) n (q .router)) (partsFrom block (k + 1) n ++ more))
+            (cyclesThen rest block (k + 1) n (q .router)))
+            → Joins c r (take (counted v (acceptedIn later block (k + 1) n (stepOf (r .router) (partAt block k) .router)))
+            (partAt block k ∷ (partsFrom block (k + 1) n ++ more)))
+            (cycleThen v (stepOf (r .router) (partAt block k)) (r .router) (cyclesThen rest block (k + 1) n))
         go Accepted e after =
-            let part = partOf block k in
+            let part = partAt block k in
             let x = stepOf (r .router) part in
             let m = acceptedIn later block (k + 1) n (x .router) in
             let one : suc m ≡ 1 + m = omega arith in
             let rest-of = cyclesThen rest block (k + 1) n in
-            subst (λ (j : ℕ). Joins c r (take j (part ∷ (partsFrom block (k + 1) n ++ more))) (cycleThen Accepted x (r .router) rest-of)) one
+            subst (λ (j : ℕ). Joins c r (take j (part ∷ (partsFrom block (k + 1) n ++ more)))
+            (cycleThen Accepted x (r .router) rest-of)) one
             (goes-on r part (take m (partsFrom block (k + 1) n ++ more)) rest-of e (after (recorded c part r Accepted x)))
         go (Refused f) e after = stops r _
 
     -- a block after the configuration block, and then the rest
     block-joins : (rest : Place → Router → Printed) (later : Place → Router → ℕ) (more : List (List ℕ))
         → ((p : Place) (r : Ran) → p .configured ≡ true → Joins c r (take (later p (r .router)) more) (rest p (r .router)))
-        → (p : Place) (r : Ran) → p .configured ≡ true → (o : Outcome) → FoundAs p (r .router .cycle) block o
-        → Joins c r (take (acceptedBy (o .read) o block (r .router) later) (partsIn block ++ more)) (blockThen (o .read) o block (r .router) rest)
+        → (p : Place) (r : Ran) → p .configured ≡ true → (o : BlockOutcome) → FoundAs p (r .router .cycle) block o
+        → Joins c r (take (acceptedBy (o .read) o block (r .router) later) (partsIn block ++ more))
+        (blockThen (o .read) o block (r .router) rest)
     unfolding partsIn
     block-joins rest later more same p r y _ (refuses n k) = stops r _
     block-joins rest later more same p r y _ (configures a b kind) = absurd (true≢false (sym y ∙ a))
     block-joins rest later more same p r y _ (holds a l h kind) =
         let q = nextPlace p block in
-        subst (λ (b : Bool). Joins c r (take (acceptedIn (later q) block 0 (heldOf block) (r .router)) (cond b (partsFrom block 0 (heldOf block)) [] ++ more))
+        subst (λ (b : Bool). Joins c r (take (acceptedIn (later q) block 0 (heldOf block) (r .router))
+        (cond b (partsFrom block 0 (heldOf block)) [] ++ more))
         (cyclesThen (rest q) block 0 (heldOf block) (r .router))) (sym kind)
         (cycles-join (rest q) (later q) more (λ t. same q t refl) (heldOf block) 0 r)
     block-joins rest later more same p r y _ (ends a kind) =
         let q = nextPlace p block in
-        subst (λ (b : Bool). Joins c r (take (later q (r .router)) (cond b (partsFrom block 0 (heldOf block)) [] ++ more)) (rest q (r .router))) (sym kind)
+        subst (λ (b : Bool). Joins c r (take (later q (r .router)) (cond b (partsFrom block 0 (heldOf block)) [] ++ more))
+        (rest q (r .router))) (sym kind)
         (same q r refl)
     block-joins rest later more same p r y _ (is-over a) = stops r _
 
@@ -105,7 +113,8 @@ module _ (c : Config) where
   unfolding fileFrom acceptedFrom partsOf
   file-joins [] p r y = stops r _
   file-joins (block ∷ blocks) p r y =
-      block-joins block (fileFrom blocks) (acceptedFrom blocks) (partsOf blocks) (file-joins blocks) p r y (judged p (r .router .cycle) block)
+      block-joins block (fileFrom blocks) (acceptedFrom blocks) (partsOf blocks) (file-joins blocks) p r y
+      (judged p (r .router .cycle) block)
       (found-as p (r .router .cycle) block)
 
 -- a fresh router before its first cycle
@@ -113,8 +122,9 @@ abbrev fresh : Config → Ran
 fresh c = record { router = freshRouter c; history = [] }
 
 -- the first block of a file, and then the rest
-first-joins : (block : List ℕ) (blocks : List (List ℕ)) (o : Outcome) → FoundAs start 0 block o
-    → Joins (configOf block) (fresh (configOf block)) (take (acceptedBy (o .read) o block (freshRouter noConfig) (acceptedFrom blocks)) (partsIn block ++ partsOf blocks))
+first-joins : (block : List ℕ) (blocks : List (List ℕ)) (o : BlockOutcome) → FoundAs start 0 block o
+    → Joins (configOf block) (fresh (configOf block)) (take (acceptedBy (o .read) o block (freshRouter noConfig) (acceptedFrom blocks))
+    (partsIn block ++ partsOf blocks))
     (blockThen (o .read) o block (freshRouter noConfig) (fileFrom blocks))
 unfolding partsIn freshRouter linesFrom runFrom
 first-joins block blocks _ (refuses n k) = record { lines = refl; cycles = refl }
@@ -159,7 +169,8 @@ unfolding cutInto partsOf
 file-bytes zero l bytes = tt
 file-bytes (suc n) [] bytes = tt
 file-bytes (suc n) (b ∷ l) bytes =
-    all-append AreBytes (partsIn (take 512 (b ∷ l))) (partsOf (cutInto n (drop 512 (b ∷ l)))) (block-bytes (take 512 (b ∷ l)) (piece-bytes 512 0 (b ∷ l) bytes))
+    all-append AreBytes (partsIn (take 512 (b ∷ l))) (partsOf (cutInto n (drop 512 (b ∷ l))))
+    (block-bytes (take 512 (b ∷ l)) (piece-bytes 512 0 (b ∷ l) bytes))
     (file-bytes n (drop 512 (b ∷ l)) (drop-bytes 512 (b ∷ l) bytes))
 
 accepted-bytes : (bytes : List ℕ) → AreBytes bytes → All AreBytes (acceptedParts bytes)

@@ -11,11 +11,11 @@ use lib.Dec.{eqb, leb}
 use lib.ListN.{length}
 use borrow.Author.Tests.{le-leb, leb-true, eqb-true, ne-eqb}
 use Rattle.base.specs.Numbers as numbers
-use Rattle.base.specs.Sizes.{cycleLimit}
+use Rattle.base.specs.Sizes.{cycleLimit, noConfig}
 use Rattle.base.proofs.Configurations.{legal-exact}
 use Rattle.base.proofs.Search.{both}
 use Rattle.state.specs.Blank.{blank}
-use Rattle.state.specs.Fresh.{noConfig, freshRouter}
+use Rattle.state.specs.Fresh.{freshRouter}
 use Rattle.state.specs.Sound.{sound}
 use Rattle.state.proofs.Blank.{blank-exactly}
 use Rattle.state.proofs.Exact.{sound-passes, passed-sound}
@@ -24,38 +24,41 @@ use Rattle.trace.specs.Bytes.{AreBytes}
 use Rattle.trace.specs.declared.place.Place.{Place}
 use Rattle.trace.specs.Blocks.{kindOf, heldOf, configOf, blockLength}
 use Rattle.trace.specs.Place.{goodPlace}
-use Rattle.trace.specs.Judged.{Read, aConfiguration, someCycles, theEnd, noMore, Outcome, accepted, nextPlace, readOf, taken, judged}
+use Rattle.trace.specs.Judged.{Read, aConfiguration, someCycles, theEnd, noMore, BlockOutcome, accepted, nextPlace, readOf, taken, judged}
 use Rattle.trace.specs.Way.{cyclesIn}
 use Rattle.trace.proofs.Exactness.{accepted-taken}
 use Rattle.trace.proofs.Found.{FoundAs, refuses, configures, holds, ends, is-over, found-as}
 use Rattle.trace.proofs.Places.{Good, nothing, after, good-is}
 use Rattle.trace.proofs.Ways.{accepted-leads-on}
-use Rattle.standing.specs.declared.Night.{Night}
-use Rattle.standing.specs.Night.{started, before, within, stoppedInside, placeRight, nightSound}
-use Rattle.router.specs.Running.{Writing, wrote, onNight, withPlace, withRouter, finished, endedBy, cyclesFrom, byOutcome, blockTaken, blocksIn, blockAt, lacksBlockRoom, Call, goesOn, refusedWith, answered, ranOf}
+use Rattle.runs.specs.declared.Run.{Run}
+use Rattle.runs.specs.Run.{started, before, within, stoppedInside, placeRight, runSound}
+use Rattle.router.specs.Running.{Writing, wrote, onRun, withPlace, withRouter, finished, endedBy, cyclesFrom, byOutcome, blockTaken}
+use Rattle.router.specs.Running.{blocksIn, blockAt, lacksBlockRoom, Call, goesOn, refusedWith, answered, ranOf}
 use Rattle.state.proofs.Legal.{sound-cycle}
 use Rattle.router.proofs.Going.{piece-bytes}
 use Rattle.night.proofs.Standing.{Stands, Ran, through, stopped, cycles-ran}
 
 -- before the first block of a file
-pub started-sound : nightSound started ≡ true
-unfolding nightSound started placeRight goodPlace freshRouter
+pub started-sound : runSound started ≡ true
+unfolding runSound started placeRight goodPlace freshRouter
 started-sound = ap₂ _&&_ (blank-exactly (freshRouter noConfig) .1 refl) refl
 
 -- the clauses behind the place, after the configuration block and before it
-abbrev behind : Bool → Night → Bool
-behind configured n = cond configured (sound (n .router) && leb (n .flits) (n .router .config .ports * n .router .cycle)) (blank (n .router) && eqb (n .flits) 0)
+abbrev behind : Bool → Run → Bool
+behind configured n = cond configured (sound (n .router) && leb (n .flits) (n .router .config .ports * n .router .cycle))
+    (blank (n .router) && eqb (n .flits) 0)
 
-record Led (n : Night) : Type 0 where
+record Led (n : Run) : Type 0 where
   right : placeRight (n .place) (n .router .cycle) (n .over) ≡ true
   rest : behind (n .place .configured) n ≡ true
 
-led-is : (n : Night) → nightSound n ≡ true → Led n
-unfolding nightSound
-led-is n e = let b = both (placeRight (n .place) (n .router .cycle) (n .over)) (behind (n .place .configured) n) e in record { right = b .0; rest = b .1 }
+led-is : (n : Run) → runSound n ≡ true → Led n
+unfolding runSound
+led-is n e = let b = both (placeRight (n .place) (n .router .cycle) (n .over)) (behind (n .place .configured) n) e in
+    record { right = b .0; rest = b .1 }
 
-led-holds : (n : Night) → Led n → nightSound n ≡ true
-unfolding nightSound
+led-holds : (n : Run) → Led n → runSound n ≡ true
+unfolding runSound
 led-holds n l = ap₂ _&&_ (l .right) (l .rest)
 
 -- a good place is right, whether the run is over or not; of a run that goes on no other is
@@ -77,7 +80,7 @@ or-else true e = refl
 or-else false e = e
 
 -- before the configuration block one run goes on: the one that a file starts with
-pub unconfigured-started : (n : Night) → nightSound n ≡ true → n .place .configured ≡ false → n .over ≡ false → n ≡ started
+pub unconfigured-started : (n : Run) → runSound n ≡ true → n .place .configured ≡ false → n .over ≡ false → n ≡ started
 unfolding started
 unconfigured-started n e k o = go (good-is (n .place) (n .router .cycle) (right-good (n .place) (n .router .cycle) (n .over) o (l .right)))
   where
@@ -108,7 +111,7 @@ within-found q c g (suc n) (suc j) l =
     or-else (goodPlace q (c + suc j)) (ap₂ _&&_ (le-leb 1 (c + suc j) one) (ap (within n q) less ∙ within-found q c g n j (omega arith)))
 
 -- after it the test says where the run stands, and no more
-stands-led : (q : Place) (c : ℕ) (n : Night) → Stands q c n → q .configured ≡ true → placeRight q c (n .over) ≡ true → Led n
+stands-led : (q : Place) (c : ℕ) (n : Run) → Stands q c n → q .configured ≡ true → placeRight q c (n .over) ≡ true → Led n
 stands-led q c n s k r =
     record {
       right = ap₂ (λ (p : Place) (m : ℕ). placeRight p m (n .over)) (s .place) (s .cycle) ∙ r;
@@ -117,11 +120,16 @@ stands-led q c n s k r =
           ∙ ap₂ _&&_ (sound-passes (n .router) (s .sound)) (le-leb (n .flits) (n .router .config .ports * n .router .cycle) (s .few));
     }
 
-led-stands : (n : Night) → Led n → n .place .configured ≡ true → Stands (n .place) (n .router .cycle) n
+led-stands : (n : Run) → Led n → n .place .configured ≡ true → Stands (n .place) (n .router .cycle) n
 led-stands n l k =
     let b = both (sound (n .router)) (leb (n .flits) (n .router .config .ports * n .router .cycle))
     (ap (λ (b : Bool). behind b n) (sym k) ∙ l .rest) in
-    record { place = refl; sound = passed-sound (n .router) (b .0); few = leb-true (n .flits) (n .router .config .ports * n .router .cycle) (b .1); cycle = refl }
+    record {
+      place = refl;
+      sound = passed-sound (n .router) (b .0);
+      few = leb-true (n .flits) (n .router .config .ports * n .router .cycle) (b .1);
+      cycle = refl;
+    }
 
 abbrev holdsCycles : Option Read → Bool
 holdsCycles none = false
@@ -137,7 +145,8 @@ module _ (p : Place) (l : List ℕ) where
   cycles-kind e = go (p .ended) refl (eqb (kindOf l) 1) (eqb (kindOf l) 2) refl e
     where
       go : (b : Bool) → p .ended ≡ b → (x y : Bool) → eqb (kindOf l) 2 ≡ y
-          → holdsCycles (cond b (accepted noMore p) (accepted (cond x (aConfiguration (configOf l)) (cond y (someCycles (heldOf l)) theEnd)) (nextPlace p l)) .read) ≡ true
+          → holdsCycles (cond b (accepted noMore p) (accepted
+          (cond x (aConfiguration (configOf l)) (cond y (someCycles (heldOf l)) theEnd)) (nextPlace p l)) .read) ≡ true
           → (p .ended ≡ false) × (kindOf l ≡ 2)
       go true f x y g e = absurd (true≢false (sym e))
       go false f true y g e = absurd (true≢false (sym e))
@@ -163,15 +172,15 @@ module _ (p : Place) (l : List ℕ) where
         (ap₂ _&&_ (ap not goes-on) (ap (λ (q : Place). within 7 q (c + j)) before-next ∙ within-found p c g 7 j (omega arith))))
 
 -- a block of a run that is not over
-module _ (block : List ℕ) (bytes : AreBytes block) (w : Writing) (o : w .night .over ≡ false) (led : Led (w .night)) where
-  abbrev n : Night
-  n = w .night
+module _ (block : List ℕ) (bytes : AreBytes block) (w : Writing) (o : w .run .over ≡ false) (led : Led (w .run)) where
+  abbrev n : Run
+  n = w .run
 
   abbrev p : Place
-  p = w .night .place
+  p = w .run .place
 
   abbrev c : ℕ
-  c = w .night .router .cycle
+  c = w .run .router .cycle
 
   good : goodPlace p c ≡ true
   good = right-good p c (n .over) o (led .right)
@@ -180,14 +189,19 @@ module _ (block : List ℕ) (bytes : AreBytes block) (w : Writing) (o : w .night
   finished-led = record { right = good-right p c true good; rest = led .rest }
 
   -- the place after an accepted block, with the cycles that it holds added
-  leads : (r : Outcome) → judged p c block ≡ r → r .number ≡ numbers.done → c + cyclesIn (r .read) ≤ cycleLimit → goodPlace (r .place) (c + cyclesIn (r .read)) ≡ true
+  leads : (r : BlockOutcome) → judged p c block ≡ r → r .number ≡ numbers.done → c + cyclesIn (r .read) ≤ cycleLimit
+      → goodPlace (r .place) (c + cyclesIn (r .read)) ≡ true
   leads r e d =
-      subst (λ (r : Outcome). c + cyclesIn (r .read) ≤ cycleLimit → goodPlace (r .place) (c + cyclesIn (r .read)) ≡ true) e
-      (accepted-leads-on p c block good (ap (λ (r : Outcome). r .number) e ∙ d))
+      subst (λ (r : BlockOutcome). c + cyclesIn (r .read) ≤ cycleLimit → goodPlace (r .place) (c + cyclesIn (r .read)) ≡ true) e
+      (accepted-leads-on p c block good (ap (λ (r : BlockOutcome). r .number) e ∙ d))
 
   -- before the configuration block
   none-yet : p .configured ≡ false → (c ≡ 0) × (n .flits ≡ 0)
-  none-yet k = (go (good-is p c good), eqb-true (n .flits) 0 (both (blank (n .router)) (eqb (n .flits) 0) (ap (λ (b : Bool). behind b n) (sym k) ∙ led .rest) .1))
+  none-yet k = (
+    go (good-is p c good),
+    eqb-true (n .flits) 0 (both (blank (n .router)) (eqb (n .flits) 0)
+        (ap (λ (b : Bool). behind b n) (sym k) ∙ led .rest) .1),
+  )
     where
       go : Good p c → c ≡ 0
       go (nothing a b d z) = z
@@ -198,26 +212,26 @@ module _ (block : List ℕ) (bytes : AreBytes block) (w : Writing) (o : w .night
 
   -- a block with cycles, whether all were accepted or one was refused
   module _ (h : ℕ) (k : p .configured ≡ true) (e : judged p c block ≡ accepted (someCycles h) q) where
-    ran-led : (m : Night) → Ran q c h m → Led m
+    ran-led : (m : Run) → Ran q c h m → Led m
     ran-led m (through f s) =
         let y = sound-cycle (s .sound) in
         let x = s .cycle in
         stands-led q (c + h) m s refl (good-right q (c + h) (m .over) (leads (accepted (someCycles h) q) e refl (omega (arith, x, y))))
     ran-led m (stopped j l f s) =
-        let is = ap (λ (r : Outcome). r .number) e in
-        let kind = cycles-kind p block (ap (λ (r : Outcome). holdsCycles (r .read)) (sym (accepted-taken p c block is) ∙ e)) in
+        let is = ap (λ (r : BlockOutcome). r .number) e in
+        let kind = cycles-kind p block (ap (λ (r : BlockOutcome). holdsCycles (r .read)) (sym (accepted-taken p c block is) ∙ e)) in
         stands-led q (c + j) m s refl
         (ap (λ (b : Bool). placeRight q (c + j) b) f ∙ stopped-right p block k (kind .0) (kind .1) c j good l)
 
-    held-led : h ≤ 7 → Led (cyclesFrom block 0 h (onNight (withPlace q) w) .night)
+    held-led : h ≤ 7 → Led (cyclesFrom block 0 h (onRun (withPlace q) w) .run)
     held-led most =
         let s = led-stands n led k in
-        ran-led (cyclesFrom block 0 h (onNight (withPlace q) w) .night)
-        (subst (λ (m : ℕ). Ran q c m (cyclesFrom block 0 h (onNight (withPlace q) w) .night)) (zero-add h)
-        (cycles-ran block bytes q c h 0 (onNight (withPlace q) w) (omega arith) o
+        ran-led (cyclesFrom block 0 h (onRun (withPlace q) w) .run)
+        (subst (λ (m : ℕ). Ran q c m (cyclesFrom block 0 h (onRun (withPlace q) w) .run)) (zero-add h)
+        (cycles-ran block bytes q c h 0 (onRun (withPlace q) w) (omega arith) o
         (record { place = refl; sound = s .sound; few = s .few; cycle = sym (add-zero c) })))
 
-  found-led : (r : Outcome) → judged p c block ≡ r → FoundAs p c block r → Led (byOutcome (r .read) r block w .night)
+  found-led : (r : BlockOutcome) → judged p c block ≡ r → FoundAs p c block r → Led (byOutcome (r .read) r block w .run)
   unfolding endedBy wrote freshRouter
   found-led _ e (refuses m k) = finished-led
   found-led _ e (configures a b _) =
@@ -225,7 +239,13 @@ module _ (block : List ℕ) (bytes : AreBytes block) (w : Writing) (o : w .night
       let limit : c + 0 ≤ cycleLimit = let y = z .0 in omega (arith, y) in
       let same : c + 0 ≡ 0 = let y = z .0 in omega (arith, y) in
       stands-led q 0 (withRouter (freshRouter (configOf block)) (withPlace q n))
-      (record { place = refl; sound = fresh-is-sound (configOf block) (legal-exact (configOf block) .0 b); few = let y = z .1 in omega (arith, y); cycle = refl }) refl
+      (record {
+        place = refl;
+        sound = fresh-is-sound (configOf block) (legal-exact (configOf block) .0 b);
+        few = let y = z .1 in
+            omega (arith, y);
+        cycle = refl;
+      }) refl
       (good-right q 0 (n .over) (ap (goodPlace q) (sym same) ∙ leads (accepted (aConfiguration (configOf block)) q) e refl limit))
   found-led _ e (holds a l h _) = held-led (heldOf block) a e h
   found-led _ e (ends a _) =
@@ -236,36 +256,38 @@ module _ (block : List ℕ) (bytes : AreBytes block) (w : Writing) (o : w .night
       (good-right q (c + 0) (n .over) (leads (accepted theEnd q) e refl limit))
   found-led _ e (is-over a) = finished-led
 
-  block-led : Led (blockTaken block w .night)
+  block-led : Led (blockTaken block w .run)
   unfolding blockTaken
   block-led = found-led (judged p c block) refl (found-as p c block)
 
 -- block after block
-goes-led : (part : List ℕ) → AreBytes part → (n : ℕ) (c : Call) → Led (c .writing .night) → Led (goesOn part n c .writing .night)
+goes-led : (part : List ℕ) → AreBytes part → (n : ℕ) (c : Call) → Led (c .writing .run) → Led (goesOn part n c .writing .run)
 unfolding goesOn
 goes-led part bytes zero c led = led
-goes-led part bytes (suc n) c led = either (c .writing .night .over) refl (lacksBlockRoom (c .writing .buffer) (c .writing .at)) (λ o.
+goes-led part bytes (suc n) c led = either (c .writing .run .over) refl (lacksBlockRoom (c .writing .buffer) (c .writing .at)) (λ o.
     goes-led part bytes n following (block-led (blockAt part (c .used)) (piece-bytes blockLength (c .used) part bytes) (c .writing) o led))
   where
     following : Call
     following = record { used = c .used + length (blockAt part (c .used)); writing = blockTaken (blockAt part (c .used)) (c .writing) }
 
-    either : (b : Bool) → c .writing .night .over ≡ b → (full : Bool)
-        → (c .writing .night .over ≡ false → Led (goesOn part n following .writing .night))
-        → Led (cond (b || full) c (goesOn part n following) .writing .night)
+    either : (b : Bool) → c .writing .run .over ≡ b → (full : Bool)
+        → (c .writing .run .over ≡ false → Led (goesOn part n following .writing .run))
+        → Led (cond (b || full) c (goesOn part n following) .writing .run)
     either true o full rest = led
     either false o true rest = led
     either false o false rest = rest o
 
 -- 2, 11 or block after block: the run stays one that a file can lead to
-pub run-kept : (n : Night) (part buffer : List ℕ) (at : ℕ) → AreBytes part → nightSound n ≡ true → nightSound (ranOf n part buffer at .ran .night) ≡ true
+pub run-kept : (n : Run) (part buffer : List ℕ) (at : ℕ) → AreBytes part → runSound n ≡ true
+    → runSound (ranOf n part buffer at .ran .run) ≡ true
 unfolding ranOf
-run-kept n part buffer at bytes e = go (nightSound n) (lacksBlockRoom buffer at)
+run-kept n part buffer at bytes e = go (runSound n) (lacksBlockRoom buffer at)
   where
     call : Call
-    call = goesOn part (blocksIn part) (record { used = 0; writing = record { night = n; at = at; buffer = buffer } })
+    call = goesOn part (blocksIn part) (record { used = 0; writing = record { run = n; at = at; buffer = buffer } })
 
-    go : (right full : Bool) → nightSound (cond (not right) (refusedWith numbers.notSound n buffer) (cond full (refusedWith numbers.noRoom n buffer) (answered at call)) .ran .night) ≡ true
+    go : (right full : Bool) → runSound (cond (not right) (refusedWith numbers.notSound n buffer)
+        (cond full (refusedWith numbers.noRoom n buffer) (answered at call)) .ran .run) ≡ true
     go false full = e
     go true true = e
-    go true false = led-holds (call .writing .night) (goes-led part bytes (blocksIn part) _ (led-is n e))
+    go true false = led-holds (call .writing .run) (goes-led part bytes (blocksIn part) _ (led-is n e))

@@ -10,7 +10,7 @@ use Rattle.state.specs.declared.Router.{Router}
 use Rattle.trace.specs.declared.place.Place.{Place}
 use Rattle.listing.specs.Lines.{Line, finish, refusal, flitLines}
 use Rattle.listing.proofs.Counting.{flit-lines-append}
-use Rattle.standing.specs.declared.Night.{Night}
+use Rattle.runs.specs.declared.Run.{Run}
 use Rattle.night.specs.File.{Ending, finishes, refuses, Printed, after, lastLine, linesOf}
 
 -- the last line, with these flits
@@ -23,10 +23,10 @@ abbrev pub leftOf : ℕ → Printed → List Line
 leftOf f p = p .lines ++ closing (p .ending) (p .cycles) (f + flitLines (p .lines)) ∷ []
 
 -- from a run's router on, and from its place in the file on
-abbrev pub leftFrom : Night → (Router → Printed) → List Line
+abbrev pub leftFrom : Run → (Router → Printed) → List Line
 leftFrom n rest = cond (n .over) [] (leftOf (n .flits) (rest (n .router)))
 
-abbrev pub leftIn : Night → (Place → Router → Printed) → List Line
+abbrev pub leftIn : Run → (Place → Router → Printed) → List Line
 leftIn n rest = leftFrom n (rest (n .place))
 
 -- lines that come before

@@ -12,9 +12,10 @@ use Rattle.base.specs.Numbers.{done}
 use Rattle.trace.specs.Blocks.{blockLength}
 use Rattle.trace.specs.Place.{goodPlace}
 use Rattle.trace.specs.Judged.{noMore, accepted, refused}
-use Rattle.standing.specs.declared.Night.{Night}
-use Rattle.standing.specs.Night.{nightSound}
-use Rattle.router.specs.Running.{Writing, wrote, endedBy, byOutcome, blockTaken, blocksIn, blockAt, lacksBlockRoom, Call, goesOn, Outcome, answered, ranOf}
+use Rattle.runs.specs.declared.Run.{Run}
+use Rattle.runs.specs.Run.{runSound}
+use Rattle.router.specs.Running.{Writing, wrote, endedBy, byOutcome, blockTaken, blocksIn, blockAt, lacksBlockRoom, Call, goesOn}
+use Rattle.router.specs.Running.{CallOutcome, answered, ranOf}
 use Rattle.router.proofs.Onward.{goes-over}
 use Rattle.router.proofs.RunLaws.{run-goes}
 use Rattle.night.specs.Calls.{MayHand, whole, last}
@@ -22,13 +23,13 @@ use Rattle.night.proofs.PartLines.{end-judged}
 use Rattle.night.proofs.CallLines.{good-place, begin, last-goes}
 
 -- at the end of the input a run is over
-pub end-over : (w : Writing) → goodPlace (w .night .place) (w .night .router .cycle) ≡ true → blockTaken [] w .night .over ≡ true
+pub end-over : (w : Writing) → goodPlace (w .run .place) (w .run .router .cycle) ≡ true → blockTaken [] w .run .over ≡ true
 unfolding blockTaken endedBy wrote
-end-over w g = rw (end-judged (w .night .place) (w .night .router .cycle) g) (go (w .night .place .ended))
+end-over w g = rw (end-judged (w .run .place) (w .run .router .cycle) g) (go (w .run .place .ended))
   where
     go : (b : Bool)
-        → byOutcome (cond b (accepted noMore (w .night .place)) (refused 9 0 (w .night .place)) .read)
-        (cond b (accepted noMore (w .night .place)) (refused 9 0 (w .night .place))) [] w .night .over ≡ true
+        → byOutcome (cond b (accepted noMore (w .run .place)) (refused 9 0 (w .run .place)) .read)
+        (cond b (accepted noMore (w .run .place)) (refused 9 0 (w .run .place))) [] w .run .over ≡ true
     go true = refl
     go false = refl
 
@@ -40,7 +41,7 @@ module _ (part : List ℕ) where
   used-on : (n : ℕ) (c : Call) → c .used ≤ goesOn part n c .used
   unfolding goesOn
   used-on zero c = le-refl (c .used)
-  used-on (suc n) c = either (c .writing .night .over || lacksBlockRoom (c .writing .buffer) (c .writing .at)) (used-on n (next c))
+  used-on (suc n) c = either (c .writing .run .over || lacksBlockRoom (c .writing .buffer) (c .writing .at)) (used-on n (next c))
     where
       either : (o : Bool) → next c .used ≤ goesOn part n (next c) .used → c .used ≤ cond o c (goesOn part n (next c)) .used
       either true h = le-refl (c .used)
@@ -50,7 +51,8 @@ module _ (part : List ℕ) where
   used-inside : (n : ℕ) (c : Call) → c .used ≤ length part → goesOn part n c .used ≤ length part
   unfolding goesOn
   used-inside zero c h = h
-  used-inside (suc n) c h = either (c .writing .night .over || lacksBlockRoom (c .writing .buffer) (c .writing .at)) (used-inside n (next c) more)
+  used-inside (suc n) c h = either (c .writing .run .over || lacksBlockRoom (c .writing .buffer) (c .writing .at))
+      (used-inside n (next c) more)
     where
       more : c .used + length (blockAt part (c .used)) ≤ length part
       more = omega (arith, h, length-take 512 (drop (c .used) part), length-drop (c .used) part)
@@ -60,18 +62,20 @@ module _ (part : List ℕ) where
       either false g = g
 
   -- a run that is not over takes the first block where there is room
-  first-used : (n : ℕ) (c : Call) → c .writing .night .over ≡ false → lacksBlockRoom (c .writing .buffer) (c .writing .at) ≡ false
+  first-used : (n : ℕ) (c : Call) → c .writing .run .over ≡ false → lacksBlockRoom (c .writing .buffer) (c .writing .at) ≡ false
       → next c .used ≤ goesOn part (suc n) c .used
   unfolding goesOn
-  first-used n c e f = subst (λ (b : Bool). next c .used ≤ cond b c (goesOn part n (next c)) .used) (sym (ap₂ _||_ e f)) (used-on n (next c))
+  first-used n c e f = subst (λ (b : Bool). next c .used ≤ cond b c (goesOn part n (next c)) .used) (sym (ap₂ _||_ e f))
+      (used-on n (next c))
 
 -- A call uses no more than is left, at least the first block of it, and ends the run where nothing is left.
-pub record Moves (left : List ℕ) (o : Outcome) : Type 0 where
+pub record Moves (left : List ℕ) (o : CallOutcome) : Type 0 where
   pub most : o .ran .used ≤ length left
   pub least : length (take blockLength left) ≤ o .ran .used
-  pub over : length left ≡ 0 → o .ran .night .over ≡ true
+  pub over : length left ≡ 0 → o .ran .run .over ≡ true
 
-module _ (n : Night) (buffer : List ℕ) (at : ℕ) (sound : nightSound n ≡ true) (going : n .over ≡ false) (room : lacksBlockRoom buffer at ≡ false) where
+module _ (n : Run) (buffer : List ℕ) (at : ℕ) (sound : runSound n ≡ true) (going : n .over ≡ false)
+    (room : lacksBlockRoom buffer at ≡ false) where
   abbrev began : Call
   began = begin n buffer at sound going room
 
@@ -84,8 +88,9 @@ module _ (n : Night) (buffer : List ℕ) (at : ℕ) (sound : nightSound n ≡ tr
       let l = first-used part ((length part - 1) / 512) began going room in
       subst (λ (m : ℕ). length (take 512 part) ≤ goesOn part m began .used) (sym e) (omega (arith, l))
 
-  last-over : (left : List ℕ) → length left ≡ 0 → length left < 512 → after left .writing .night .over ≡ true
-  last-over [] e h = ap (λ (c : Call). c .writing .night .over) (sym (last-goes n buffer at sound going room [] h)) ∙ end-over (began .writing) (good-place n sound going)
+  last-over : (left : List ℕ) → length left ≡ 0 → length left < 512 → after left .writing .run .over ≡ true
+  last-over [] e h = ap (λ (c : Call). c .writing .run .over) (sym (last-goes n buffer at sound going room [] h))
+      ∙ end-over (began .writing) (good-place n sound going)
   last-over (b ∷ l) e h = absurd (omega arith)
 
   goes-moves : (left part : List ℕ) → MayHand left part → Moves left (answered at (after part))
@@ -104,10 +109,10 @@ module _ (n : Night) (buffer : List ℕ) (at : ℕ) (sound : nightSound n ≡ tr
   call-moves left part hand = subst (Moves left) (run-goes n part buffer at sound room (blocksIn part) refl) (goes-moves left part hand)
 
 -- a call of a run that is over uses nothing and writes nothing
-pub over-stays : (n : Night) (part buffer : List ℕ) (at : ℕ) → nightSound n ≡ true → n .over ≡ true → lacksBlockRoom buffer at ≡ false
-    → ranOf n part buffer at ≡ record { ran = record { number = done; night = n; used = 0; written = 0 }; buffer = buffer }
+pub over-stays : (n : Run) (part buffer : List ℕ) (at : ℕ) → runSound n ≡ true → n .over ≡ true → lacksBlockRoom buffer at ≡ false
+    → ranOf n part buffer at ≡ record { ran = record { number = done; run = n; used = 0; written = 0 }; buffer = buffer }
 over-stays n part buffer at sound o room =
-    let start : Call = record { used = 0; writing = record { night = n; at = at; buffer = buffer } } in
+    let start : Call = record { used = 0; writing = record { run = n; at = at; buffer = buffer } } in
     let none : at - at ≡ 0 = omega arith in
     sym (run-goes n part buffer at sound room (blocksIn part) refl) ∙ ap (answered at) (goes-over part (blocksIn part) start o)
-    ∙ ap (λ (m : ℕ). record { ran = record { number = done; night = n; used = 0; written = m }; buffer = buffer }) none
+    ∙ ap (λ (m : ℕ). record { ran = record { number = done; run = n; used = 0; written = m }; buffer = buffer }) none

@@ -11,7 +11,7 @@ use Rattle.state.specs.declared.Router.{Router}
 use Rattle.state.specs.Sound.{Sound}
 use Rattle.trace.specs.Bytes.{AreBytes}
 use Rattle.trace.specs.declared.place.Place.{Place}
-use Rattle.trace.specs.Blocks.{cycleLength, cycleStart}
+use Rattle.trace.specs.Blocks.{cycleLength, cycleStart, partAt}
 use Rattle.listing.specs.Lines.{cycleLines, flitLines}
 use Rattle.rules.specs.declared.Refusal.{Refusal}
 use Rattle.rules.specs.declared.Verdict.{Verdict}
@@ -21,27 +21,28 @@ use Rattle.rules.specs.Step.{stepOf}
 use Rattle.rules.proofs.ChosenStep.{config-stays, cycle-steps}
 use Rattle.rules.proofs.StepSound.{accepted-after}
 use Rattle.history.proofs.Printable.{flits-at-most-ports}
-use Rattle.standing.specs.declared.Night.{Night}
-use Rattle.router.specs.Running.{Writing, wrote, finished, endedBy, byVerdict, cycled, partAt, cyclesFrom}
+use Rattle.runs.specs.declared.Run.{Run}
+use Rattle.router.specs.Running.{Writing, wrote, finished, endedBy, byVerdict, cycled, cyclesFrom}
 use Rattle.router.proofs.Cycling.{cycles-over}
 use Rattle.router.proofs.Going.{piece-bytes}
 
 -- a run after the configuration block, at a place with so many cycles
-pub record Stands (q : Place) (c : ℕ) (n : Night) : Type 0 where
+pub record Stands (q : Place) (c : ℕ) (n : Run) : Type 0 where
   pub place : n .place ≡ q
   pub sound : Sound (n .router)
   pub few : n .flits ≤ n .router .config .ports * n .router .cycle
   pub cycle : n .router .cycle ≡ c
 
 -- one accepted cycle
-module _ (q : Place) (c : ℕ) (n : Night) (part : List ℕ) (bytes : AreBytes part) (at : Stands q c n) (e : stepOf (n .router) part .verdict ≡ Accepted) where
+module _ (q : Place) (c : ℕ) (n : Run) (part : List ℕ) (bytes : AreBytes part) (at : Stands q c n)
+    (e : stepOf (n .router) part .verdict ≡ Accepted) where
   abbrev s : Router
   s = n .router
 
   abbrev x : Stepped
   x = stepOf s part
 
-  abbrev next : Night
+  abbrev next : Run
   next = record { router = x .router; place = n .place; flits = n .flits + flitLines (cycleLines (s .cycle) (x .reply)); over = n .over }
 
   -- one flit more for each output at most
@@ -62,23 +63,24 @@ module _ (q : Place) (c : ℕ) (n : Night) (part : List ℕ) (bytes : AreBytes p
 
 -- the run after a cycle
 module _ (part : List ℕ) (w : Writing) where
-  cycled-on : (e : stepOf (w .night .router) part .verdict ≡ Accepted) (q : Place) (c : ℕ) (bytes : AreBytes part) (at : Stands q c (w .night))
-      → cycled part w .night ≡ next q c (w .night) part bytes at e
+  cycled-on : (e : stepOf (w .run .router) part .verdict ≡ Accepted) (q : Place) (c : ℕ) (bytes : AreBytes part)
+      (at : Stands q c (w .run))
+      → cycled part w .run ≡ next q c (w .run) part bytes at e
   unfolding cycled wrote
-  cycled-on e q c bytes at = ap (λ (v : Verdict). byVerdict v (stepOf (w .night .router) part) w .night) e
+  cycled-on e q c bytes at = ap (λ (v : Verdict). byVerdict v (stepOf (w .run .router) part) w .run) e
 
-  cycled-off : (r : Refusal) → stepOf (w .night .router) part .verdict ≡ Refused r → cycled part w .night ≡ finished (w .night)
+  cycled-off : (r : Refusal) → stepOf (w .run .router) part .verdict ≡ Refused r → cycled part w .run ≡ finished (w .run)
   unfolding cycled wrote endedBy
-  cycled-off r e = ap (λ (v : Verdict). byVerdict v (stepOf (w .night .router) part) w .night) e
+  cycled-off r e = ap (λ (v : Verdict). byVerdict v (stepOf (w .run .router) part) w .run) e
 
 -- after m cycles of a block that was taken with c: all were accepted, or the run stopped at one
-pub data Ran (q : Place) (c m : ℕ) (n : Night) : Type 0 where
+pub data Ran (q : Place) (c m : ℕ) (n : Run) : Type 0 where
   through : n .over ≡ false → Stands q (c + m) n → Ran q c m n
   stopped : (j : ℕ) → j ≤ 6 → n .over ≡ true → Stands q (c + j) n → Ran q c m n
 
 module _ (block : List ℕ) (bytes : AreBytes block) (q : Place) (c : ℕ) where
   -- cycle k, and what then becomes of the n behind it
-  module _ (n k : ℕ) (w : Writing) (l : k + suc n ≤ 7) (o : w .night .over ≡ false) (s : Stands q (c + k) (w .night)) where
+  module _ (n k : ℕ) (w : Writing) (l : k + suc n ≤ 7) (o : w .run .over ≡ false) (s : Stands q (c + k) (w .run)) where
     abbrev part : List ℕ
     part = partAt block k
 
@@ -88,24 +90,28 @@ module _ (block : List ℕ) (bytes : AreBytes block) (q : Place) (c : ℕ) where
     part-bytes : AreBytes part
     part-bytes = piece-bytes cycleLength (cycleStart k) block bytes
 
-    one-ran : (v : Verdict) → stepOf (w .night .router) part .verdict ≡ v
-        → (later .night .over ≡ false → Stands q (c + (k + 1)) (later .night) → Ran q c (k + 1 + n) (cyclesFrom block (k + 1) n later .night))
-        → Ran q c (k + suc n) (cyclesFrom block (k + 1) n later .night)
+    one-ran : (v : Verdict) → stepOf (w .run .router) part .verdict ≡ v
+        → (later .run .over ≡ false → Stands q (c + (k + 1)) (later .run)
+        → Ran q c (k + 1 + n) (cyclesFrom block (k + 1) n later .run))
+        → Ran q c (k + suc n) (cyclesFrom block (k + 1) n later .run)
     one-ran Accepted e rest =
         let is = cycled-on part w e q (c + k) part-bytes s in
-        subst (λ (m : ℕ). Ran q c m (cyclesFrom block (k + 1) n later .night)) (omega arith)
-        (rest (ap (λ (m : Night). m .over) is ∙ o)
-        (subst (λ (m : Night). Stands q (c + (k + 1)) m) (sym is)
-        (subst (λ (m : ℕ). Stands q m (next q (c + k) (w .night) part part-bytes s e)) (omega arith) (accepted-stands q (c + k) (w .night) part part-bytes s e))))
+        subst (λ (m : ℕ). Ran q c m (cyclesFrom block (k + 1) n later .run)) (omega arith)
+        (rest (ap (λ (m : Run). m .over) is ∙ o)
+        (subst (λ (m : Run). Stands q (c + (k + 1)) m) (sym is)
+        (subst (λ (m : ℕ). Stands q m (next q (c + k) (w .run) part part-bytes s e)) (omega arith)
+        (accepted-stands q (c + k) (w .run) part part-bytes s e))))
     one-ran (Refused r) e rest =
         let is = cycled-off part w r e in
-        subst (λ (v : Writing). Ran q c (k + suc n) (v .night)) (sym (cycles-over block (k + 1) n later (ap (λ (m : Night). m .over) is)))
-        (subst (Ran q c (k + suc n)) (sym is) (stopped k (omega arith) refl (record { place = s .place; sound = s .sound; few = s .few; cycle = s .cycle })))
+        subst (λ (v : Writing). Ran q c (k + suc n) (v .run)) (sym (cycles-over block (k + 1) n later (ap (λ (m : Run). m .over) is)))
+        (subst (Ran q c (k + suc n)) (sym is) (stopped k (omega arith) refl
+        (record { place = s .place; sound = s .sound; few = s .few; cycle = s .cycle })))
 
-  pub cycles-ran : (n k : ℕ) (w : Writing) → k + n ≤ 7 → w .night .over ≡ false → Stands q (c + k) (w .night) → Ran q c (k + n) (cyclesFrom block k n w .night)
+  pub cycles-ran : (n k : ℕ) (w : Writing) → k + n ≤ 7 → w .run .over ≡ false → Stands q (c + k) (w .run)
+      → Ran q c (k + n) (cyclesFrom block k n w .run)
   unfolding cyclesFrom
-  cycles-ran zero k w l o s = through o (subst (λ (m : ℕ). Stands q (c + m) (w .night)) (sym (add-zero k)) s)
+  cycles-ran zero k w l o s = through o (subst (λ (m : ℕ). Stands q (c + m) (w .run)) (sym (add-zero k)) s)
   cycles-ran (suc n) k w l o s =
-      subst (λ (b : Bool). Ran q c (k + suc n) (cond b w (cyclesFrom block (k + 1) n (cycled (partAt block k) w)) .night)) (sym o)
-      (one-ran n k w l o s (stepOf (w .night .router) (partAt block k) .verdict) refl
+      subst (λ (b : Bool). Ran q c (k + suc n) (cond b w (cyclesFrom block (k + 1) n (cycled (partAt block k) w)) .run)) (sym o)
+      (one-ran n k w l o s (stepOf (w .run .router) (partAt block k) .verdict) refl
       (λ d t. cycles-ran n (k + 1) (cycled (partAt block k) w) (omega arith) d t))

@@ -6,12 +6,13 @@ use mathlib.Core.Option.{Option, some, none}
 use Prim.Native.Nat.{ℕ, zero, suc, _+_}
 use lib.ListN.{length, take, drop}
 use Rattle.base.specs.Numbers.{blockShort}
+use Rattle.base.specs.Sizes.{noConfig}
 use Rattle.state.specs.declared.Router.{Router}
-use Rattle.state.specs.Fresh.{noConfig, freshRouter}
+use Rattle.state.specs.Fresh.{freshRouter}
 use Rattle.trace.specs.declared.place.Place.{Place}
-use Rattle.trace.specs.Blocks.{blockLength, cycleLength, cycleStart}
+use Rattle.trace.specs.Blocks.{blockLength, partAt}
 use Rattle.trace.specs.Place.{start}
-use Rattle.trace.specs.Judged.{Read, aConfiguration, someCycles, theEnd, noMore, Outcome, judged}
+use Rattle.trace.specs.Judged.{Read, aConfiguration, someCycles, theEnd, noMore, BlockOutcome, judged}
 use Rattle.listing.specs.Lines.{Line, finish, refusal, text, cycleLines, flitLines}
 use Rattle.rules.specs.declared.Verdict.{Verdict}
 use Rattle.rules.specs.declared.Verdict.the-variants.{Accepted, Refused}
@@ -41,18 +42,14 @@ abbrev pub cycleThen : Verdict → Stepped → Router → (Router → Printed) �
 cycleThen Accepted x s rest = after (cycleLines (s .cycle) (x .reply)) (rest (x .router))
 cycleThen (Refused r) x s rest = endsAt s (refuses (r .number) (r .port))
 
--- "Cycles: 64 bytes each from byte 8"
-abbrev pub partOf : List ℕ → ℕ → List ℕ
-partOf block k = take cycleLength (drop (cycleStart k) block)
-
 -- n cycles of a block, from cycle k on, and then the rest
 unfoldable pub cyclesThen : (Router → Printed) → List ℕ → ℕ → ℕ → Router → Printed
 cyclesThen rest block k zero s = rest s
 cyclesThen rest block k (suc n) s =
-    cycleThen (stepOf s (partOf block k) .verdict) (stepOf s (partOf block k)) s (cyclesThen rest block (k + 1) n)
+    cycleThen (stepOf s (partAt block k) .verdict) (stepOf s (partAt block k)) s (cyclesThen rest block (k + 1) n)
 
 -- a block, by what it was judged to be, and then the rest of the file
-abbrev pub blockThen : Option Read → Outcome → List ℕ → Router → (Place → Router → Printed) → Printed
+abbrev pub blockThen : Option Read → BlockOutcome → List ℕ → Router → (Place → Router → Printed) → Printed
 blockThen none o block s rest = endsAt s (refuses (o .number) (o .field))
 blockThen (some (aConfiguration c)) o block s rest = rest (o .place) (freshRouter c)
 blockThen (some (someCycles n)) o block s rest = cyclesThen (rest (o .place)) block 0 n s

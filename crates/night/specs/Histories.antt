@@ -7,16 +7,16 @@ use lib.Dec.{eqb}
 use lib.ListN.{take}
 use Rattle.base.specs.declared.config.Config.{Config}
 use Rattle.base.specs.declared.flit.Flit.{Flit}
-use Rattle.trace.specs.Blocks.{blockLength, kindOf, cycles, heldOf, configOf}
+use Rattle.trace.specs.Blocks.{blockLength, kindOf, cycles, heldOf, configOf, partAt}
 use Rattle.model.specs.History.{History}
 use Rattle.history.specs.Run.{runOf}
-use Rattle.night.specs.File.{partOf, blocksOf}
+use Rattle.night.specs.File.{blocksOf}
 use Rattle.night.specs.Accepted.{acceptedOf}
 
 -- the parts of n cycles of a block, from cycle k on
 unfoldable pub partsFrom : List ℕ → ℕ → ℕ → List (List ℕ)
 partsFrom block k zero = []
-partsFrom block k (suc n) = partOf block k ∷ partsFrom block (k + 1) n
+partsFrom block k (suc n) = partAt block k ∷ partsFrom block (k + 1) n
 
 -- "Byte 0 kind (.. 2 cycles ..), byte 1 cycles held"
 unfoldable pub partsIn : List ℕ → List (List ℕ)

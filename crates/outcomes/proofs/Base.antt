@@ -4,10 +4,11 @@ use mathlib.Core.Path.{_≡_, refl, sym, _∙_}
 use mathlib.Core.Bool.{cond}
 use lib.Dec.{eqb}
 use Rattle.base.specs.Numbers.{done}
-use Rattle.base.specs.Sizes.{Outcome, outcomeOf}
+use Rattle.base.specs.Sizes.{ConfigOutcome, configOutcome}
 use Rattle.base.specs.declared.config.Judged.{Judged}
 use Rattle.base.specs.declared.config.Judged.the-variants.{Legal, Illegal}
 use Rattle.base.proofs.config.Config.judged as judged
+use Rattle.base.proofs.config.Config.none as nothing
 use Rattle.base.proofs.flit.Flit.new as new
 use Rattle.base.proofs.flit.Flit.kind as kind
 use Rattle.base.proofs.flit.Flit.destination as destination
@@ -20,15 +21,18 @@ use Rattle.outcomes.specs.Once.{Once}
 use Rattle.outcomes.proofs.Seen.{seen-once}
 
 -- the way back from number and field to the answer that stands for them
-abbrev judgedOf : Outcome → Judged
+abbrev judgedOf : ConfigOutcome → Judged
 judgedOf o = cond (eqb (o .number) done) Legal (Illegal (o .field))
 
-judged-back : (j : Judged) → judgedOf (outcomeOf j) ≡ j
+judged-back : (j : Judged) → judgedOf (configOutcome j) ≡ j
 judged-back Legal = refl
 judged-back (Illegal k) = refl
 
 pub judged-once : Once judged.ended judged.Reads.Asked judged.Reads.Learnt
-judged-once κs a = (tt, λ r s u v p q. (seen-once outcomeOf judgedOf judged-back r s p q, refl))
+judged-once κs a = (tt, λ r s u v p q. (seen-once configOutcome judgedOf judged-back r s p q, refl))
+
+pub none-once : Once nothing.ended nothing.Reads.Asked nothing.Reads.Learnt
+none-once κs a = (tt, λ r s u v p q. (p ∙ sym q, refl))
 
 pub new-once : Once new.ended new.Reads.Asked new.Reads.Learnt
 new-once κs a = (tt, λ r s u v p q. (p ∙ sym q, refl))

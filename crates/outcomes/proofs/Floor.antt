@@ -1,5 +1,5 @@
--- floor: where `pass` and `hand` did not fail, no second outcome satisfies their contracts. Whether they failed is the operating system's to say,
--- and so is all that `fill` and `put` answer.
+-- floor: where `pass` and `hand` did not fail, no second outcome satisfies their contracts. Whether they failed is the operating system's
+-- to say, and so is all that `fill` and `put` answer.
 -- Assumes nothing.
 use mathlib.Core.Path.{_≡_, sym, _∙_}
 use mathlib.Core.Bool.{false}
@@ -13,7 +13,7 @@ pass-once κs a = (
   tt,
   λ r s u v p q e f.
       let same = Option·some-injective _ _ (sym (p e) ∙ q f) in
-      (λ i. record { night = same i .night; failed = (e ∙ sym f) i }, λ i. (tt, (tt, (same i .buffer, (tt, tt))))),
+      (λ i. record { run = same i .run; failed = (e ∙ sym f) i }, λ i. (tt, (tt, (same i .buffer, (tt, tt))))),
 )
 
 pub hand-once : OnceWhere hand.ended (λ κs r. r .failed ≡ false) hand.Reads.Asked hand.Reads.Learnt
@@ -21,5 +21,5 @@ hand-once κs a = (
   tt,
   λ r s u v p q e f.
       let same = Option·some-injective _ _ (sym (p e) ∙ q f) in
-      (λ i. record { night = same i .night; failed = (e ∙ sym f) i }, λ i. (tt, (tt, (tt, (same i .buffer, (tt, tt)))))),
+      (λ i. record { run = same i .run; failed = (e ∙ sym f) i }, λ i. (tt, (tt, (tt, (same i .buffer, (tt, tt)))))),
 )

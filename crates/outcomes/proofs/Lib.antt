@@ -6,6 +6,6 @@ pub mod Reader
 pub mod Listing
 pub mod Store
 pub mod State
-pub mod Standing
+pub mod Runs
 pub mod Router
 pub mod Floor

@@ -8,7 +8,7 @@ use lib.Dec.{eqb}
 use Rattle.base.specs.Numbers.{done, noRoom}
 use Rattle.listing.specs.declared.Written.{Written}
 use Rattle.listing.specs.declared.Written.the-variants.{Lines, NoRoom, OutOfRange}
-use Rattle.listing.specs.Writing.{Outcome, outcomeOf}
+use Rattle.listing.specs.Writing.{WriteOutcome, writeOutcome}
 use Rattle.listing.proofs.write_cycle as cycle
 use Rattle.listing.proofs.write_end as end
 use Rattle.listing.proofs.write_refusal as refusal
@@ -16,11 +16,11 @@ use Rattle.outcomes.specs.Once.{Once}
 use Rattle.outcomes.proofs.Seen.{seen-once}
 
 -- an answer beside the buffer
-abbrev saidBy : Written × List ℕ → Outcome
-saidBy x = outcomeOf (x .0) (x .1)
+abbrev saidBy : Written × List ℕ → WriteOutcome
+saidBy x = writeOutcome (x .0) (x .1)
 
 -- the answer that a number and its bytes stand for
-abbrev writtenOf : Outcome → Written × List ℕ
+abbrev writtenOf : WriteOutcome → Written × List ℕ
 writtenOf o = (cond (eqb (o .number) done) (Lines (o .bytes)) (cond (eqb (o .number) noRoom) NoRoom OutOfRange), o .buffer)
 
 written-back : (x : Written × List ℕ) → writtenOf (saidBy x) ≡ x
@@ -28,7 +28,7 @@ written-back (Lines n, b) = refl
 written-back (NoRoom, b) = refl
 written-back (OutOfRange, b) = refl
 
-write-once : {o : Outcome} (r s : Written) (b d : List ℕ) → outcomeOf r b ≡ o → outcomeOf s d ≡ o → (r ≡ s) × (b ≡ d)
+write-once : {o : WriteOutcome} (r s : Written) (b d : List ℕ) → writeOutcome r b ≡ o → writeOutcome s d ≡ o → (r ≡ s) × (b ≡ d)
 write-once r s b d p q =
     let e = seen-once saidBy writtenOf written-back (r, b) (s, d) p q in
     (ap (λ (x : Written × List ℕ). x .0) e, ap (λ (x : Written × List ℕ). x .1) e)

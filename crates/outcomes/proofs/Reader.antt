@@ -1,6 +1,6 @@
 -- reader: no second outcome satisfies the contract of a public function; of a slice handed back what `sliceOf` shows counts (Trace).
--- `over`, `shown` and `moved` are not covered, so Rattle draws no `Reads` for them: what their contracts tell stands here, and `..-says` shows
--- that the written clauses ask for nothing and tell just that.
+-- `over`, `shown` and `moved` are not covered, so Rattle draws no `Reads` for them: what their contracts tell stands here, and `..-says`
+-- shows that the written clauses ask for nothing and tell just that.
 -- Assumes nothing.
 use mathlib.Core.Path.{_≡_, refl, sym, _∙_}
 use Rattle.trace.specs.Cycles.{sliceOf, cyclePart}

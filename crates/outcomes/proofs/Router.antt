@@ -1,6 +1,6 @@
 -- router: no second outcome satisfies the contract of a public function, of the result or of the buffer.
 -- Assumes nothing.
-use mathlib.Core.Path.{_≡_, refl, sym, _∙_}
+use mathlib.Core.Path.{refl, sym, _∙_}
 use Rattle.router.proofs.step as step
 use Rattle.router.proofs.run as run
 use Rattle.outcomes.specs.Once.{Once}

@@ -1,6 +1,6 @@
 -- store: no second outcome satisfies the contract of a public function, of the result or of the store.
 -- Assumes nothing.
-use mathlib.Core.Path.{_≡_, refl, sym, _∙_}
+use mathlib.Core.Path.{refl, sym, _∙_}
 use Rattle.store.proofs.front as front
 use Rattle.store.proofs.push as push
 use Rattle.store.proofs.pop as pop

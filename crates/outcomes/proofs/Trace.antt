@@ -12,7 +12,7 @@ use Rattle.trace.specs.declared.place.Place.{Place}
 use Rattle.trace.specs.declared.judging.Found.{Found}
 use Rattle.trace.specs.declared.judging.Found.the-variants as found
 use Rattle.trace.specs.declared.judging.Answer.{Answer}
-use Rattle.trace.specs.Judged.{Read, aConfiguration, someCycles, theEnd, noMore, Outcome, meaning, outcomeOf}
+use Rattle.trace.specs.Judged.{Read, aConfiguration, someCycles, theEnd, noMore, BlockOutcome, meaning, blockOutcome}
 use Rattle.trace.specs.Cycles.{sliceOf}
 use Rattle.trace.proofs.judge as judge
 use Rattle.trace.proofs.cycle_part as part
@@ -29,7 +29,7 @@ foundOf (some (someCycles h)) n k = found.Cycles h
 foundOf (some theEnd) n k = found.End
 foundOf (some noMore) n k = found.Done
 
-answerOf : Outcome → Answer
+answerOf : BlockOutcome → Answer
 answerOf o = record { place = o .place; found = foundOf (o .read) (o .number) (o .field) }
 
 found-back : (f : Found) (p : Place) → answerOf (meaning f p) ≡ record { place = p; found = f }
@@ -41,7 +41,7 @@ found-back found.Done p = refl
 found-back (found.Refused n k) p = refl
 
 pub judge-once : Once judge.ended judge.Reads.Asked judge.Reads.Learnt
-judge-once κs a = (tt, λ r s u v p q. (seen-once outcomeOf answerOf (λ x. found-back (x .found) (x .place)) r s p q, refl))
+judge-once κs a = (tt, λ r s u v p q. (seen-once blockOutcome answerOf (λ x. found-back (x .found) (x .place)) r s p q, refl))
 
 -- The one exception: of the slice handed back the contract determines memory, start and bytes, all that a program has of it.
 -- The name under which the proofs follow a reference is free, as the second law says: any other does as well.

@@ -50,7 +50,8 @@ module _ (T : Ended) where
       × ((r s : Result κs) (u v : Lasts T κs a) → Learnt κs a r (atExit T κs a u) → Learnt κs a s (atExit T κs a v)
       → fine κs r → fine κs s → (r ≡ s) × (u ≡ v))
 
-  -- Of a function that the borrow checker does not cover Rattle draws no `Reads`: that its written clauses ask for nothing and tell just this.
+  -- Of a function that the borrow checker does not cover Rattle draws no `Reads`: that its written clauses ask for nothing and tell
+  -- just this.
   abbrev pub Says : (M : Type 1) → ((𝓤 : URA M) → Heap 𝓤 → Atoms 𝓤 → (Memory → SProp 𝓤) → (Routine → Fun 𝓤) → Clauses 𝓤 T) → Tells → Type 2
   Says M clauses Learnt =
       (𝓤 : URA M) (H : Heap 𝓤) (A : Atoms 𝓤) (mem : Memory → SProp 𝓤) (run : Routine → Fun 𝓤) (κs : Lifetimes) (a : Input κs)

@@ -1,5 +1,6 @@
 -- A reader taken apart: its slice, with any number, is what a function of a slice and a number asks, and what the reader owns is kept.
--- The struct is Copy: what it owns is had twice, one copy is kept whole, and of the other what block owns is given, beside the lifetime's token.
+-- The struct is Copy: what it owns is had twice, one copy is kept whole, and of the other what block owns is given, beside the
+-- lifetime's token.
 -- Assumes nothing.
 use mathlib.Core.Path.{_≡_, refl}
 use mathlib.Core.List.{List, [], _∷_}
@@ -46,7 +47,8 @@ abbrev pub Entry : {M : Type 1} (𝓤 : URA M) → Lft → Share → Reader → 
 Entry 𝓤 κ q d = (‵ (flft κ q) ⊛ ‵ ftrue) ⊛ ‵ (owns (B (κ, tt) ∷ []) (d, tt) (T′.lowered d ∷ [], tt))
 
 abbrev pub Asked : {M : Type 1} (𝓤 : URA M) → Lft → Share → Reader → ℕ → Item 𝓤
-Asked 𝓤 κ q d n = (‵ (flft κ q) ⊛ ‵ ftrue) ⊛ ‵ (owns (ShrSlice (named 0) κ u8 ∷ usize ∷ []) (d .block, (n, tt)) (sliceVal (d .block .ptr) (length (d .block .now)) ∷ [], (vint w64 n ∷ [], tt)))
+Asked 𝓤 κ q d n = (‵ (flft κ q) ⊛ ‵ ftrue) ⊛ ‵ (owns (ShrSlice (named 0) κ u8 ∷ usize ∷ []) (d .block, (n, tt))
+    (sliceVal (d .block .ptr) (length (d .block .now)) ∷ [], (vint w64 n ∷ [], tt)))
 
 -- the struct's type and laws, and its fields' values
 abbrev D : Lft → Declared
@@ -59,15 +61,20 @@ abbrev vd : (κ : Lft) → Reader → Values (D κ .parts)
 vd κ d = (d .block, (d .cycle, tt))
 
 -- what a reader owns is had twice
-pub twice : {M : Type 1} (𝓤 : URA M) (H : Heap 𝓤) (A : Atoms 𝓤) → Given 𝓤 H A → (κ : Lft) (d : Reader) → ent 𝓤 (sem 𝓤 H A (Own κ d)) (sep 𝓤 (sem 𝓤 H A (Own κ d)) (sem 𝓤 H A (Own κ d)))
+pub twice : {M : Type 1} (𝓤 : URA M) (H : Heap 𝓤) (A : Atoms 𝓤) → Given 𝓤 H A → (κ : Lft) (d : Reader)
+    → ent 𝓤 (sem 𝓤 H A (Own κ d)) (sep 𝓤 (sem 𝓤 H A (Own κ d)) (sem 𝓤 H A (Own κ d)))
 twice 𝓤 H A W κ d = LL.copy (D κ) (T′.the-copy (namedLft 1 0 tt (κ, tt))) 𝓤 H A W .twice d (T′.lowered d ∷ [])
 
 pub apart : {M : Type 1} (𝓤 : URA M) (H : Heap 𝓤) (A : Atoms 𝓤) → Given 𝓤 H A → (κ : Lft) (q : Share) (d : Reader) (n : ℕ) → n < 2 ^ 64
     → ent 𝓤 (mean 𝓤 H A (Entry 𝓤 κ q d)) (sep 𝓤 (mean 𝓤 H A (Asked 𝓤 κ q d n)) (sem 𝓤 H A (Own κ d)))
 apart 𝓤 H A W κ q d n fits =
-    qed W (Entry 𝓤 κ q d ∷ []) ∵ split ! $ move ! (1 ∷ []) $ fsplit ! $ move ! (1 ∷ []) $ drop ! $ use1 W (‵ (Own κ d) ⊛ ‵ (Own κ d)) (twice 𝓤 H A W κ d) $ split ! $
-    use1 W (given (T′.lowered d ∷ [] ≡ T′.lowered d ∷ []) (‵ (all-own (D κ .parts) (L κ) (vd κ d)))) (own-open 𝓤 H A W (D κ) (L κ) (vd κ d) (T′.lowered d)) $ learn ! (λ _.
-    use1 W (‵ (ownAt (D κ .parts) (L κ) 0 (d .block)) ⊛ ‵ (rest (D κ .parts) (L κ) 0 (vd κ d))) (own-out 𝓤 H A W (D κ .parts) (L κ) 0 (vd κ d)) $ split ! $
+    qed W (Entry 𝓤 κ q d ∷ []) ∵ split ! $ move ! (1 ∷ []) $ fsplit ! $ move ! (1 ∷ []) $ drop ! $ use1 W (‵ (Own κ d) ⊛ ‵ (Own κ d))
+    (twice 𝓤 H A W κ d) $ split ! $
+    use1 W (given (T′.lowered d ∷ [] ≡ T′.lowered d ∷ []) (‵ (all-own (D κ .parts) (L κ) (vd κ d))))
+    (own-open 𝓤 H A W (D κ) (L κ) (vd κ d) (T′.lowered d)) $ learn ! (λ _.
+    use1 W (‵ (ownAt (D κ .parts) (L κ) 0 (d .block)) ⊛ ‵ (rest (D κ .parts) (L κ) 0 (vd κ d)))
+    (own-out 𝓤 H A W (D κ .parts) (L κ) 0 (vd κ d)) $ split ! $
     -- [what block owns; what cycle owns; what the struct owns; the token]
-    move ! (1 ∷ []) $ drop ! $ nothing ! $ owned ! usize (Is usize) (uint-makes 𝓤 H A W w64) n _ (refl, fits) $ fjoin ! $ move ! (1 ∷ 0 ∷ []) $ fjoin ! $
+    move ! (1 ∷ []) $ drop ! $ nothing ! $ owned ! usize (Is usize) (uint-makes 𝓤 H A W w64) n _ (refl, fits) $ fjoin ! $ move !
+    (1 ∷ 0 ∷ []) $ fjoin ! $
     move ! (2 ∷ 0 ∷ []) $ join ! $ frame ! $ done !)

@@ -47,15 +47,22 @@ some-byte-shown s r k q some = go (shows (s .bytes) k) refl
 pub walk-shows : (l : List ℕ) (n : ℕ) → 512 ≤ length l → heldOf l ≤ 7 → n ≤ heldOf l → walked l n ≡ n
 unfolding walked
 walk-shows l zero long most h = refl
-walk-shows l (suc n) long most h = ap (nextCycle l) (walk-shows l n long most (omega arith)) ∙ shown-moves l n (few-shown l n long most (omega arith)) ∙ add-one n
+walk-shows l (suc n) long most h = ap (nextCycle l) (walk-shows l n long most (omega arith))
+    ∙ shown-moves l n (few-shown l n long most (omega arith)) ∙ add-one n
 
 -- so it shows each cycle held, in turn: the 64 bytes of cycle n, where they lie
-pub walk-shows-cycle : (s : Slice) (n : ℕ) → 512 ≤ length (s .bytes) → heldOf (s .bytes) ≤ 7 → n < heldOf (s .bytes) → cyclePart s (walked (s .bytes) n) ≡ part s (8 + 64 * n) 64
+pub walk-shows-cycle : (s : Slice) (n : ℕ) → 512 ≤ length (s .bytes) → heldOf (s .bytes) ≤ 7 → n < heldOf (s .bytes)
+    → cyclePart s (walked (s .bytes) n) ≡ part s (8 + 64 * n) 64
 unfolding cyclePart
-walk-shows-cycle s n long most h = ap (cyclePart s) (walk-shows (s .bytes) n long most (omega arith)) ∙ rw (few-shown (s .bytes) n long most h)
+walk-shows-cycle s n long most h = ap (cyclePart s) (walk-shows (s .bytes) n long most (omega arith))
+    ∙ rw (few-shown (s .bytes) n long most h)
 
 -- "it shows an empty part and stays": over any block, once no cycle is shown
 pub walk-stays : (s : Slice) (n : ℕ) → shows (s .bytes) (walked (s .bytes) n) ≡ false
     → (walked (s .bytes) (n + 1) ≡ walked (s .bytes) n) × (cyclePart s (walked (s .bytes) n) .bytes ≡ [])
 unfolding walked
-walk-stays s n e = (ap (walked (s .bytes)) (add-one n) ∙ not-shown-stays (s .bytes) (walked (s .bytes) n) e, not-shown-empty s (walked (s .bytes) n) e)
+walk-stays s n e = (
+  ap (walked (s .bytes)) (add-one n) ∙ not-shown-stays (s .bytes) (walked (s .bytes) n) e,
+  not-shown-empty s
+      (walked (s .bytes) n) e,
+)

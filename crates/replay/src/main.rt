@@ -1,7 +1,7 @@
 // Stored traces through the run entry, cut into parts of any number of blocks. Standard input is a row of parts: two bytes with a part's
 // length, the higher first, and its bytes; a part of no bytes is the end of a trace, and the next part begins another. The lists go to
 // standard output one after another. Traces and lists are the second model's (docs/FORMATS.md says how they are made).
-use standing::Night;
+use runs::Run;
 
 // A part's length, from the two bytes before it.
 fn length(high: u8, low: u8) -> usize {
@@ -10,7 +10,7 @@ fn length(high: u8, low: u8) -> usize {
 
 // A proved loop has to end, so the parts are counted down.
 fn replay(head: &mut [u8], buf: &mut [u8], out: &mut [u8]) {
-    let mut night = Night::start();
+    let mut run = Run::start();
     let mut parts = u64::MAX;
     while 0 < parts {
         parts -= 1;
@@ -26,12 +26,12 @@ fn replay(head: &mut [u8], buf: &mut [u8], out: &mut [u8]) {
         if filled.bytes < bytes {
             return;
         }
-        let passed = floor::pass(night, &buf[0..bytes], out, libc::STDOUT_FILENO);
+        let passed = floor::pass(run, &buf[0..bytes], out, libc::STDOUT_FILENO);
         if bytes == 0 {
-            night = Night::start();
+            run = Run::start();
             continue;
         }
-        night = passed.night;
+        run = passed.run;
     }
 }
 

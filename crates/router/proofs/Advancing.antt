@@ -7,7 +7,8 @@ use Prim.Native.Nat.{ℕ, _+_, _-_, _<_, _≤_}
 use native.Mathlib.Omega.{arith}
 use lib.Arith.{lt-of-le-ne}
 use lib.Dec.{eqb, ltb}
-use lib.ListN.{length, getD, set, drop, replicate, length-set, length-append, length-drop, length-replicate, List·getD-append, getD-replicate}
+use lib.ListN.{length, getD, set, drop, replicate, length-set, length-append, length-drop, length-replicate, List·getD-append}
+use lib.ListN.{getD-replicate}
 use lib.Seq.{getD-set-same, getD-set-other, getD-drop, getD-append-add, ext-getD}
 use borrow.Author.Tests.{eqb-true, eqb-false, ltb-true, ltb-false}
 use Rattle.rules.specs.Intake.{advanced}
@@ -34,7 +35,8 @@ moved-more k before line l m =
         let q = eqb-true j k e in
         let long = m .long in
         let r : k + 8 ≡ 8 + k = omega arith in
-        rw (q, getD-set-same line k (getD line (k + 8) 0) 0 (omega arith)) (m .rest (k + 8) (omega arith) ∙ ap (λ (x : ℕ). getD before x 0) r)
+        rw (q, getD-set-same line k (getD line (k + 8) 0) 0 (omega arith))
+        (m .rest (k + 8) (omega arith) ∙ ap (λ (x : ℕ). getD before x 0) r)
     go j h false e =
         getD-set-other line k j (getD line (k + 8) 0) 0 (eqb-false j k e) ∙ m .moved j (lt-of-le-ne (omega arith) (eqb-false j k e))
 

@@ -1,10 +1,9 @@
 -- What the code picks, from sets as words and a table, is what the rules pick.
 -- Assumes nothing.
-use mathlib.Core.Path.{_≡_, refl, sym, ap, _∙_}
-use mathlib.Core.Bool.{Bool, true, false}
+use mathlib.Core.Path.{_≡_, refl, ap, _∙_}
 use mathlib.Core.List.{List}
 use mathlib.Core.Option.{Option, some, none}
-use Prim.Native.Nat.{ℕ, _+_, _*_, _/_, _^_, _<_, _≤_}
+use Prim.Native.Nat.{ℕ, _*_, _/_, _^_, _<_, _≤_}
 use native.Mathlib.Omega.{arith}
 use lib.ListN.{getD}
 use Rattle.base.specs.declared.config.Config.{Config}
@@ -13,12 +12,11 @@ use Rattle.base.proofs.Bits.{bit-shr, bit-word}
 use Rattle.arbiter.specs.Arbiter.{ofNarrow, ofWide, choice}
 use Rattle.arbiter.proofs.ByKind.{choice-same}
 use Rattle.arbiter.proofs.Winners.{winner-asks}
-use Rattle.state.specs.declared.InVc.{InVc}
-use Rattle.state.specs.declared.InputVc.{InputVc}
 use Rattle.state.specs.declared.Router.{Router}
 use Rattle.state.specs.Fresh.{freshInput, pastNarrow, pastWide}
-use Rattle.state.specs.Views.{channel, places}
-use Rattle.rules.specs.Allocation.{asks, freeVc, granted, Grant, grantOf, isReady, ready, inputPick, picked, request, outputPick, vcOf, winning, winner}
+use Rattle.state.specs.Views.{channelNumber, places}
+use Rattle.rules.specs.Allocation.{asks, freeVc, granted, grantOf, isReady, ready, inputPick, picked, request, outputPick, vcOf}
+use Rattle.rules.specs.Allocation.{winning, winner}
 use Rattle.rules.proofs.Channels.{channel-below}
 use Rattle.router.specs.declared.allocation.Granted.{Granted}
 use Rattle.router.specs.Grants.{grantAt}
@@ -58,8 +56,9 @@ module _ (s : Router) (few : s .config .ports ≤ 8) where
       (ofNarrow (getD (s .arbiters .inputs) i pastNarrow))
       (λ v l.
       bit-shr set (i * c .vcs) v
-      ∙ ap (λ (w : ℕ). bit w (channel c i v)) e
-      ∙ bit-word (λ (x : ℕ). isReady c (s .outputs) (getD (s .inputs) x (freshInput 0))) wide (channel c i v) (channel-below c i v h l))
+      ∙ ap (λ (w : ℕ). bit w (channelNumber c i v)) e
+      ∙ bit-word (λ (x : ℕ). isReady c (s .outputs) (getD (s .inputs) x (freshInput 0))) wide (channelNumber c i v)
+      (channel-below c i v h l))
 
   module _ (picks : List ℕ) (agree : (i : ℕ) → i < c .ports → pickIn picks i ≡ inputPick s i) where
     -- the table
@@ -89,5 +88,6 @@ module _ (s : Router) (few : s .config .ports ≤ 8) where
         go : (w : Option ℕ) → outputPick s o ≡ w → vcOf (pickIn picks) w ≡ vcOf (inputPick s) w
         go none e = refl
         go (some i) e =
-            let low = winner-asks 8 (c .arbiter) (c .ports) (λ (i : ℕ). request s i o) (ofNarrow (getD (s .arbiters .outputs) o pastNarrow)) i e .0 in
+            let low = winner-asks 8 (c .arbiter) (c .ports) (λ (i : ℕ). request s i o)
+            (ofNarrow (getD (s .arbiters .outputs) o pastNarrow)) i e .0 in
             ap (winning i) (agree i low)

@@ -64,7 +64,8 @@ module _ (b : Binding) (store : List ℕ) (x queued : ℕ) where
         ∙ ap (λ (f : Flit). f ∷ rest) (front-there store x there)
 
     front-is : (o : ℕ)
-        → frontIsFor o (queueAt store (firstSlot x) queued) ≡ (startsKind (kindOf (frontOf store x)) && eqb (destinationOf (frontOf store x)) o)
+        → frontIsFor o (queueAt store (firstSlot x) queued) ≡
+        (startsKind (kindOf (frontOf store x)) && eqb (destinationOf (frontOf store x)) o)
     front-is o = ap (frontIsFor o) front-first
 
     -- nor one whose front flit is no first

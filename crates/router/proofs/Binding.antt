@@ -4,18 +4,17 @@ use mathlib.Core.Path.{_≡_, refl, sym, ap, _∙_}
 use mathlib.Core.List.{List}
 use mathlib.Core.Option.{Option, some, none}
 use Prim.Native.Nat.{ℕ, zero, suc, _-_, _/_, _%_, _≤_}
-use native.Mathlib.Omega.{arith}
 use lib.ListN.{length, getD, set, length-set}
 use lib.Seq.{set-out, set-getD}
 use Rattle.base.specs.declared.config.Config.{Config}
 use Rattle.arbiter.specs.declared.Wide.{Wide}
-use Rattle.arbiter.specs.Arbiter.{Arbiter, ofWide, moved, after}
+use Rattle.arbiter.specs.Arbiter.{Arbiter, ofWide, moved, after, asWide}
 use Rattle.state.specs.declared.InputVc.{InputVc}
 use Rattle.state.specs.declared.OutputVc.{OutputVc}
-use Rattle.state.specs.Fresh.{freshInput, asWide, pastWide}
-use Rattle.state.specs.Views.{channel, outputAt}
-use Rattle.rules.specs.Ports.{overPorts, named}
-use Rattle.rules.specs.Allocation.{Grant, Names, boundTo, heldBy, boundBy, bindings, requesterOf}
+use Rattle.state.specs.Fresh.{freshInput, pastWide}
+use Rattle.state.specs.Views.{channelNumber, outputAt}
+use Rattle.rules.specs.Ports.{overPorts}
+use Rattle.rules.specs.Allocation.{Grant, Vcs, bindTo, heldBy, boundBy, bindings, requesterOf}
 use Rattle.rules.proofs.Folds.{over-keeps}
 use Rattle.rules.proofs.Named.{named-some}
 use Rattle.router.specs.declared.allocation.Granted.{Granted}
@@ -45,7 +44,7 @@ inputs-long made b n =
   where
     go : (t : List InputVc) (g : Option Grant) (o : ℕ) → length t ≡ length b → length (inputBound o g t) ≡ length b
     go t none o e = e
-    go t (some g) o e = length-set t (g .requester) (boundTo o (g .vc) (getD t (g .requester) (freshInput 0))) ∙ e
+    go t (some g) o e = length-set t (g .requester) (bindTo o (g .vc) (getD t (g .requester) (freshInput 0))) ∙ e
 
 pub outputs-long : (c : Config) (made : List Granted) (b : List OutputVc) (n : ℕ) → length (overPorts n (outputTurn c made) b) ≡ length b
 outputs-long c made b n =
@@ -54,7 +53,7 @@ outputs-long c made b n =
     go : (t : List OutputVc) (g : Option Grant) (o : ℕ) → length t ≡ length b → length (outputHeld c o g t) ≡ length b
     go t none o e = e
     go t (some g) o e =
-        length-set t (channel c o (g .vc)) (heldBy (g .requester / c .vcs) (g .requester % c .vcs) (outputAt c t o (g .vc))) ∙ e
+        length-set t (channelNumber c o (g .vc)) (heldBy (g .requester / c .vcs) (g .requester % c .vcs) (outputAt c t o (g .vc))) ∙ e
 
 module _ (g : Granted) (o : ℕ) (inputs : List InputVc) where
   -- nothing is granted
@@ -63,26 +62,27 @@ module _ (g : Granted) (o : ℕ) (inputs : List InputVc) where
 
   -- a requester is bound
   pub input-some : (g .requester ≡ 0 → ⊥)
-      → set inputs (g .requester - 1) (boundTo o (g .vc) (getD inputs (g .requester - 1) (freshInput 0))) ≡ inputBound o (grantIn g) inputs
+      → set inputs (g .requester - 1) (bindTo o (g .vc) (getD inputs (g .requester - 1) (freshInput 0))) ≡ inputBound o (grantIn g) inputs
   input-some n = rw (named-some (g .requester) n)
 
   -- a requester that there is not changes nothing
   pub input-out : (g .requester ≡ 0 → ⊥) → length inputs ≤ g .requester - 1 → inputs ≡ inputBound o (grantIn g) inputs
   input-out n l =
-      sym (set-out inputs (g .requester - 1) (boundTo o (g .vc) (getD inputs (g .requester - 1) (freshInput 0))) l) ∙ input-some n
+      sym (set-out inputs (g .requester - 1) (bindTo o (g .vc) (getD inputs (g .requester - 1) (freshInput 0))) l) ∙ input-some n
 
 module _ (c : Config) (g : Granted) (o : ℕ) (outputs : List OutputVc) where
   pub output-none : g .requester ≡ 0 → outputs ≡ outputHeld c o (grantIn g) outputs
   output-none e = rw e
 
   pub output-some : (g .requester ≡ 0 → ⊥)
-      → set outputs (channel c o (g .vc)) (heldBy ((g .requester - 1) / c .vcs) ((g .requester - 1) % c .vcs) (outputAt c outputs o (g .vc)))
+      → set outputs (channelNumber c o (g .vc)) (heldBy ((g .requester - 1) / c .vcs) ((g .requester - 1) % c .vcs)
+      (outputAt c outputs o (g .vc)))
       ≡ outputHeld c o (grantIn g) outputs
   output-some n = rw (named-some (g .requester) n)
 
-  pub output-out : (g .requester ≡ 0 → ⊥) → length outputs ≤ channel c o (g .vc) → outputs ≡ outputHeld c o (grantIn g) outputs
+  pub output-out : (g .requester ≡ 0 → ⊥) → length outputs ≤ channelNumber c o (g .vc) → outputs ≡ outputHeld c o (grantIn g) outputs
   output-out n l =
-      sym (set-out outputs (channel c o (g .vc)) (heldBy ((g .requester - 1) / c .vcs) ((g .requester - 1) % c .vcs)
+      sym (set-out outputs (channelNumber c o (g .vc)) (heldBy ((g .requester - 1) / c .vcs) ((g .requester - 1) % c .vcs)
       (outputAt c outputs o (g .vc))) l)
       ∙ output-some n
 
@@ -98,13 +98,13 @@ module _ (code n : ℕ) (g : Granted) (o : ℕ) (vcs : List Wide) where
   arbiter-some r z e = rw (named-some (g .requester) z) (ap (λ (a : Arbiter). set vcs o (asWide a)) e)
 
 -- the two lists are bound apart
-both-bound : (c : Config) (o : ℕ) (g : Option Grant) (n : Names)
-    → _≡_ {A = Names} (record { inputs = inputBound o g (n .inputs); outputs = outputHeld c o g (n .outputs) }) (boundBy c o g n)
+both-bound : (c : Config) (o : ℕ) (g : Option Grant) (n : Vcs)
+    → _≡_ {A = Vcs} (record { inputs = inputBound o g (n .inputs); outputs = outputHeld c o g (n .outputs) }) (boundBy c o g n)
 both-bound c o none n = refl
 both-bound c o (some g) n = refl
 
-so-far-apart : (c : Config) (grant : ℕ → Option Grant) (n : Names) (k : ℕ)
-    → _≡_ {A = Names}
+so-far-apart : (c : Config) (grant : ℕ → Option Grant) (n : Vcs) (k : ℕ)
+    → _≡_ {A = Vcs}
     (record {
       inputs = overPorts k (λ inputs o. inputBound o (grant o) inputs) (n .inputs);
       outputs = overPorts k (λ outputs o. outputHeld c o (grant o) outputs) (n .outputs);
@@ -113,12 +113,12 @@ so-far-apart : (c : Config) (grant : ℕ → Option Grant) (n : Names) (k : ℕ)
 unfolding overPorts
 so-far-apart c grant n zero = refl
 so-far-apart c grant n (suc k) =
-    ap (λ (m : Names). apart m) (so-far-apart c grant n k) ∙ both-bound c k (grant k) (overPorts k (λ n o. boundBy c o (grant o) n) n)
+    ap (λ (m : Vcs). apart m) (so-far-apart c grant n k) ∙ both-bound c k (grant k) (overPorts k (λ n o. boundBy c o (grant o) n) n)
   where
-    apart : Names → Names
+    apart : Vcs → Vcs
     apart m = record { inputs = inputBound k (grant k) (m .inputs); outputs = outputHeld c k (grant k) (m .outputs) }
 
-pub bindings-apart : (c : Config) (grant : ℕ → Option Grant) (n : Names)
-    → _≡_ {A = Names} (record { inputs = inputsBound c grant (n .inputs); outputs = outputsHeld c grant (n .outputs) }) (bindings c grant n)
+pub bindings-apart : (c : Config) (grant : ℕ → Option Grant) (n : Vcs)
+    → _≡_ {A = Vcs} (record { inputs = inputsBound c grant (n .inputs); outputs = outputsHeld c grant (n .outputs) }) (bindings c grant n)
 unfolding bindings inputsBound outputsHeld
 bindings-apart c grant n = so-far-apart c grant n (c .ports)

@@ -4,7 +4,7 @@ use mathlib.Core.Path.{_≡_, refl, sym, ap, _∙_}
 use mathlib.Core.Bool.{Bool, true, false, cond}
 use mathlib.Core.List.{List}
 use mathlib.Core.Option.{Option, some, none, Option·none-ne-some}
-use Prim.Native.Nat.{ℕ, zero, suc, _+_, _*_, _/_, _^_, _<_}
+use Prim.Native.Nat.{ℕ, suc, _+_, _*_, _/_, _^_, _<_}
 use native.Mathlib.Nat.{suc-mul, zero-mul, div-one}
 use native.Mathlib.Omega.{arith}
 use lib.Dec.{eqb}
@@ -24,7 +24,6 @@ use Rattle.arbiter.specs.Arbiter.{Arbiter, ofNarrow, usable, choice}
 use Rattle.arbiter.proofs.ByKind.{known-is, usable-is}
 use Rattle.arbiter.proofs.Winners.{winner-asks}
 use Rattle.state.specs.Fresh.{pastNarrow}
-use Rattle.rules.proofs.Named.{named-some}
 use Rattle.rules.specs.Ports.{named}
 use Rattle.router.specs.Picks.{pickIn}
 

@@ -15,12 +15,13 @@ use borrow.Author.Tests.{eqb-true, eqb-false, eq-eqb, ne-eqb}
 use Rattle.base.specs.declared.config.Config.{Config}
 use Rattle.base.specs.Bits.{bit, wordOf}
 use Rattle.base.proofs.Bits.{bit-word}
+use Rattle.base.proofs.Lists.{getD-zeros}
 use Rattle.arbiter.specs.declared.Narrow.{Narrow}
 use Rattle.arbiter.specs.Arbiter.{ofNarrow, choice}
 use Rattle.arbiter.proofs.ByKind.{choice-same}
 use Rattle.state.specs.declared.InputVc.{InputVc}
 use Rattle.state.specs.Fresh.{freshInput, pastNarrow}
-use Rattle.state.specs.Views.{channel}
+use Rattle.state.specs.Views.{channelNumber}
 use Rattle.rules.specs.Allocation.{isFor, picked}
 use Rattle.rules.proofs.Named.{named-some}
 use Rattle.rules.specs.Ports.{named}
@@ -31,7 +32,7 @@ module _ (c : Config) (inputs : List InputVc) (i pick : ℕ) where
   pub no-pick : pick ≡ 0 → (o : ℕ) → o < 8 → eqb 8 o ≡ picked c inputs i o (named pick)
   no-pick e o h = ne-eqb 8 o (omega arith) ∙ sym (ap (λ (p : ℕ). picked c inputs i o (named p)) e)
 
-  module _ (some-pick : pick ≡ 0 → ⊥) (v : ℕ) (vc : v ≡ pick - 1) (x : ℕ) (at : x ≡ channel c i v) where
+  module _ (some-pick : pick ≡ 0 → ⊥) (v : ℕ) (vc : v ≡ pick - 1) (x : ℕ) (at : x ≡ channelNumber c i v) where
     -- a pick asks where its VC is bound
     asks-as-bound : (o : ℕ) → isFor o (getD inputs x (freshInput 0) .binding) ≡ picked c inputs i o (named pick)
     asks-as-bound o = rw (named-some pick some-pick, sym vc, at)
@@ -63,14 +64,9 @@ pub record RowsSoFar (c : Config) (inputs : List InputVc) (picks : List ℕ) (ta
   pub blank : (j o : ℕ) → i ≤ j → getD (getD table j []) o 0 ≡ 0
 
 -- nothing is in the empty table
-pub blank-row : (n o : ℕ) → _≡_ {A = ℕ} (getD (replicate n 0) o 0) 0
-blank-row zero o = refl
-blank-row (suc n) zero = refl
-blank-row (suc n) (suc o) = blank-row n o
-
 pub blank-rows : (n j o : ℕ) → _≡_ {A = ℕ} (getD (getD (replicate n (replicate 8 0)) j []) o 0) 0
 blank-rows zero j o = refl
-blank-rows (suc n) zero o = blank-row 8 o
+blank-rows (suc n) zero o = getD-zeros 8 o
 blank-rows (suc n) (suc j) o = blank-rows n j o
 
 -- the empty table
@@ -121,10 +117,12 @@ module _ (c : Config) (inputs : List InputVc) (picks : List ℕ) (table : List (
         go : (b : Bool) → eqb r o ≡ b → not (eqb (getD row o 0) 0) ≡ picked c inputs i o (pickIn picks i)
         go true e =
             let q : r ≡ o = eqb-true r o e in
-            let v : getD row o 0 ≡ getD picks i 0 = rw (sym q) (getD-set-same (getD table i []) r (getD picks i 0) 0 (rw (s .wide i low) h)) in
+            let v : getD row o 0 ≡ getD picks i 0 = rw (sym q)
+            (getD-set-same (getD table i []) r (getD picks i 0) 0 (rw (s .wide i low) h)) in
             ap (λ (x : ℕ). not (eqb x 0)) v ∙ ap not (ne-eqb (getD picks i 0) 0 has-pick) ∙ sym e ∙ asked o g
         go false e =
-            let v : getD row o 0 ≡ 0 = getD-set-other (getD table i []) r o (getD picks i 0) 0 (λ q. eqb-false r o e (sym q)) ∙ s .blank i o (le-refl i) in
+            let v : getD row o 0 ≡ 0 = getD-set-other (getD table i []) r o (getD picks i 0) 0 (λ q. eqb-false r o e (sym q))
+            ∙ s .blank i o (le-refl i) in
             ap (λ (x : ℕ). not (eqb x 0)) v ∙ sym e ∙ asked o g
 
     -- it asks: its pick stands in the row
@@ -141,7 +139,8 @@ module _ (c : Config) (inputs : List InputVc) (picks : List ℕ) (table : List (
       where
         wide-next : (j : ℕ) → j < 8 → (b : Bool) → eqb j i ≡ b → length (getD next j []) ≡ 8
         wide-next j l true e =
-            ap (λ (k : ℕ). length (getD next k [])) (eqb-true j i e) ∙ ap length own ∙ length-set (getD table i []) r (getD picks i 0) ∙ s .wide i low
+            ap (λ (k : ℕ). length (getD next k [])) (eqb-true j i e) ∙ ap length own ∙ length-set (getD table i []) r (getD picks i 0)
+            ∙ s .wide i low
         wide-next j l false e = ap length (other j (eqb-false j i e)) ∙ s .wide j l
 
 -- which row output o picks

@@ -22,11 +22,11 @@ use Rattle.state.specs.declared.InputVc.{InputVc}
 use Rattle.state.specs.declared.OutputVc.{OutputVc}
 use Rattle.state.specs.Fresh.{freshInput, freshOutput}
 use Rattle.store.specs.Store.{frontOf, popped}
-use Rattle.state.specs.Views.{channel}
+use Rattle.state.specs.Views.{channelNumber}
 use Rattle.rules.specs.Ports.{overPorts}
 use Rattle.rules.specs.Intake.{newest}
 use Rattle.rules.specs.Allocation.{vcOf}
-use Rattle.rules.specs.Departures.{Leaving, inputLeft, outputLeft, departure, leaves, leavesBy}
+use Rattle.rules.specs.Departures.{Leaving, inputLeft, outputLeft, departure, goesOut, leavesBy}
 use Rattle.rules.proofs.Folds.{over-keeps}
 use Rattle.router.specs.Picks.{pickIn}
 use Rattle.rules.proofs.Named.{named-some}
@@ -49,13 +49,13 @@ module _ (c : Config) (rows picks : List ℕ) (l : Leaving) (o : ℕ) where
 
   -- the winner is VC v of input i, on channel x
   module _ (i v x : ℕ) (n : getD rows o 0 ≡ 0 → ⊥) (e : i ≡ getD rows o 0 - 1) (m : getD picks i 0 ≡ 0 → ⊥) (f : v ≡ getD picks i 0 - 1)
-      (h : x ≡ channel c i v) where
+      (h : x ≡ channelNumber c i v) where
     won : win rows picks o ≡ some (record { input = i; vc = v })
     won = rw (named-some (getD rows o 0) n, sym e, named-some (getD picks i 0) m, sym f)
 
     -- a winner that is not bound stays; there is none in a sound router
     pub not-bound : getD (l .inputs) x (freshInput 0) .binding ≡ Unbound → l ≡ leaveTurn c rows picks l o
-    not-bound u = let w : getD (l .inputs) (channel c i v) (freshInput 0) .binding ≡ Unbound = rw (sym h) u in rw (won, w)
+    not-bound u = let w : getD (l .inputs) (channelNumber c i v) (freshInput 0) .binding ≡ Unbound = rw (sym h) u in rw (won, w)
 
     -- a winner on no channel that there is
     pub no-channel : length (l .inputs) ≤ x → l ≡ leaveTurn c rows picks l o
@@ -66,7 +66,7 @@ module _ (c : Config) (rows picks : List ℕ) (l : Leaving) (o : ℕ) where
         {report : Output} {w y : ℕ} (el : last ≡ endsKind (kindOf (frontOf (l .store) x)))
         (ei : input ≡ inputLeft last (getD (l .inputs) x (freshInput 0)))
         (er : report ≡ departure (b .vc) i v (frontOf (l .store) x)) (es : store ≡ popped (l .store) x)
-        (eh : home ≡ set (l .home) (newest (c .back) i) (getD picks i 0)) (ew : w ≡ b .vc) (ey : y ≡ channel c o w) where
+        (eh : home ≡ set (l .home) (newest (c .back) i) (getD picks i 0)) (ew : w ≡ b .vc) (ey : y ≡ channelNumber c o w) where
       abbrev gone : List OutputVc → Leaving
       gone outputs =
           record { inputs = set (l .inputs) x input; outputs = outputs; store = store; home = home; left = set (l .left) o report }
@@ -74,7 +74,7 @@ module _ (c : Config) (rows picks : List ℕ) (l : Leaving) (o : ℕ) where
       pub leaves-now : {output : OutputVc} → output ≡ outputLeft last (getD (l .outputs) y (freshOutput 0))
           → gone (set (l .outputs) y output) ≡ leaveTurn c rows picks l o
       leaves-now et =
-          let p : getD (l .inputs) (channel c i v) (freshInput 0) .binding ≡ Bound b = rw (sym h) u in
+          let p : getD (l .inputs) (channelNumber c i v) (freshInput 0) .binding ≡ Bound b = rw (sym h) u in
           let q : getD picks i 0 ≡ v + 1 = omega arith in rw (won, p, et, ei, er, es, eh, el, ey, ew, q, h)
 
       -- its output VC is none that there is
@@ -86,13 +86,13 @@ module _ (c : Config) (rows picks : List ℕ) (l : Leaving) (o : ℕ) where
 abbrev pub place : Config → List ℕ → List ℕ → ℕ → ℕ
 place c rows picks o =
     cond (eqb (getD rows o 0) 0) 32
-    (cond (eqb (getD picks (getD rows o 0 - 1) 0) 0) 32 (channel c (getD rows o 0 - 1) (getD picks (getD rows o 0 - 1) 0 - 1)))
+    (cond (eqb (getD picks (getD rows o 0 - 1) 0) 0) 32 (channelNumber c (getD rows o 0 - 1) (getD picks (getD rows o 0 - 1) 0 - 1)))
 
 -- there is a winner at output o, and x is its channel
 pub record Won (c : Config) (rows picks : List ℕ) (o x : ℕ) : Type 0 where
   pub row : getD rows o 0 ≡ 0 → ⊥
   pub pick : getD picks (getD rows o 0 - 1) 0 ≡ 0 → ⊥
-  pub on : x ≡ channel c (getD rows o 0 - 1) (getD picks (getD rows o 0 - 1) 0 - 1)
+  pub on : x ≡ channelNumber c (getD rows o 0 - 1) (getD picks (getD rows o 0 - 1) 0 - 1)
 
 module _ (c : Config) (rows picks : List ℕ) (o : ℕ) where
   pub place-no-row : getD rows o 0 ≡ 0 → 32 ≡ place c rows picks o
@@ -102,7 +102,8 @@ module _ (c : Config) (rows picks : List ℕ) (o : ℕ) where
   place-no-pick i n e p =
       let q : getD picks (getD rows o 0 - 1) 0 ≡ 0 = rw (sym e) p in rw (ne-eqb (getD rows o 0) 0 n, q)
 
-  pub place-won : (i v x : ℕ) → (getD rows o 0 ≡ 0 → ⊥) → i ≡ getD rows o 0 - 1 → (getD picks i 0 ≡ 0 → ⊥) → v ≡ getD picks i 0 - 1 → x ≡ channel c i v
+  pub place-won : (i v x : ℕ) → (getD rows o 0 ≡ 0 → ⊥) → i ≡ getD rows o 0 - 1 → (getD picks i 0 ≡ 0 → ⊥) → v ≡ getD picks i 0 - 1 → x
+      ≡ channelNumber c i v
       → x ≡ place c rows picks o
   place-won i v x n e m f h = rw (ne-eqb (getD rows o 0) 0 n, sym e, ne-eqb (getD picks i 0) 0 m, sym f, h)
 
@@ -114,16 +115,22 @@ module _ (c : Config) (rows picks : List ℕ) (o : ℕ) where
         by-row : (p : Bool) → eqb (getD rows o 0) 0 ≡ p → (q : Bool) → eqb (getD picks (getD rows o 0 - 1) 0) 0 ≡ q → Won c rows picks o x
         by-row true f q g = let k : x ≡ 32 = rw f at e in absurd (omega arith)
         by-row false f true g = let k : x ≡ 32 = rw (f, g) at e in absurd (omega arith)
-        by-row false f false g = record { row = eqb-false (getD rows o 0) 0 f; pick = eqb-false (getD picks (getD rows o 0 - 1) 0) 0 g; on = rw (f, g) at e }
+        by-row false f false g = record {
+          row = eqb-false (getD rows o 0) 0 f;
+          pick = eqb-false (getD picks (getD rows o 0 - 1) 0) 0 g;
+          on = rw (f, g) at e;
+        }
 
     -- with no winner on a channel that there is, all stays
     pub stays : (l : Leaving) → length (l .inputs) ≤ x → l ≡ leaveTurn c rows picks l o
     stays l h = by-row (eqb (getD rows o 0) 0) refl (eqb (getD picks (getD rows o 0 - 1) 0) 0) refl
       where
-        by-row : (p : Bool) → eqb (getD rows o 0) 0 ≡ p → (q : Bool) → eqb (getD picks (getD rows o 0 - 1) 0) 0 ≡ q → l ≡ leaveTurn c rows picks l o
+        by-row : (p : Bool) → eqb (getD rows o 0) 0 ≡ p → (q : Bool) → eqb (getD picks (getD rows o 0 - 1) 0) 0 ≡ q → l
+            ≡ leaveTurn c rows picks l o
         by-row true f q g = no-row c rows picks l o (eqb-true (getD rows o 0) 0 f)
         by-row false f true g =
-            no-pick c rows picks l o (getD rows o 0 - 1) (eqb-false (getD rows o 0) 0 f) refl (eqb-true (getD picks (getD rows o 0 - 1) 0) 0 g)
+            no-pick c rows picks l o (getD rows o 0 - 1) (eqb-false (getD rows o 0) 0 f) refl
+            (eqb-true (getD picks (getD rows o 0 - 1) 0) 0 g)
         by-row false f false g =
             no-channel c rows picks l o (getD rows o 0 - 1) (getD picks (getD rows o 0 - 1) 0 - 1) x (eqb-false (getD rows o 0) 0 f) refl
             (eqb-false (getD picks (getD rows o 0 - 1) 0) 0 g) refl (rw (f, g) at e) h
@@ -137,7 +144,8 @@ module _ (c : Config) (rows picks : List ℕ) (o : ℕ) where
       by false f = absurd (w .pick (List·getD-eq-default picks 0 (ltb-false _ _ f)))
 
 -- what the code's parts make of a flit that leaves: what is seen at the output, and the credit home
-pub let-go-seen : (row : ℕ) (picks : List ℕ) {r : Output} {w input i v : ℕ} {f g : Flit} → r ≡ departure w input v f → input ≡ row - 1 → i ≡ input
+pub let-go-seen : (row : ℕ) (picks : List ℕ) {r : Output} {w input i v : ℕ} {f g : Flit} → r ≡ departure w input v f → input ≡ row - 1
+    → i ≡ input
     → v ≡ getD picks i 0 - 1 → f ≡ g → r ≡ departure w (row - 1) (getD picks (row - 1) 0 - 1) g
 let-go-seen row picks er en ei ev ef = rw (er, ev, ei, en, ef)
 
@@ -149,7 +157,7 @@ let-go-home row home picks back en ei = rw (ei, en)
 left-long : (c : Config) (o : ℕ) (w : Option InVc) (l : Leaving) (n m : ℕ) → length (l .inputs) ≡ n → length (l .outputs) ≡ m
     → (length (leavesBy c o w l .inputs) ≡ n) × (length (leavesBy c o w l .outputs) ≡ m)
 left-long c o none l n m e f = (e, f)
-left-long c o (some x) l n m e f = go (getD (l .inputs) (channel c (x .input) (x .vc)) (freshInput 0) .binding)
+left-long c o (some x) l n m e f = go (getD (l .inputs) (channelNumber c (x .input) (x .vc)) (freshInput 0) .binding)
   where
     i : ℕ
     i = x .input
@@ -157,7 +165,7 @@ left-long c o (some x) l n m e f = go (getD (l .inputs) (channel c (x .input) (x
     v : ℕ
     v = x .vc
 
-    go : (b : Binding) → (length (leaves c o i v b l .inputs) ≡ n) × (length (leaves c o i v b l .outputs) ≡ m)
+    go : (b : Binding) → (length (goesOut c o i v b l .inputs) ≡ n) × (length (goesOut c o i v b l .outputs) ≡ m)
     go Unbound = (e, f)
     go (Bound b) = (length-set (l .inputs) _ _ ∙ e, length-set (l .outputs) _ _ ∙ f)
 

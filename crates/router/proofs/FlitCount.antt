@@ -15,20 +15,23 @@ use Rattle.listing.proofs.Counting.{flit-lines-more, flit-none, flit-one, cycle
 
 -- of the first n outputs so many have a flit, whatever the senders and the cycle
 abbrev pub CountIs : List Output → ℕ → ℕ → Type 0
-CountIs outputs n count = (senders : List Sender) (cycle : ℕ) → count ≡ flitLines (byPort (flitLine cycle (record { senders = senders; outputs = outputs })) n)
+CountIs outputs n count = (senders : List Sender) (cycle : ℕ) → count
+    ≡ flitLines (byPort (flitLine cycle (record { senders = senders; outputs = outputs })) n)
 
 module _ (outputs : List Output) where
   pub count-none : CountIs outputs 0 0
   unfolding byPort flitLines
   count-none senders cycle = refl
 
-  pub none-counted : (n count : ℕ) → getD outputs n (record { left = left.Nothing }) .left ≡ left.Nothing → CountIs outputs n count → CountIs outputs (n + 1) count
+  pub none-counted : (n count : ℕ) → getD outputs n (record { left = left.Nothing }) .left ≡ left.Nothing → CountIs outputs n count
+      → CountIs outputs (n + 1) count
   none-counted n count e h senders cycle =
       let f = flit-lines-more (flitLine cycle (record { senders = senders; outputs = outputs })) n in
       let g = flit-none cycle (record { senders = senders; outputs = outputs }) n e in
       let k = h senders cycle in omega (arith, f, g, k)
 
-  pub one-counted : (n count : ℕ) (d : Departure) → getD outputs n (record { left = left.Nothing }) .left ≡ left.Flit d → CountIs outputs n count → CountIs outputs (n + 1) (count + 1)
+  pub one-counted : (n count : ℕ) (d : Departure) → getD outputs n (record { left = left.Nothing }) .left ≡ left.Flit d
+      → CountIs outputs n count → CountIs outputs (n + 1) (count + 1)
   one-counted n count d e h senders cycle =
       let f = flit-lines-more (flitLine cycle (record { senders = senders; outputs = outputs })) n in
       let g = flit-one cycle (record { senders = senders; outputs = outputs }) n d e in

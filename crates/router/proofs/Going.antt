@@ -14,8 +14,8 @@ use borrow.Author.Tests.{ltb-true, ltb-false}
 use Rattle.state.specs.declared.Router.{Router}
 use Rattle.trace.specs.Bytes.{AreBytes}
 use Rattle.trace.specs.declared.place.Place.{Place}
-use Rattle.trace.specs.Blocks.{heldOf, cycleLength, cycleStart}
-use Rattle.trace.specs.Judged.{Outcome, nextPlace, judged}
+use Rattle.trace.specs.Blocks.{heldOf, cycleLength, cycleStart, partAt}
+use Rattle.trace.specs.Judged.{BlockOutcome, nextPlace, judged}
 use Rattle.trace.proofs.Found.{FoundAs, refuses, configures, holds, ends, is-over, found-as}
 use Rattle.listing.specs.Lines.{Line, finish, refusal, cycleLines, flitLines}
 use Rattle.listing.proofs.Lengths.{cycle-length}
@@ -26,18 +26,19 @@ use Rattle.rules.specs.declared.Stepped.{Stepped}
 use Rattle.rules.specs.Step.{stepOf}
 use Rattle.rules.proofs.StepSound.{accepted-after}
 use Rattle.rules.proofs.ChosenStep.{cycle-steps}
-use Rattle.router.specs.Running.{Writing, wrote, withPlace, withRouter, withFlits, onNight, finished, endedBy, byVerdict, cycled, partAt, cyclesFrom, byOutcome, blockTaken}
+use Rattle.router.specs.Running.{Writing, wrote, withPlace, withRouter, withFlits, onRun, finished, endedBy, byVerdict, cycled}
+use Rattle.router.specs.Running.{cyclesFrom, byOutcome, blockTaken}
 use Rattle.router.specs.Inside.{GoesOn}
 use Rattle.router.proofs.Writes.{Fitting, wrote-within, refusal-fits, finish-fits}
 
 -- the last line does no harm
 pub ended-goes-on : (line : Line) (w : Writing) → Fitting (line ∷ []) → GoesOn w → GoesOn (endedBy line w)
 unfolding endedBy wrote
-ended-goes-on line w fit g = record { sound = g .sound; few = g .few; room = wrote-within (onNight finished w) (line ∷ []) fit (g .room) }
+ended-goes-on line w fit g = record { sound = g .sound; few = g .few; room = wrote-within (onRun finished w) (line ∷ []) fit (g .room) }
 
 module _ (part : List ℕ) (bytes : AreBytes part) (w : Writing) (g : GoesOn w) where
   abbrev s : Router
-  s = w .night .router
+  s = w .run .router
 
   abbrev x : Stepped
   x = stepOf s part
@@ -46,7 +47,7 @@ module _ (part : List ℕ) (bytes : AreBytes part) (w : Writing) (g : GoesOn w) 
   unfolding cycled wrote
   cycled-goes-on = go (x .verdict) refl
     where
-      few : x .verdict ≡ Accepted → w .night .flits + flitLines (cycleLines (s .cycle) (x .reply)) ≤ 8 * x .router .cycle
+      few : x .verdict ≡ Accepted → w .run .flits + flitLines (cycleLines (s .cycle) (x .reply)) ≤ 8 * x .router .cycle
       few e =
           let l = g .few in
           let n = cycle-steps s part bytes e in
@@ -59,16 +60,18 @@ module _ (part : List ℕ) (bytes : AreBytes part) (w : Writing) (g : GoesOn w) 
           record {
             sound = accepted-after s part bytes e;
             few = few e;
-            room = wrote-within (onNight (λ n. withRouter (x .router) (withFlits (flitLines (cycleLines (n .router .cycle) (x .reply))) n)) w) (cycleLines (s .cycle) (x .reply)) (cycle-length (s .cycle) (x .reply)) (g .room);
+            room = wrote-within (onRun (λ n. withRouter (x .router)
+                (withFlits (flitLines (cycleLines (n .router .cycle) (x .reply))) n)) w) (cycleLines (s .cycle) (x .reply))
+                (cycle-length (s .cycle) (x .reply)) (g .room);
           }
       go (Refused r) e = ended-goes-on (refusal (r .number) (s .cycle) (r .port)) w (refusal-fits (r .number) (s .cycle) (r .port)) g
 
 -- a cycle leaves the place in the file
-pub cycled-place : (part : List ℕ) (w : Writing) → cycled part w .night .place ≡ w .night .place
+pub cycled-place : (part : List ℕ) (w : Writing) → cycled part w .run .place ≡ w .run .place
 unfolding cycled endedBy wrote
-cycled-place part w = go (stepOf (w .night .router) part .verdict)
+cycled-place part w = go (stepOf (w .run .router) part .verdict)
   where
-    go : (v : Verdict) → byVerdict v (stepOf (w .night .router) part) w .night .place ≡ w .night .place
+    go : (v : Verdict) → byVerdict v (stepOf (w .run .router) part) w .run .place ≡ w .run .place
     go Accepted = refl
     go (Refused r) = refl
 
@@ -87,47 +90,61 @@ pub cycles-go-on : (block : List ℕ) → AreBytes block → (n k : ℕ) (w : Wr
 unfolding cyclesFrom
 cycles-go-on block b zero k w g = g
 cycles-go-on block b (suc n) k w g =
-    either (w .night .over) (cycles-go-on block b n (k + 1) (cycled (partAt block k) w) (cycled-goes-on (partAt block k) (piece-bytes cycleLength (cycleStart k) block b) w g))
+    either (w .run .over) (cycles-go-on block b n (k + 1) (cycled (partAt block k) w)
+    (cycled-goes-on (partAt block k) (piece-bytes cycleLength (cycleStart k) block b) w g))
   where
-    either : (o : Bool) → GoesOn (cyclesFrom block (k + 1) n (cycled (partAt block k) w)) → GoesOn (cond o w (cyclesFrom block (k + 1) n (cycled (partAt block k) w)))
+    either : (o : Bool) → GoesOn (cyclesFrom block (k + 1) n (cycled (partAt block k) w))
+        → GoesOn (cond o w (cyclesFrom block (k + 1) n (cycled (partAt block k) w)))
     either true h = g
     either false h = h
 
 -- a block after the configuration block: what it was found to be
-module _ (block : List ℕ) (bytes : AreBytes block) (w : Writing) (configured : w .night .place .configured ≡ true) (g : GoesOn w) where
+module _ (block : List ℕ) (bytes : AreBytes block) (w : Writing) (configured : w .run .place .configured ≡ true) (g : GoesOn w) where
   abbrev p : Place
-  p = w .night .place
+  p = w .run .place
 
   abbrev moved : Place → Writing
-  moved q = onNight (withPlace q) w
+  moved q = onRun (withPlace q) w
 
   moved-goes-on : (q : Place) → GoesOn (moved q)
   moved-goes-on q = record { sound = g .sound; few = g .few; room = g .room }
 
   abbrev Kept : Writing → Type 0
-  Kept v = GoesOn v × (v .night .place .configured ≡ true)
+  Kept v = GoesOn v × (v .run .place .configured ≡ true)
 
-  cycles-configured : (n k : ℕ) (v : Writing) → v .night .place .configured ≡ true → cyclesFrom block k n v .night .place .configured ≡ true
+  cycles-configured : (n k : ℕ) (v : Writing) → v .run .place .configured ≡ true → cyclesFrom block k n v .run .place .configured ≡ true
   unfolding cyclesFrom
   cycles-configured zero k v e = e
-  cycles-configured (suc n) k v e = either (v .night .over) (cycles-configured n (k + 1) (cycled (partAt block k) v) (cycled-configured e))
+  cycles-configured (suc n) k v e = either (v .run .over) (cycles-configured n (k + 1) (cycled (partAt block k) v) (cycled-configured e))
     where
-      cycled-configured : v .night .place .configured ≡ true → cycled (partAt block k) v .night .place .configured ≡ true
+      cycled-configured : v .run .place .configured ≡ true → cycled (partAt block k) v .run .place .configured ≡ true
       cycled-configured f = ap (λ (q : Place). q .configured) (cycled-place (partAt block k) v) ∙ f
 
-      either : (o : Bool) → cyclesFrom block (k + 1) n (cycled (partAt block k) v) .night .place .configured ≡ true
-          → cond o v (cyclesFrom block (k + 1) n (cycled (partAt block k) v)) .night .place .configured ≡ true
+      either : (o : Bool) → cyclesFrom block (k + 1) n (cycled (partAt block k) v) .run .place .configured ≡ true
+          → cond o v (cyclesFrom block (k + 1) n (cycled (partAt block k) v)) .run .place .configured ≡ true
       either true h = e
       either false h = h
 
-  of-found : (o : Outcome) → FoundAs p (w .night .router .cycle) block o → Kept (byOutcome (o .read) o block w)
+  of-found : (o : BlockOutcome) → FoundAs p (w .run .router .cycle) block o → Kept (byOutcome (o .read) o block w)
   unfolding endedBy wrote
-  of-found _ (refuses n k) = (ended-goes-on (refusal n (w .night .router .cycle) k) w (refusal-fits n (w .night .router .cycle) k) g, configured)
+  of-found _ (refuses n k) = (
+    ended-goes-on (refusal n (w .run .router .cycle) k) w
+        (refusal-fits n (w .run .router .cycle) k) g,
+    configured,
+  )
   of-found _ (configures a b _) = absurd (true≢false (sym configured ∙ a))
-  of-found _ (holds a l h _) = (cycles-go-on block bytes (heldOf block) 0 (moved (nextPlace p block)) (moved-goes-on (nextPlace p block)), cycles-configured (heldOf block) 0 (moved (nextPlace p block)) refl)
+  of-found _ (holds a l h _) = (
+    cycles-go-on block bytes (heldOf block) 0 (moved (nextPlace p block))
+        (moved-goes-on (nextPlace p block)),
+    cycles-configured (heldOf block) 0 (moved (nextPlace p block)) refl,
+  )
   of-found _ (ends a _) = (moved-goes-on (nextPlace p block), refl)
-  of-found _ (is-over a) = (ended-goes-on (finish (w .night .router .cycle) (w .night .flits)) (moved p) (finish-fits (w .night .router .cycle) (w .night .flits)) (moved-goes-on p), configured)
+  of-found _ (is-over a) = (
+    ended-goes-on (finish (w .run .router .cycle) (w .run .flits)) (moved p)
+        (finish-fits (w .run .router .cycle) (w .run .flits)) (moved-goes-on p),
+    configured,
+  )
 
   pub block-goes-on : Kept (blockTaken block w)
   unfolding blockTaken
-  block-goes-on = of-found (judged p (w .night .router .cycle) block) (found-as p (w .night .router .cycle) block)
+  block-goes-on = of-found (judged p (w .run .router .cycle) block) (found-as p (w .run .router .cycle) block)

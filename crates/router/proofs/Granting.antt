@@ -40,7 +40,12 @@ module _ (c : Config) (outputs : List OutputVc) (o w : ℕ) (before : (k : ℕ) 
   unfolding freeVc
   free-found h e =
       rw (lt-ltb w (c .vcs) h)
-      (sym (first-at (free c outputs o) (c .vcs) 0 w (record { from = omega arith; below = omega arith; passes = e; before = λ j l g. before j g })))
+      (sym (first-at (free c outputs o) (c .vcs) 0 w (record {
+        from = omega arith;
+        below = omega arith;
+        passes = e;
+        before = λ j l g. before j g;
+      })))
 
   -- none is free
   pub free-none : c .vcs ≤ w → below (c .vcs) w ≡ freeVc c outputs o

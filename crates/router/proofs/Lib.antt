@@ -22,6 +22,7 @@ pub mod Phases
 pub mod SoundFits
 pub mod WholeCycle
 pub mod StepLaws
+pub mod Packing
 pub mod Writes
 pub mod Going
 pub mod Cycling

@@ -8,8 +8,8 @@ use lib.ListN.{getD, set}
 use lib.Seq.{set-getD}
 use Rattle.base.specs.declared.config.Config.{Config}
 use Rattle.arbiter.specs.declared.Narrow.{Narrow}
-use Rattle.arbiter.specs.Arbiter.{Arbiter, ofNarrow, moved, after}
-use Rattle.state.specs.Fresh.{asNarrow, pastNarrow}
+use Rattle.arbiter.specs.Arbiter.{Arbiter, ofNarrow, moved, after, asNarrow}
+use Rattle.state.specs.Fresh.{pastNarrow}
 use Rattle.router.specs.Picks.{pickIn}
 use Rattle.rules.proofs.Named.{named-some}
 

@@ -9,15 +9,14 @@ use native.Mathlib.Omega.{arith}
 use lib.ListN.{length, getD, set, length-set}
 use lib.Seq.{set-out}
 use Rattle.base.specs.declared.config.Config.{Config}
-use Rattle.base.specs.declared.flit.Flit.{Flit}
 use Rattle.base.specs.Flit.{flitOf}
 use Rattle.state.specs.declared.InputVc.{InputVc}
 use Rattle.state.specs.Fresh.{freshInput}
-use Rattle.state.specs.Views.{channel}
-use Rattle.trace.specs.Bytes.{byte, bigEndian}
+use Rattle.state.specs.Views.{channelNumber}
+use Rattle.trace.specs.Bytes.{byte}
 use Rattle.trace.proofs.Spelling.{four-spell, two-lt}
 use Rattle.rules.specs.Ports.{overPorts}
-use Rattle.rules.specs.Rows.{brings, kindAt, vcAt, destinationAt, payloadAt, flitAt}
+use Rattle.rules.specs.Rows.{brings, kindAt, vcAt, flitAt}
 use Rattle.rules.specs.Intake.{Senders, offerTaken, newest, onWire, takenAt}
 use Rattle.rules.proofs.Folds.{over-keeps}
 use Rattle.router.specs.declared.rows.Offer.{Offer}
@@ -62,26 +61,26 @@ module _ (c : Config) (part : List ℕ) (s : Senders) (i : ℕ) where
   pub take-none : offerAt part i ≡ none → s ≡ takenAt c part s i
   take-none e = rw (none-brought part i e)
 
-  pub take-some : (o : Offer) → offerAt part i ≡ some o → (x : ℕ) → x ≡ channel c i (o .vc)
+  pub take-some : (o : Offer) → offerAt part i ≡ some o → (x : ℕ) → x ≡ channelNumber c i (o .vc) → (vc : ℕ) → vc ≡ o .vc
+      → (y : InputVc) → y ≡ offerTaken (kindAt part i) (getD (s .inputs) x (freshInput 0))
       → _≡_ {A = Senders}
-      (record {
-        inputs = set (s .inputs) x (offerTaken (kindAt part i) (getD (s .inputs) x (freshInput 0)));
-        wire = set (s .wire) (newest (c .forward) i) (onWire (o .vc) (o .flit));
-      }) (takenAt c part s i)
-  take-some o e x h =
+      (record { inputs = set (s .inputs) x y; wire = set (s .wire) (newest (c .forward) i) (onWire vc (o .flit)) })
+      (takenAt c part s i)
+  take-some o e x h vc k y g =
       let q = some-brought part i o e in
       let v : o .vc ≡ vcAt part i = ap (λ (y : Offer). y .vc) (sym (q .1)) in
-      let f : o .flit ≡ flitAt part i = ap (λ (y : Offer). y .flit) (sym (q .1)) in rw (h, q .0, v, f)
+      let f : o .flit ≡ flitAt part i = ap (λ (y : Offer). y .flit) (sym (q .1)) in rw (g, k, h, q .0, v, f)
 
   -- a VC that there is not
-  pub take-out : (o : Offer) → offerAt part i ≡ some o → (x : ℕ) → x ≡ channel c i (o .vc) → length (s .inputs) ≤ x
-      → _≡_ {A = Senders} (record { inputs = s .inputs; wire = set (s .wire) (newest (c .forward) i) (onWire (o .vc) (o .flit)) })
+  pub take-out : (o : Offer) → offerAt part i ≡ some o → (x : ℕ) → x ≡ channelNumber c i (o .vc) → (vc : ℕ) → vc ≡ o .vc
+      → length (s .inputs) ≤ x
+      → _≡_ {A = Senders} (record { inputs = s .inputs; wire = set (s .wire) (newest (c .forward) i) (onWire vc (o .flit)) })
       (takenAt c part s i)
-  take-out o e x h l =
+  take-out o e x h vc k l =
       ap
-      (λ (t : List InputVc). record { inputs = t; wire = set (s .wire) (newest (c .forward) i) (onWire (o .vc) (o .flit)) })
+      (λ (t : List InputVc). record { inputs = t; wire = set (s .wire) (newest (c .forward) i) (onWire vc (o .flit)) })
       (sym (set-out (s .inputs) x (offerTaken (kindAt part i) (getD (s .inputs) x (freshInput 0))) l))
-      ∙ take-some o e x h
+      ∙ take-some o e x h vc k _ refl
 
 pub taken-long : (c : Config) (part : List ℕ) (s : Senders) (n : ℕ) → length (overPorts n (takenAt c part) s .inputs) ≡ length (s .inputs)
 taken-long c part s n =
@@ -90,11 +89,14 @@ taken-long c part s n =
     turn : Senders → ℕ → Senders
     turn t i =
         record {
-          inputs = set (t .inputs) (channel c i (vcAt part i)) (offerTaken (kindAt part i) (getD (t .inputs) (channel c i (vcAt part i)) (freshInput 0)));
+          inputs = set (t .inputs) (channelNumber c i (vcAt part i))
+              (offerTaken (kindAt part i) (getD (t .inputs) (channelNumber c i (vcAt part i)) (freshInput 0)));
           wire = set (t .wire) (newest (c .forward) i) (onWire (vcAt part i) (flitAt part i));
         }
 
-    go : (t : Senders) (i : ℕ) (b : Bool) → length (t .inputs) ≡ length (s .inputs) → length (cond b (turn t i) t .inputs) ≡ length (s .inputs)
+    go : (t : Senders) (i : ℕ) (b : Bool) → length (t .inputs) ≡ length (s .inputs) → length (cond b (turn t i) t .inputs)
+        ≡ length (s .inputs)
     go t i false e = e
     go t i true e =
-        length-set (t .inputs) (channel c i (vcAt part i)) (offerTaken (kindAt part i) (getD (t .inputs) (channel c i (vcAt part i)) (freshInput 0))) ∙ e
+        length-set (t .inputs) (channelNumber c i (vcAt part i)) (offerTaken (kindAt part i)
+        (getD (t .inputs) (channelNumber c i (vcAt part i)) (freshInput 0))) ∙ e

@@ -8,12 +8,14 @@ use Prim.Native.Nat.{ℕ, zero, suc, _+_, _-_, _≤_, _<_}
 use native.Mathlib.Nat.{le-refl, le-trans}
 use native.Mathlib.Omega.{arith}
 use lib.ListN.{length, take, drop}
-use Rattle.trace.specs.Judged.{Outcome, Read, aConfiguration, someCycles, theEnd, noMore, judged}
+use Rattle.trace.specs.Judged.{BlockOutcome, Read, aConfiguration, someCycles, theEnd, noMore, judged}
+use Rattle.trace.specs.Blocks.{partAt}
 use Rattle.listing.specs.Lines.{Line}
 use Rattle.rules.specs.declared.Verdict.{Verdict}
 use Rattle.rules.specs.declared.Verdict.the-variants.{Accepted, Refused}
 use Rattle.rules.specs.Step.{stepOf}
-use Rattle.router.specs.Running.{Writing, wrote, endedBy, byVerdict, cycled, partAt, cyclesFrom, byOutcome, blockTaken, blockAt, lacksBlockRoom, Call, goesOn}
+use Rattle.router.specs.Running.{Writing, wrote, endedBy, byVerdict, cycled, cyclesFrom, byOutcome, blockTaken, blockAt}
+use Rattle.router.specs.Running.{lacksBlockRoom, Call, goesOn}
 
 module _ (part : List ℕ) (n : ℕ) (c : Call) where
   abbrev next : Call
@@ -23,7 +25,7 @@ module _ (part : List ℕ) (n : ℕ) (c : Call) where
   unfolding goesOn
   goes-none e = rw e
 
-  pub goes-over : c .writing .night .over ≡ true → goesOn part n c ≡ c
+  pub goes-over : c .writing .run .over ≡ true → goesOn part n c ≡ c
   unfolding goesOn
   goes-over e = go n
     where
@@ -31,7 +33,7 @@ module _ (part : List ℕ) (n : ℕ) (c : Call) where
       go zero = refl
       go (suc m) = rw e
 
-  pub goes-full : c .writing .night .over ≡ false → lacksBlockRoom (c .writing .buffer) (c .writing .at) ≡ true → goesOn part n c ≡ c
+  pub goes-full : c .writing .run .over ≡ false → lacksBlockRoom (c .writing .buffer) (c .writing .at) ≡ true → goesOn part n c ≡ c
   unfolding goesOn
   goes-full e f = go n
     where
@@ -39,7 +41,8 @@ module _ (part : List ℕ) (n : ℕ) (c : Call) where
       go zero = refl
       go (suc m) = rw (e, f)
 
-pub goes-more : (part : List ℕ) (n : ℕ) (c : Call) → 0 < n → c .writing .night .over ≡ false → lacksBlockRoom (c .writing .buffer) (c .writing .at) ≡ false
+pub goes-more : (part : List ℕ) (n : ℕ) (c : Call) → 0 < n → c .writing .run .over ≡ false
+    → lacksBlockRoom (c .writing .buffer) (c .writing .at) ≡ false
     → goesOn part (n - 1) (next part n c) ≡ goesOn part n c
 unfolding goesOn
 goes-more part (suc n) c l e f = let g : suc n - 1 ≡ n = omega arith in rw (e, f, g)
@@ -50,9 +53,11 @@ same-take zero l = refl
 same-take (suc n) [] = refl
 same-take (suc n) (x ∷ l) = ap (λ (m : List ℕ). x ∷ m) (same-take n l)
 
-pub piece-is : (part : List ℕ) (from end : ℕ) → end ≡ from + length (blockAt part from) → take (end - from) (drop from part) ≡ blockAt part from
+pub piece-is : (part : List ℕ) (from end : ℕ) → end ≡ from + length (blockAt part from) → take (end - from) (drop from part)
+    ≡ blockAt part from
 piece-is part from end e =
-    let f : end - from ≡ length (blockAt part from) = omega (arith, e) in ap (λ (n : ℕ). take n (drop from part)) f ∙ same-take 512 (drop from part)
+    let f : end - from ≡ length (blockAt part from) = omega (arith, e) in
+    ap (λ (n : ℕ). take n (drop from part)) f ∙ same-take 512 (drop from part)
 
 -- the place only moves on
 wrote-on : (lines : List Line) (w : Writing) → w .at ≤ wrote lines w .at
@@ -65,9 +70,9 @@ ended-on line w = wrote-on (line ∷ []) _
 
 cycled-on : (part : List ℕ) (w : Writing) → w .at ≤ cycled part w .at
 unfolding cycled
-cycled-on part w = go (stepOf (w .night .router) part .verdict)
+cycled-on part w = go (stepOf (w .run .router) part .verdict)
   where
-    go : (v : Verdict) → w .at ≤ byVerdict v (stepOf (w .night .router) part) w .at
+    go : (v : Verdict) → w .at ≤ byVerdict v (stepOf (w .run .router) part) w .at
     go Accepted = wrote-on _ _
     go (Refused r) = ended-on _ w
 
@@ -75,7 +80,7 @@ cycles-on : (block : List ℕ) (n k : ℕ) (w : Writing) → w .at ≤ cyclesFro
 unfolding cyclesFrom
 cycles-on block zero k w = le-refl _
 cycles-on block (suc n) k w =
-    either (w .night .over) (le-trans (cycled-on (partAt block k) w) (cycles-on block n (k + 1) (cycled (partAt block k) w)))
+    either (w .run .over) (le-trans (cycled-on (partAt block k) w) (cycles-on block n (k + 1) (cycled (partAt block k) w)))
   where
     either : (o : Bool) → w .at ≤ cyclesFrom block (k + 1) n (cycled (partAt block k) w) .at
         → w .at ≤ cond o w (cyclesFrom block (k + 1) n (cycled (partAt block k) w)) .at
@@ -84,9 +89,9 @@ cycles-on block (suc n) k w =
 
 pub block-on : (block : List ℕ) (w : Writing) → w .at ≤ blockTaken block w .at
 unfolding blockTaken
-block-on block w = go (judged (w .night .place) (w .night .router .cycle) block)
+block-on block w = go (judged (w .run .place) (w .run .router .cycle) block)
   where
-    go : (o : Outcome) → w .at ≤ byOutcome (o .read) o block w .at
+    go : (o : BlockOutcome) → w .at ≤ byOutcome (o .read) o block w .at
     go o = which (o .read)
       where
         which : (r : Option Read) → w .at ≤ byOutcome r o block w .at
@@ -100,8 +105,10 @@ pub goes-on : (part : List ℕ) (n : ℕ) (c : Call) → c .writing .at ≤ goes
 unfolding goesOn
 goes-on part zero c = le-refl _
 goes-on part (suc n) c =
-    either (c .writing .night .over || lacksBlockRoom (c .writing .buffer) (c .writing .at)) (le-trans (block-on (blockAt part (c .used)) (c .writing)) (goes-on part n (next part n c)))
+    either (c .writing .run .over || lacksBlockRoom (c .writing .buffer) (c .writing .at))
+    (le-trans (block-on (blockAt part (c .used)) (c .writing)) (goes-on part n (next part n c)))
   where
-    either : (o : Bool) → c .writing .at ≤ goesOn part n (next part n c) .writing .at → c .writing .at ≤ cond o c (goesOn part n (next part n c)) .writing .at
+    either : (o : Bool) → c .writing .at ≤ goesOn part n (next part n c) .writing .at
+        → c .writing .at ≤ cond o c (goesOn part n (next part n c)) .writing .at
     either true h = le-refl _
     either false h = h

@@ -2,7 +2,7 @@
 -- Assumes nothing.
 use mathlib.Core.Path.{_≡_, refl, sym, ap, _∙_}
 use mathlib.Core.List.{List}
-use mathlib.Core.Option.{Option, some, none}
+use mathlib.Core.Option.{some, none}
 use Prim.Native.Nat.{ℕ, _+_, _-_, _*_, _≤_}
 use native.Mathlib.Omega.{arith}
 use lib.ListN.{length, getD, set}
@@ -11,7 +11,7 @@ use Rattle.base.specs.declared.reply.Sender.{Sender}
 use Rattle.state.specs.declared.InputVc.{InputVc}
 use Rattle.state.specs.declared.OutputVc.{OutputVc}
 use Rattle.state.specs.Fresh.{freshInput, freshOutput}
-use Rattle.state.specs.Views.{channel, homePlace}
+use Rattle.state.specs.Views.{channelNumber, homePlace}
 use Rattle.rules.specs.Rows.{creditAt}
 use Rattle.rules.proofs.Named.{named-some}
 use Rattle.rules.specs.Ports.{overPorts, named}
@@ -38,21 +38,24 @@ module _ (c : Config) (home : List ℕ) where
       (sym (place-is home i) ∙ sym e ∙ n)
 
   pub sender-some : (xs : List InputVc) (i p : ℕ) → p ≡ getD home i 0 → (p ≡ 0 → ⊥)
-      → turns.at (freshInput 0) senderPaid xs (channel c i (p - 1)) ≡ senderTurn c home xs i
+      → turns.at (freshInput 0) senderPaid xs (channelNumber c i (p - 1)) ≡ senderTurn c home xs i
   sender-some xs i p e =
-      turns.turn-some (freshInput 0) senderPaid c (homePlace home 0) (creditTo c) (λ i xs. refl) (λ i v xs. refl) xs i p (e ∙ place-is home i)
+      turns.turn-some (freshInput 0) senderPaid c (homePlace home 0) (creditTo c) (λ i xs. refl) (λ i v xs. refl) xs i p
+      (e ∙ place-is home i)
 
-  pub sender-out : (xs : List InputVc) (i p : ℕ) → p ≡ getD home i 0 → (p ≡ 0 → ⊥) → length xs ≤ channel c i (p - 1)
+  pub sender-out : (xs : List InputVc) (i p : ℕ) → p ≡ getD home i 0 → (p ≡ 0 → ⊥) → length xs ≤ channelNumber c i (p - 1)
       → xs ≡ senderTurn c home xs i
   sender-out xs i p e =
-      turns.turn-out (freshInput 0) senderPaid c (homePlace home 0) (creditTo c) (λ i xs. refl) (λ i v xs. refl) xs i p (e ∙ place-is home i)
+      turns.turn-out (freshInput 0) senderPaid c (homePlace home 0) (creditTo c) (λ i xs. refl) (λ i v xs. refl) xs i p
+      (e ∙ place-is home i)
 
   pub senders-long : (xs : List InputVc) (n : ℕ) → length (overPorts n (senderTurn c home) xs) ≡ length xs
   senders-long = turns.turns-long (freshInput 0) senderPaid c (homePlace home 0) (creditTo c) (λ i xs. refl) (λ i v xs. refl)
 
   pub senders-fit : (xs : List InputVc) (n : ℕ) → CreditsFit 16 xs → CreditsFit (16 + n) (overPorts n (senderTurn c home) xs)
   senders-fit xs n =
-      turns.turns-fit (freshInput 0) senderPaid c (homePlace home 0) (creditTo c) (λ i xs. refl) (λ i v xs. refl) (λ (x : InputVc). x .credit)
+      turns.turns-fit (freshInput 0) senderPaid c (homePlace home 0) (creditTo c) (λ i xs. refl) (λ i v xs. refl)
+      (λ (x : InputVc). x .credit)
       (λ x. omega arith) xs 16 n
 
 module _ (c : Config) (part : List ℕ) where
@@ -61,10 +64,11 @@ module _ (c : Config) (part : List ℕ) where
       turns.turn-none (freshOutput 0) outputPaid c (creditAt part) (creditFrom c) (λ o ys. refl) (λ o w ys. refl) ys o (sym e ∙ n)
 
   pub output-some : (ys : List OutputVc) (o p : ℕ) → p ≡ creditAt part o → (p ≡ 0 → ⊥)
-      → turns.at (freshOutput 0) outputPaid ys (channel c o (p - 1)) ≡ outputTurn c part ys o
-  output-some ys o p e = turns.turn-some (freshOutput 0) outputPaid c (creditAt part) (creditFrom c) (λ o ys. refl) (λ o w ys. refl) ys o p e
+      → turns.at (freshOutput 0) outputPaid ys (channelNumber c o (p - 1)) ≡ outputTurn c part ys o
+  output-some ys o p e = turns.turn-some (freshOutput 0) outputPaid c (creditAt part) (creditFrom c) (λ o ys. refl)
+      (λ o w ys. refl) ys o p e
 
-  pub output-out : (ys : List OutputVc) (o p : ℕ) → p ≡ creditAt part o → (p ≡ 0 → ⊥) → length ys ≤ channel c o (p - 1)
+  pub output-out : (ys : List OutputVc) (o p : ℕ) → p ≡ creditAt part o → (p ≡ 0 → ⊥) → length ys ≤ channelNumber c o (p - 1)
       → ys ≡ outputTurn c part ys o
   output-out ys o p e = turns.turn-out (freshOutput 0) outputPaid c (creditAt part) (creditFrom c) (λ o ys. refl) (λ o w ys. refl) ys o p e
 
@@ -73,7 +77,8 @@ module _ (c : Config) (part : List ℕ) where
 
   pub outputs-fit : (ys : List OutputVc) (n : ℕ) → OutputCreditsFit 16 ys → OutputCreditsFit (16 + n) (overPorts n (outputTurn c part) ys)
   outputs-fit ys n =
-      turns.turns-fit (freshOutput 0) outputPaid c (creditAt part) (creditFrom c) (λ o ys. refl) (λ o w ys. refl) (λ (y : OutputVc). y .credit)
+      turns.turns-fit (freshOutput 0) outputPaid c (creditAt part) (creditFrom c) (λ o ys. refl) (λ o w ys. refl)
+      (λ (y : OutputVc). y .credit)
       (λ y. omega arith) ys 16 n
 
 -- what a home place reports

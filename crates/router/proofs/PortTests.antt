@@ -12,7 +12,7 @@ use Rattle.base.specs.Flit.{startsKind}
 use Rattle.state.specs.declared.InputVc.{InputVc}
 use Rattle.state.specs.declared.OutputVc.{OutputVc}
 use Rattle.state.specs.Fresh.{freshInput, freshOutput}
-use Rattle.state.specs.Views.{channel}
+use Rattle.state.specs.Views.{channelNumber}
 use Rattle.rules.specs.Rows.{rowLegal, rowZero, kindAt, vcAt, creditAt}
 use Rattle.rules.specs.Numbers.{rowWrong, creditPastRoom, outOfTurn, noSenderCredit}
 
@@ -42,14 +42,14 @@ module _ (c : Config) (outputs : List OutputVc) (part : List ℕ) (o : ℕ) wher
   past-none e = rw e
 
   -- a credit for a VC that there is not
-  pub past-out : (k : ℕ) → k ≡ creditAt part o → (k ≡ 0 → ⊥) → (y : ℕ) → y ≡ channel c o (k - 1) → length outputs ≤ y
+  pub past-out : (k : ℕ) → k ≡ creditAt part o → (k ≡ 0 → ⊥) → (y : ℕ) → y ≡ channelNumber c o (k - 1) → length outputs ≤ y
       → eqb (c .downstream) 0 ≡ creditPastRoom c outputs part o
   unfolding creditPastRoom
   past-out k e n y g l =
       rw (← e, ne-eqb k 0 n, ← g, List·getD-eq-default outputs (freshOutput 0) l) (eqb-turned (c .downstream) 0)
 
   -- a credit for one that there is
-  pub past-in : (k : ℕ) → k ≡ creditAt part o → (k ≡ 0 → ⊥) → (y : ℕ) → y ≡ channel c o (k - 1)
+  pub past-in : (k : ℕ) → k ≡ creditAt part o → (k ≡ 0 → ⊥) → (y : ℕ) → y ≡ channelNumber c o (k - 1)
       → eqb (getD outputs y (freshOutput 0) .credit) (c .downstream) ≡ creditPastRoom c outputs part o
   unfolding creditPastRoom
   past-in k e n y g = rw (← e, ne-eqb k 0 n, ← g)
@@ -61,15 +61,15 @@ module _ (c : Config) (inputs : List InputVc) (part : List ℕ) (i k : ℕ) (kin
   turn-none e = rw (← kind, e)
 
   -- a flit on a VC that there is not
-  pub turn-out : (k ≡ 0 → ⊥) → (s : Bool) → s ≡ startsKind k → (v : ℕ) → v ≡ vcAt part i → (x : ℕ) → x ≡ channel c i v
+  pub turn-out : (k ≡ 0 → ⊥) → (s : Bool) → s ≡ startsKind k → (v : ℕ) → v ≡ vcAt part i → (x : ℕ) → x ≡ channelNumber c i v
       → length inputs ≤ x → not s ≡ outOfTurn c inputs part i
   unfolding outOfTurn
   turn-out n s e v f x g l =
       rw (← kind, ne-eqb k 0 n, ← e, ← f, ← g, List·getD-eq-default inputs (freshInput 0) l) (beq-false s)
 
   -- a flit on one that there is
-  pub turn-in : (k ≡ 0 → ⊥) → (s : Bool) → s ≡ startsKind k → (v : ℕ) → v ≡ vcAt part i → (x : ℕ) → x ≡ channel c i v
-      → Bool·beq s (getD inputs x (freshInput 0) .inside) ≡ outOfTurn c inputs part i
+  pub turn-in : (k ≡ 0 → ⊥) → (s : Bool) → s ≡ startsKind k → (v : ℕ) → v ≡ vcAt part i → (x : ℕ) → x ≡ channelNumber c i v
+      → Bool·beq s (getD inputs x (freshInput 0) .opened) ≡ outOfTurn c inputs part i
   unfolding outOfTurn
   turn-in n s e v f x g = rw (← kind, ne-eqb k 0 n, ← e, ← f, ← g)
 
@@ -79,13 +79,13 @@ module _ (c : Config) (inputs : List InputVc) (part : List ℕ) (i k : ℕ) (kin
   credit-none e = rw (← kind, e)
 
   -- a flit on a VC that there is not
-  pub credit-out : (k ≡ 0 → ⊥) → (v : ℕ) → v ≡ vcAt part i → (x : ℕ) → x ≡ channel c i v → length inputs ≤ x
+  pub credit-out : (k ≡ 0 → ⊥) → (v : ℕ) → v ≡ vcAt part i → (x : ℕ) → x ≡ channelNumber c i v → length inputs ≤ x
       → true ≡ noSenderCredit c inputs part i
   unfolding noSenderCredit
   credit-out n v f x g l = rw (← kind, ne-eqb k 0 n, ← f, ← g, List·getD-eq-default inputs (freshInput 0) l)
 
   -- a flit on one that there is
-  pub credit-in : (k ≡ 0 → ⊥) → (v : ℕ) → v ≡ vcAt part i → (x : ℕ) → x ≡ channel c i v
+  pub credit-in : (k ≡ 0 → ⊥) → (v : ℕ) → v ≡ vcAt part i → (x : ℕ) → x ≡ channelNumber c i v
       → eqb (getD inputs x (freshInput 0) .credit) 0 ≡ noSenderCredit c inputs part i
   unfolding noSenderCredit
   credit-in n v f x g = rw (← kind, ne-eqb k 0 n, ← f, ← g)

@@ -18,7 +18,7 @@ use Rattle.state.specs.declared.Binding.the-variants.{Unbound, Bound}
 use Rattle.state.specs.declared.InputVc.{InputVc}
 use Rattle.state.specs.declared.OutputVc.{OutputVc}
 use Rattle.state.specs.Fresh.{freshInput, freshOutput}
-use Rattle.state.specs.Views.{channel}
+use Rattle.state.specs.Views.{channelNumber}
 use Rattle.rules.specs.Allocation.{hasCredit, isReady}
 
 module _ (c : Config) (outputs : List OutputVc) (x : InputVc) where
@@ -34,12 +34,12 @@ module _ (c : Config) (outputs : List OutputVc) (x : InputVc) where
 
   module _ (to : OutVc) (b : x .binding ≡ Bound to) where
     -- something is queued: the credit decides
-    pub credit-decides : (x .queued ≡ 0 → ⊥) → (y : ℕ) → y ≡ channel c (to .output) (to .vc)
+    pub credit-decides : (x .queued ≡ 0 → ⊥) → (y : ℕ) → y ≡ channelNumber c (to .output) (to .vc)
         → not (eqb (getD outputs y (freshOutput 0) .credit) 0) ≡ isReady c outputs x
     unfolding isReady
     credit-decides n y e =
         rw (b, e, ne-eqb (x .queued) 0 n)
-        (sym (and-true (not (eqb (getD outputs (channel c (to .output) (to .vc)) (freshOutput 0) .credit) 0))))
+        (sym (and-true (not (eqb (getD outputs (channelNumber c (to .output) (to .vc)) (freshOutput 0) .credit) 0))))
 
 -- past the array there is no credit
 pub no-credit-past : (outputs : List OutputVc) (y : ℕ) → length outputs ≤ y → not (eqb (getD outputs y (freshOutput 0) .credit) 0) ≡ false

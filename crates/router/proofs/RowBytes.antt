@@ -39,7 +39,8 @@ module _ (part : List ℕ) (i : ℕ) where
   offer-none e = rw (kind-is part i, e)
 
   -- a row with one
-  pub offer-some : (byte part (8 * i) ≡ 0 → ⊥) → (p : ℕ) → p ≡ payloadAt part i → (f : Flit) → f ≡ flitOf (byte part (8 * i)) (byte part (8 * i + 2)) p
+  pub offer-some : (byte part (8 * i) ≡ 0 → ⊥) → (p : ℕ) → p ≡ payloadAt part i → (f : Flit) → f
+      ≡ flitOf (byte part (8 * i)) (byte part (8 * i + 2)) p
       → _≡_ {A = Option Offer} (some (record { vc = byte part (8 * i + 1); flit = f })) (offerAt part i)
   unfolding offerAt
   offer-some n p e f g = rw (kind-is part i, ne-eqb (byte part (8 * i)) 0 n, g, e)
@@ -93,14 +94,17 @@ module _ (c : Config) (part : List ℕ) (i : ℕ) where
   row-idle h k r e = rw (le-leb (byte part (8 * i + 3)) (c .vcs) h, kind-is part i, k) e
 
   -- a row with one
-  pub row-brings : byte part (8 * i + 3) ≤ c .vcs → (byte part (8 * i) ≡ 0 → ⊥) → (r : Bool) → r ≡ legalOffer c part i → r ≡ rowLegal c part i
+  pub row-brings : byte part (8 * i + 3) ≤ c .vcs → (byte part (8 * i) ≡ 0 → ⊥) → (r : Bool) → r ≡ legalOffer c part i → r
+      ≡ rowLegal c part i
   unfolding rowLegal
   row-brings h k r e = rw (le-leb (byte part (8 * i + 3)) (c .vcs) h, kind-is part i, ne-eqb (byte part (8 * i)) 0 k) e
 
   -- the row of a port that there is
-  pub breaks-legal : i < c .ports → (r : Bool) → r ≡ rowLegal c part i → not r ≡ not (cond (ltb i (c .ports)) (rowLegal c part i) (rowZero part i))
+  pub breaks-legal : i < c .ports → (r : Bool) → r ≡ rowLegal c part i → not r
+      ≡ not (cond (ltb i (c .ports)) (rowLegal c part i) (rowZero part i))
   breaks-legal h r e = rw (lt-ltb i (c .ports) h) (ap not e)
 
   -- the row of one that there is not
-  pub breaks-zero : c .ports ≤ i → (r : Bool) → r ≡ rowZero part i → not r ≡ not (cond (ltb i (c .ports)) (rowLegal c part i) (rowZero part i))
+  pub breaks-zero : c .ports ≤ i → (r : Bool) → r ≡ rowZero part i → not r
+      ≡ not (cond (ltb i (c .ports)) (rowLegal c part i) (rowZero part i))
   breaks-zero h r e = rw (le-ltb i (c .ports) h) (ap not e)

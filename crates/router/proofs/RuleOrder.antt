@@ -33,7 +33,8 @@ module _ (c : Config) (cycle : ℕ) (inputs paid : List InputVc) (outputs : List
   unfolding firstOf
   by-10 h = rw (full cycle h)
 
-  pub by-length : cycle < cycleLimit → (length part ≡ 64 → ⊥) → refusing numbers.rowWrong 0 ≡ firstOf (rulesFor c cycle inputs paid outputs part)
+  pub by-length : cycle < cycleLimit → (length part ≡ 64 → ⊥) → refusing numbers.rowWrong 0
+      ≡ firstOf (rulesFor c cycle inputs paid outputs part)
   unfolding firstOf
   by-length h n = rw (not-full cycle h, wrong-length c part n)
 

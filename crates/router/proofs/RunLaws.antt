@@ -19,54 +19,62 @@ use Rattle.state.proofs.FreshIsSound.{fresh-is-sound}
 use Rattle.trace.specs.declared.place.Place.{Place}
 use Rattle.trace.specs.Blocks.{configOf}
 use Rattle.trace.specs.Place.{goodPlace, withoutCycles, mayHold}
-use Rattle.trace.specs.Judged.{Outcome, judged}
+use Rattle.trace.specs.Judged.{BlockOutcome, judged}
 use Rattle.trace.proofs.Found.{FoundAs, refuses, configures, holds, ends, is-over, found-as}
-use Rattle.standing.specs.declared.Night.{Night}
-use Rattle.standing.specs.Night.{stoppedInside, placeRight, nightSound}
-use Rattle.router.specs.Running.{Writing, wrote, endedBy, byOutcome, blockTaken, lacksBlockRoom, blocksIn, goesOn, refusedWith, answered, ranOf}
+use Rattle.rules.proofs.Facts.{sound-legal}
+use Rattle.runs.specs.declared.Run.{Run}
+use Rattle.runs.specs.Run.{stoppedInside, placeRight, runSound}
+use Rattle.router.specs.Running.{Writing, wrote, endedBy, byOutcome, blockTaken, lacksBlockRoom, blocksIn, goesOn, refusedWith}
+use Rattle.router.specs.Running.{answered, ranOf}
 use Rattle.router.specs.Inside.{Within, Ongoing}
-use Rattle.router.proofs.SoundFits.{sound-sized}
 
-module _ (n : Night) (part buffer : List ℕ) (at : ℕ) where
+module _ (n : Run) (part buffer : List ℕ) (at : ℕ) where
   abbrev handed : Writing
-  handed = record { night = n; at = at; buffer = buffer }
+  handed = record { run = n; at = at; buffer = buffer }
 
-  pub run-unsound : nightSound n ≡ false → refusedWith notSound n buffer ≡ ranOf n part buffer at
+  pub run-unsound : runSound n ≡ false → refusedWith notSound n buffer ≡ ranOf n part buffer at
   unfolding ranOf
   run-unsound e = rw e
 
-  pub run-full : nightSound n ≡ true → lacksBlockRoom buffer at ≡ true → refusedWith noRoom n buffer ≡ ranOf n part buffer at
+  pub run-full : runSound n ≡ true → lacksBlockRoom buffer at ≡ true → refusedWith noRoom n buffer ≡ ranOf n part buffer at
   unfolding ranOf
   run-full e f = rw (e, f)
 
-  pub run-goes : nightSound n ≡ true → lacksBlockRoom buffer at ≡ false → (count : ℕ) → count ≡ blocksIn part
+  pub run-goes : runSound n ≡ true → lacksBlockRoom buffer at ≡ false → (count : ℕ) → count ≡ blocksIn part
       → answered at (goesOn part count (record { used = 0; writing = handed })) ≡ ranOf n part buffer at
   unfolding ranOf
   run-goes e f count g = rw (e, f, g)
 
   pub room-within : lacksBlockRoom buffer at ≡ false → length buffer < 18446744073709551616 → Within at buffer
   unfolding lacksBlockRoom
-  room-within e s = record { inside = ltb-false (length buffer) at (neither (ltb (length buffer) at) (ltb (length buffer - at) 3008) e .0); short = s }
+  room-within e s = record {
+    inside = ltb-false (length buffer) at (neither (ltb (length buffer) at) (ltb (length buffer - at) 3008) e .0);
+    short = s;
+  }
 
   -- after the configuration block
-  pub configured-ongoing : nightSound n ≡ true → n .place .configured ≡ true → Within at buffer → Ongoing handed
-  unfolding nightSound
+  pub configured-ongoing : runSound n ≡ true → n .place .configured ≡ true → Within at buffer → Ongoing handed
+  unfolding runSound
   configured-ongoing e f w =
       let r = both (placeRight (n .place) (n .router .cycle) (n .over))
-      (cond (n .place .configured) (sound (n .router) && leb (n .flits) (n .router .config .ports * n .router .cycle)) (blank (n .router) && eqb (n .flits) 0)) e .1 in
+      (cond (n .place .configured) (sound (n .router) && leb (n .flits) (n .router .config .ports * n .router .cycle))
+      (blank (n .router) && eqb (n .flits) 0)) e .1 in
       let b = both (sound (n .router)) (leb (n .flits) (n .router .config .ports * n .router .cycle))
-      (ap (λ (x : Bool). cond x (sound (n .router) && leb (n .flits) (n .router .config .ports * n .router .cycle)) (blank (n .router) && eqb (n .flits) 0)) (sym f) ∙ r) in
+      (ap (λ (x : Bool). cond x (sound (n .router) && leb (n .flits) (n .router .config .ports * n .router .cycle))
+      (blank (n .router) && eqb (n .flits) 0)) (sym f) ∙ r) in
       let s = passed-sound (n .router) (b .0) in
       λ o. (
         record {
           sound = s;
-          few = few (leb-true (n .flits) (n .router .config .ports * n .router .cycle) (b .1)) (mul-le-mul-right (n .router .cycle) (sound-sized (n .router) s .ports));
+          few = few (leb-true (n .flits) (n .router .config .ports * n .router .cycle) (b .1))
+              (mul-le-mul-right (n .router .cycle) (sound-legal (n .router) s .ports .1));
           room = w;
         },
         f,
       )
     where
-      few : n .flits ≤ n .router .config .ports * n .router .cycle → n .router .config .ports * n .router .cycle ≤ 8 * n .router .cycle → n .flits ≤ 8 * n .router .cycle
+      few : n .flits ≤ n .router .config .ports * n .router .cycle → n .router .config .ports * n .router .cycle ≤ 8 * n .router .cycle
+          → n .flits ≤ 8 * n .router .cycle
       few l m = omega (arith, l, m)
 
   -- before it nothing was accepted and nothing left
@@ -78,37 +86,49 @@ module _ (n : Night) (part buffer : List ℕ) (at : ℕ) where
   first-cycle e f =
       eqb-true (n .router .cycle) 0
       (both (not (p .ended) && eqb (p .number) 0) (eqb (n .router .cycle) 0)
-      (ap (λ (x : Bool). cond x (leb (withoutCycles p) (p .number) && mayHold (p .number - withoutCycles p) (n .router .cycle)) (not (p .ended) && eqb (p .number) 0 && eqb (n .router .cycle) 0)) (sym f) ∙ e) .1)
+      (ap (λ (x : Bool). cond x (leb (withoutCycles p) (p .number) && mayHold (p .number - withoutCycles p) (n .router .cycle))
+      (not (p .ended) && eqb (p .number) 0 && eqb (n .router .cycle) 0)) (sym f) ∙ e) .1)
 
-  no-flits : nightSound n ≡ true → p .configured ≡ false → n .flits ≡ 0
-  unfolding nightSound
+  no-flits : runSound n ≡ true → p .configured ≡ false → n .flits ≡ 0
+  unfolding runSound
   no-flits e f =
       eqb-true (n .flits) 0
       (both (blank (n .router)) (eqb (n .flits) 0)
-      (ap (λ (x : Bool). cond x (sound (n .router) && leb (n .flits) (n .router .config .ports * n .router .cycle)) (blank (n .router) && eqb (n .flits) 0)) (sym f)
+      (ap (λ (x : Bool). cond x (sound (n .router) && leb (n .flits) (n .router .config .ports * n .router .cycle))
+      (blank (n .router) && eqb (n .flits) 0)) (sym f)
       ∙ both (placeRight p (n .router .cycle) (n .over)) _ e .1) .1)
 
-  good-place : nightSound n ≡ true → n .over ≡ false → goodPlace p (n .router .cycle) ≡ true
-  unfolding nightSound placeRight
+  good-place : runSound n ≡ true → n .over ≡ false → goodPlace p (n .router .cycle) ≡ true
+  unfolding runSound placeRight
   good-place e o = go (goodPlace p (n .router .cycle)) refl
     where
       go : (b : Bool) → goodPlace p (n .router .cycle) ≡ b → b ≡ true
       go true g = refl
       go false g =
           absurd (true≢false (sym (both (placeRight p (n .router .cycle) (n .over)) _ e .0)
-          ∙ ap (λ (x : Bool). x || (n .over && stoppedInside p (n .router .cycle))) g ∙ ap (λ (x : Bool). x && stoppedInside p (n .router .cycle)) o))
+          ∙ ap (λ (x : Bool). x || (n .over && stoppedInside p (n .router .cycle))) g
+          ∙ ap (λ (x : Bool). x && stoppedInside p (n .router .cycle)) o))
 
-  pub unconfigured-none : nightSound n ≡ true → p .configured ≡ false → n .over ≡ false → (n .router .cycle ≡ 0) × (n .flits ≡ 0)
+  pub unconfigured-none : runSound n ≡ true → p .configured ≡ false → n .over ≡ false → (n .router .cycle ≡ 0) × (n .flits ≡ 0)
   unconfigured-none e f o = (first-cycle (good-place e o) f, no-flits e f)
 
 -- the first block leaves a run that can go on, or one that is over
-pub begun-ongoing : (block : List ℕ) (w : Writing) → w .night .place .configured ≡ false → w .night .flits ≡ 0 → Within (w .at) (w .buffer) → Ongoing (blockTaken block w)
+pub begun-ongoing : (block : List ℕ) (w : Writing) → w .run .place .configured ≡ false → w .run .flits ≡ 0
+    → Within (w .at) (w .buffer) → Ongoing (blockTaken block w)
 unfolding blockTaken endedBy wrote
-begun-ongoing block w f z i = go (judged (w .night .place) (w .night .router .cycle) block) (found-as (w .night .place) (w .night .router .cycle) block)
+begun-ongoing block w f z i = go (judged (w .run .place) (w .run .router .cycle) block)
+    (found-as (w .run .place) (w .run .router .cycle) block)
   where
-    go : (o : Outcome) → FoundAs (w .night .place) (w .night .router .cycle) block o → Ongoing (byOutcome (o .read) o block w)
+    go : (o : BlockOutcome) → FoundAs (w .run .place) (w .run .router .cycle) block o → Ongoing (byOutcome (o .read) o block w)
     go _ (refuses n k) = λ e. absurd (true≢false e)
-    go _ (configures a b _) = λ e. (record { sound = fresh-is-sound (configOf block) (legal-exact (configOf block) .0 b); few = let g = z in omega (arith, g); room = i }, refl)
+    go _ (configures a b _) = λ e. (
+      record {
+        sound = fresh-is-sound (configOf block) (legal-exact (configOf block) .0 b);
+        few = let g = z in omega (arith, g);
+        room = i;
+      },
+      refl,
+    )
     go _ (holds a l h _) = absurd (true≢false (sym a ∙ f))
     go _ (ends a _) = absurd (true≢false (sym a ∙ f))
     go _ (is-over a) = absurd (true≢false (sym a ∙ f))

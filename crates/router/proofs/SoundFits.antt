@@ -2,14 +2,12 @@
 -- Assumes nothing.
 use mathlib.Core.Path.{_≡_, refl, sym, ap, _∙_}
 use mathlib.Core.Bool.{Bool, true, false, _&&_, _||_}
-use mathlib.Core.List.{List}
-use Prim.Native.Nat.{ℕ, _+_, _*_, _<_, _≤_}
+use Prim.Native.Nat.{ℕ, _*_, _<_, _≤_}
 use native.Mathlib.Omega.{arith}
 use lib.Dec.{eqb, leb, ltb}
-use lib.ListN.{length, getD, List·getD-eq-default}
+use lib.ListN.{getD, List·getD-eq-default}
 use borrow.Author.Tests.{ltb-true, ltb-false, leb-true, eqb-true, le-ltb}
 use Rattle.base.specs.declared.config.Config.{Config}
-use Rattle.base.specs.Search.{every}
 use Rattle.base.proofs.Search.{both, every-at}
 use Rattle.base.proofs.Configurations.{Legal}
 use Rattle.state.specs.declared.InputVc.{InputVc}
@@ -19,15 +17,15 @@ use Rattle.state.specs.Fresh.{freshInput, freshOutput}
 use Rattle.state.specs.Sound.{Sound, inputUnused, outputUnused, channelsUnused, outputCreditsFit, isUnbound, isFree}
 use Rattle.state.specs.Views.{inputAt, outputAt}
 use Rattle.state.proofs.Made.{channels-fit}
-use Rattle.rules.specs.Intake.{senderPaid, sendersPaid}
+use Rattle.rules.specs.Intake.{sendersPaid}
 use Rattle.rules.proofs.Channels.{Split, channel-of, channel-at}
 use Rattle.rules.proofs.CreditsReached.{paid-keeps}
-use Rattle.rules.proofs.Facts.{Lengths, credits-sum, sound-legal, sound-lengths}
-use Rattle.router.specs.Fitting.{CreditsFit, QueuesFit, OutputCreditsFit, Sized}
+use Rattle.rules.proofs.Facts.{credits-sum, sound-legal, sound-lengths}
+use Rattle.router.specs.Fitting.{CreditsFit, QueuesFit, OutputCreditsFit}
 
 -- the arrays have room for all channels
-pub sized-channels : {c : Config} → Sized c → c .ports * c .vcs ≤ 32
-sized-channels {c} z = channels-fit (c .ports) (c .vcs) (z .ports) (z .vcs)
+pub legal-channels : {c : Config} → Legal c → c .ports * c .vcs ≤ 32
+legal-channels {c} l = channels-fit (c .ports) (c .vcs) (l .ports .1) (l .vcs .1)
 
 module _ (s : Router) (sound : Sound s) where
   abbrev c : Config
@@ -35,19 +33,6 @@ module _ (s : Router) (sound : Sound s) where
 
   legal : Legal c
   legal = sound-legal s sound
-
-  pub sound-sized : Sized c
-  sound-sized =
-      let l = legal in
-      record {
-        ports = l .ports .1;
-        some = l .vcs .0;
-        vcs = l .vcs .1;
-        onWire = l .forward .0;
-        forward = l .forward .1;
-        onWayHome = l .back .0;
-        back = l .back .1;
-      }
 
   -- a channel that there is, one that there is not, a place past the arrays
   data Where (x : ℕ) : Type 0 where
@@ -68,7 +53,7 @@ module _ (s : Router) (sound : Sound s) where
   unfolding channelsUnused
   unused-at x h l =
       let here : Bool = inputUnused (getD (s .inputs) x (freshInput 0)) && outputUnused (getD (s .outputs) x (freshOutput 0)) in
-      let e = every-at 32 _ (sound .channels) x l in
+      let e = every-at 32 _ (sound .flow .channels) x l in
       both (inputUnused (getD (s .inputs) x (freshInput 0))) (outputUnused (getD (s .outputs) x (freshOutput 0)))
       (sym (ap (λ (b : Bool). b || here) (le-ltb x (c .ports * c .vcs) h)) ∙ e)
 
@@ -87,7 +72,7 @@ module _ (s : Router) (sound : Sound s) where
 
       go : Where x → (getD (s .inputs) x (freshInput 0) .credit ≤ 16) × (getD (s .inputs) x (freshInput 0) .queued ≤ 16)
       go (there p) =
-          let sum = credits-sum c (s .inputs) (s .wire) (s .home) (sound .credits) (p .port) (p .vc) (p .portThere) (p .vcThere) in
+          let sum = credits-sum c (s .inputs) (s .wire) (s .home) (sound .flow .credits) (p .port) (p .vc) (p .portThere) (p .vcThere) in
           let d = legal .depth .1 in
           low (inputAt c (s .inputs) (p .port) (p .vc)) (ap (λ (y : ℕ). getD (s .inputs) y (freshInput 0)) (sym (p .is)))
           (omega arith, omega arith)
@@ -117,7 +102,8 @@ module _ (s : Router) (sound : Sound s) where
       go (there p) =
           let d = legal .downstream .1 in
           let k = leb-true (outputAt c (s .outputs) (p .port) (p .vc) .credit) (c .downstream)
-          (channel-at c (λ o w. leb (outputAt c (s .outputs) o w .credit) (c .downstream)) (sound .outputCredits) (p .port) (p .vc) (p .portThere) (p .vcThere)) in
+          (channel-at c (λ o w. leb (outputAt c (s .outputs) o w .credit) (c .downstream)) (sound .flow .outputCredits) (p .port) (p .vc)
+          (p .portThere) (p .vcThere)) in
           low (outputAt c (s .outputs) (p .port) (p .vc)) (ap (λ (x : ℕ). getD (s .outputs) x (freshOutput 0)) (sym (p .is))) (omega arith)
       go (unused h l) =
           let e = both (isFree (getD (s .outputs) y (freshOutput 0) .holder)) _ (unused-at y h l .1) in

@@ -1,9 +1,9 @@
 -- `stepOf` by what is tested first: the state, then the cycle's rules.
 -- Assumes nothing.
-use mathlib.Core.Path.{_≡_, refl, sym, ap, subst, _∙_}
-use mathlib.Core.Bool.{Bool, true, false, not}
+use mathlib.Core.Path.{_≡_, sym, ap, subst, _∙_}
+use mathlib.Core.Bool.{true, false}
 use mathlib.Core.List.{List}
-use Prim.Native.Nat.{ℕ, _+_, _<_}
+use Prim.Native.Nat.{ℕ, _<_}
 use native.Mathlib.Omega.{arith}
 use lib.ListN.{length}
 use borrow.Author.Tests.{leb-false, eqb-true, not-false}
@@ -21,12 +21,11 @@ use Rattle.rules.specs.declared.Verdict.the-variants.{Accepted, Refused}
 use Rattle.rules.specs.declared.Stepped.{Stepped}
 use Rattle.rules.specs.Intake.{sendersPaid, creditsReached, reported}
 use Rattle.rules.specs.Allocation.{allocated}
-use Rattle.rules.specs.Numbers.{Rule, refusing, refusedAt, firstOf, rulesFor, judged, runFull, rowWrong}
+use Rattle.rules.specs.Numbers.{Rule, refusing, firstOf, rulesFor, judged, runFull, rowWrong}
 use Rattle.rules.specs.Departures.{leavingOf}
-use Rattle.rules.specs.Step.{takenIn, sentOut, routerAfter, replyOf, stepBy, stepOf}
-use Rattle.rules.proofs.Exactness.{Why, None, accepts, also, done, why}
-use Rattle.router.specs.declared.acting.Parts.{Parts}
-use Rattle.router.specs.Whole.{routerOf, boundOf}
+use Rattle.rules.specs.Step.{takenIn, sentOut, routerAfter, replyOf, stepOf}
+use Rattle.rules.proofs.Exactness.{Why, None, accepts, also, why}
+use Rattle.router.specs.Whole.{boundOf}
 
 module _ (s : Router) (part : List ℕ) where
   -- the rules after 2
@@ -53,7 +52,8 @@ module _ (s : Router) (part : List ℕ) where
   unfolding stepOf
   refused-steps e r f = rw (sound-judged e ∙ f)
 
-  pub accepted-steps : sound s ≡ true → firstOf rest ≡ Accepted → (t : Router) (reply : Reply) → t ≡ routerAfter part s → reply ≡ replyOf part s
+  pub accepted-steps : sound s ≡ true → firstOf rest ≡ Accepted → (t : Router) (reply : Reply) → t ≡ routerAfter part s → reply
+      ≡ replyOf part s
       → _≡_ {A = Stepped} (record { verdict = Accepted; router = t; reply = reply }) (stepOf s part)
   unfolding stepOf
   accepted-steps e f t reply g h = rw (sound-judged e ∙ f, g, h)
@@ -95,7 +95,8 @@ module _ (s : Router) (part : List ℕ) where
         (record { inputs = paid; outputs = s .outputs; vcs = s .arbiters .vcs; ins = s .arbiters .inputs; outs = s .arbiters .outputs })
         (s .store) (s .wire) (s .home) part
 
-    pub rest-gives : (v w : Verdict) → v ≡ firstOf (rulesFor (s .config) (s .cycle) (s .inputs) paid (s .outputs) part) → v ≡ w → firstOf rest ≡ w
+    pub rest-gives : (v w : Verdict) → v ≡ firstOf (rulesFor (s .config) (s .cycle) (s .inputs) paid (s .outputs) part) → v ≡ w
+        → firstOf rest ≡ w
     rest-gives v w f g =
         ap (λ (p : List InputVc). firstOf (rulesFor (s .config) (s .cycle) (s .inputs) p (s .outputs) part)) (sym e) ∙ sym f ∙ g
 
@@ -103,7 +104,8 @@ module _ (s : Router) (part : List ℕ) where
     unfolding routerAfter
     after-is t f = f ∙ ap sentOut (bound-is paid e)
 
-    pub said-is : (r : Reply) → r ≡ record { senders = reported (s .config) (s .home); outputs = leavingOf bound .left } → r ≡ replyOf part s
+    pub said-is : (r : Reply) → r ≡ record { senders = reported (s .config) (s .home); outputs = leavingOf bound .left } → r
+        ≡ replyOf part s
     unfolding replyOf
     said-is r f =
         f ∙ ap (λ (t : Router). record { senders = reported (s .config) (s .home); outputs = leavingOf t .left }) (bound-is paid e)

@@ -3,7 +3,6 @@
 use mathlib.Core.List.{List}
 use Prim.Native.Nat.{ℕ, _≤_}
 use lib.ListN.{getD}
-use Rattle.base.specs.declared.config.Config.{Config}
 use Rattle.state.specs.declared.InputVc.{InputVc}
 use Rattle.state.specs.declared.OutputVc.{OutputVc}
 use Rattle.state.specs.Fresh.{freshInput, freshOutput}
@@ -19,13 +18,3 @@ QueuesFit n inputs = (x : ℕ) → getD inputs x (freshInput 0) .queued ≤ n
 -- each output credit is at most n
 abbrev pub OutputCreditsFit : ℕ → List OutputVc → Type 0
 OutputCreditsFit n outputs = (y : ℕ) → getD outputs y (freshOutput 0) .credit ≤ n
-
--- sizes of a legal configuration
-pub record Sized (c : Config) : Type 0 where
-  pub ports : c .ports ≤ 8
-  pub some : 1 ≤ c .vcs
-  pub vcs : c .vcs ≤ 4
-  pub onWire : 1 ≤ c .forward
-  pub forward : c .forward ≤ 8
-  pub onWayHome : 1 ≤ c .back
-  pub back : c .back ≤ 8

@@ -8,9 +8,9 @@ use Rattle.base.specs.declared.config.Config.{Config}
 use Rattle.state.specs.declared.InputVc.{InputVc}
 use Rattle.state.specs.declared.OutputVc.{OutputVc}
 use Rattle.state.specs.Fresh.{freshInput}
-use Rattle.state.specs.Views.{channel, outputAt}
+use Rattle.state.specs.Views.{channelNumber, outputAt}
 use Rattle.rules.specs.Ports.{overPorts, named}
-use Rattle.rules.specs.Allocation.{Grant, boundTo, heldBy}
+use Rattle.rules.specs.Allocation.{Grant, bindTo, heldBy}
 use Rattle.router.specs.declared.allocation.Granted.{Granted}
 
 abbrev pub withVc : ℕ → Option ℕ → Option Grant
@@ -28,13 +28,13 @@ grantAt made o = grantIn (getD made o (record { requester = 0; vc = 0 }))
 -- `bindings` by its two lists: the input VC that output o binds
 abbrev pub inputBound : ℕ → Option Grant → List InputVc → List InputVc
 inputBound o none inputs = inputs
-inputBound o (some g) inputs = set inputs (g .requester) (boundTo o (g .vc) (getD inputs (g .requester) (freshInput 0)))
+inputBound o (some g) inputs = set inputs (g .requester) (bindTo o (g .vc) (getD inputs (g .requester) (freshInput 0)))
 
 -- and the VC of output o that is held from then on
 abbrev pub outputHeld : Config → ℕ → Option Grant → List OutputVc → List OutputVc
 outputHeld c o none outputs = outputs
 outputHeld c o (some g) outputs =
-    set outputs (channel c o (g .vc)) (heldBy (g .requester / c .vcs) (g .requester % c .vcs) (outputAt c outputs o (g .vc)))
+    set outputs (channelNumber c o (g .vc)) (heldBy (g .requester / c .vcs) (g .requester % c .vcs) (outputAt c outputs o (g .vc)))
 
 unfoldable pub inputsBound : Config → (ℕ → Option Grant) → List InputVc → List InputVc
 inputsBound c grant = overPorts (c .ports) (λ inputs o. inputBound o (grant o) inputs)

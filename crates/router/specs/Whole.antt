@@ -6,7 +6,11 @@ use Rattle.base.specs.declared.config.Config.{Config}
 use Rattle.state.specs.declared.Router.{Router}
 use Rattle.rules.specs.Intake.{advanced, creditsReturned, landed, offersTaken}
 use Rattle.rules.specs.Allocation.{allocated}
-use Rattle.router.specs.declared.acting.Parts.{Parts}
+use Rattle.router.specs.declared.parts.Parts.{Parts}
+
+abbrev pub partsOf : Router → Parts
+partsOf s =
+    record { inputs = s .inputs; outputs = s .outputs; vcs = s .arbiters .vcs; ins = s .arbiters .inputs; outs = s .arbiters .outputs }
 
 abbrev pub routerOf : Config → ℕ → Parts → List ℕ → List ℕ → List ℕ → Router
 routerOf c cycle p store wire home =

@@ -1,37 +1,26 @@
 // An accepted cycle, phase by phase, over the parts of a router: structs by value, arrays of numbers lent. It was judged before, so that
 // nothing here can fail.
 use crate::allocation;
-use crate::allocation::Named;
+use crate::allocation::Vcs;
 use crate::intake;
 use crate::leaving;
+use crate::parts::Parts;
 use crate::switching;
-use arbiter::Narrow;
-use arbiter::Wide;
 use base::Config;
 use base::Left;
 use base::Output;
 use base::Reply;
-use state::InputVc;
-use state::OutputVc;
 ghost use mathlib.Core.Path.{_≡_};
 ghost use Prim.Native.Nat.{ℕ, _+_, _≤_};
 ghost use lib.ListN.{length};
+ghost use Rattle.base.specs.Sizes.{Bounds};
 ghost use Rattle.rules.specs.Intake.{reported};
 ghost use Rattle.rules.specs.Departures.{leavingOf};
 ghost use Rattle.rules.specs.Step.{sentOut};
-ghost use Rattle.router.specs.Fitting.{QueuesFit, OutputCreditsFit, Sized};
+ghost use Rattle.router.specs.Fitting.{QueuesFit, OutputCreditsFit};
 ghost use Rattle.router.specs.Whole.{routerOf, boundOf};
 
-// What travels by value through a cycle.
-pub struct Parts {
-    pub inputs: [InputVc; 32],
-    pub outputs: [OutputVc; 32],
-    pub vcs: [Wide; 8],
-    pub ins: [Narrow; 8],
-    pub outs: [Narrow; 8],
-}
-
-pub struct Acted {
+pub struct PartsAndReply {
     pub parts: Parts,
     pub reply: Reply,
 }
@@ -44,11 +33,16 @@ pub(crate) fn act(
     store: &mut [u64; 512],
     wire: &mut [u64; 64],
     home: &mut [u8; 64],
-) -> Acted
-    requires { ⌜ Sized config × (length (now part) ≡ 64) × QueuesFit 16 (parts .inputs) × OutputCreditsFit 16 (parts .outputs) × (length (now store) ≡ 512) × (length (now wire) ≡ 64) × (length (now home) ≡ 64) ⌝ }
+) -> PartsAndReply
+    requires { ⌜ Bounds 1 config × (length (now part) ≡ 64) × QueuesFit 16 (parts .inputs) × OutputCreditsFit 16 (parts .outputs)
+        × (length (now store) ≡ 512) × (length (now wire) ≡ 64) × (length (now home) ≡ 64) ⌝ }
     ensures after { λ r. ⌜ ((n : ℕ) → routerOf config (n + 1) (r .parts) (now (store .exit)) (now (wire .exit)) (now (home .exit))
         ≡ sentOut (boundOf config n parts (now (store .entry)) (now (wire .entry)) (now (home .entry)) (now (part .entry)))) ⌝ }
-    ensures said { λ r. ⌜ ((n : ℕ) → r .reply ≡ record { senders = reported config (now (home .entry)); outputs = leavingOf (boundOf config n parts (now (store .entry)) (now (wire .entry)) (now (home .entry)) (now (part .entry))) .left }) ⌝ }
+    ensures said { λ r. ⌜ ((n : ℕ) → r .reply ≡ record {
+      senders = reported config (now (home .entry));
+      outputs = leavingOf
+          (boundOf config n parts (now (store .entry)) (now (wire .entry)) (now (home .entry)) (now (part .entry))) .left;
+    }) ⌝ }
 {
     let inputs1 = parts.inputs;
     let outputs1 = parts.outputs;
@@ -65,7 +59,7 @@ pub(crate) fn act(
     let made = allocation::grants(config, outputs2, vcs0, sets);
     let named = allocation::bind(
         config,
-        Named {
+        Vcs {
             inputs: inputs4,
             outputs: outputs2,
         },
@@ -80,7 +74,7 @@ pub(crate) fn act(
         let left = [Output {
             left: Left::Nothing,
         }; 8];
-        return Acted {
+        return PartsAndReply {
             parts: Parts {
                 inputs: inputs5,
                 outputs: outputs5,
@@ -103,7 +97,7 @@ pub(crate) fn act(
     let inputs = gone.inputs;
     let outputs = gone.outputs;
     let left = gone.left;
-    Acted {
+    PartsAndReply {
         parts: Parts {
             inputs,
             outputs,

@@ -4,7 +4,9 @@ use crate::counts;
 use arbiter::Pick;
 use arbiter::Requests;
 use arbiter::Wide;
+use base::CHANNEL_PLACES;
 use base::Config;
+use base::PORT_PLACES;
 use base::starts;
 use state::Binding;
 use state::Holder;
@@ -24,7 +26,7 @@ ghost use Rattle.state.specs.Fresh.{pastWide};
 ghost use Rattle.state.specs.Sound.{isFree, isUnbound, frontIsFor};
 ghost use Rattle.store.specs.Store.{firstSlot};
 ghost use Rattle.state.specs.Views.{places, queueAt};
-ghost use Rattle.rules.specs.Allocation.{asks, freeVc, granted, Grant, boundTo, heldBy, Names, bindings, requesterOf, wideMoved};
+ghost use Rattle.rules.specs.Allocation.{asks, freeVc, granted, Grant, bindTo, heldBy, Vcs as BoundVcs, bindings, requesterOf, wideMoved};
 ghost use Rattle.router.specs.Grants.{grantIn, grantAt, inputsBound, outputsHeld};
 ghost use Rattle.router.specs.Picks.{below};
 
@@ -35,7 +37,7 @@ pub struct Granted {
 }
 
 // Input VCs and output VCs.
-pub struct Named {
+pub struct Vcs {
     pub inputs: [InputVc; 32],
     pub outputs: [OutputVc; 32],
 }
@@ -43,19 +45,20 @@ pub struct Named {
 // The output at which an input VC asks; 8 where it asks at none.
 fn asked_by(input: InputVc, x: usize, store: &[u64; 512]) -> usize
     requires { ⌜ (x < 32) × (length (now store) ≡ 512) ⌝ }
-    ensures { λ r. ⌜ ((o : ℕ) → o < 8 → eqb r o ≡ (isUnbound (input .binding) && frontIsFor o (queueAt (now (store .entry)) (firstSlot x) (input .queued)))) ⌝ }
+    ensures { λ r. ⌜ ((o : ℕ) → o < 8 → eqb r o ≡ (isUnbound (input .binding)
+        && frontIsFor o (queueAt (now (store .entry)) (firstSlot x) (input .queued)))) ⌝ }
 {
     let binding = input.binding;
     let Binding::Unbound = binding else {
-        return 8;
+        return PORT_PLACES;
     };
     if input.queued == 0 {
-        return 8;
+        return PORT_PLACES;
     }
     let front = store::front(x, store);
     let kind = front.kind();
     if !starts(kind) {
-        return 8;
+        return PORT_PLACES;
     }
     counts::wide(front.destination())
 }
@@ -72,7 +75,7 @@ pub(crate) fn asking(config: Config, inputs: [InputVc; 32], store: &[u64; 512]) 
         next += 1;
         let input = inputs[x];
         let o = asked_by(input, x, store);
-        if 8 <= o {
+        if PORT_PLACES <= o {
             continue;
         }
         let one: u32 = 1;
@@ -110,7 +113,8 @@ fn free_vc(config: Config, outputs: [OutputVc; 32], o: usize) -> u8
 // "One arbiter per output, P·V wide, .. picks one; it is bound to the lowest-numbered free VC."
 fn grant(config: Config, outputs: [OutputVc; 32], arbiter: Wide, o: usize, set: u32) -> Granted
     requires { ⌜ (o < config .ports) × (config .ports ≤ 8) × (config .vcs ≤ 4) ⌝ }
-    ensures { λ r. ⌜ grantIn r ≡ granted (freeVc config outputs o) (choice 32 (config .arbiter) (config .ports * config .vcs) (bit set) (ofWide arbiter)) ⌝ }
+    ensures { λ r. ⌜ grantIn r ≡ granted (freeVc config outputs o)
+        (choice 32 (config .arbiter) (config .ports * config .vcs) (bit set) (ofWide arbiter)) ⌝ }
 {
     let vc = free_vc(config, outputs, o);
     if config.vcs <= vc {
@@ -150,7 +154,9 @@ pub(crate) fn grants(
     sets: [u32; 8],
 ) -> [Granted; 8]
     requires { ⌜ (config .ports ≤ 8) × (config .vcs ≤ 4) ⌝ }
-    ensures { λ r. ⌜ ((o : ℕ) → o < config .ports → grantAt r o ≡ granted (freeVc config outputs o) (choice 32 (config .arbiter) (config .ports * config .vcs) (bit (getD sets o 0)) (ofWide (getD vcs o pastWide)))) ⌝ }
+    ensures { λ r. ⌜ ((o : ℕ) → o < config .ports → grantAt r o
+        ≡ granted (freeVc config outputs o) (choice 32 (config .arbiter) (config .ports * config .vcs) (bit (getD sets o 0))
+        (ofWide (getD vcs o pastWide)))) ⌝ }
 {
     let mut made = [Granted {
         requester: 0,
@@ -183,23 +189,15 @@ fn requester(config: Config, x: u8) -> InVc
 }
 
 fn bound(input: InputVc, output: u8, vc: u8) -> InputVc
-    ensures { λ r. ⌜ r ≡ boundTo output vc input ⌝ }
+    ensures { λ r. ⌜ r ≡ bindTo output vc input ⌝ }
 {
-    InputVc {
-        binding: Binding::Bound(OutVc { output, vc }),
-        credit: input.credit,
-        inside: input.inside,
-        queued: input.queued,
-    }
+    input.with_binding(Binding::Bound(OutVc { output, vc }))
 }
 
 fn held(output: OutputVc, by: InVc) -> OutputVc
     ensures { λ r. ⌜ r ≡ heldBy (by .input) (by .vc) output ⌝ }
 {
-    OutputVc {
-        holder: Holder::Held(by),
-        credit: output.credit,
-    }
+    output.with_holder(Holder::Held(by))
 }
 
 // Each input VC that is bound names its output VC.
@@ -217,7 +215,7 @@ fn bind_inputs(config: Config, before: [InputVc; 32], made: [Granted; 8]) -> [In
             continue;
         }
         let x = counts::wide(given.requester - 1);
-        if 32 <= x {
+        if CHANNEL_PLACES <= x {
             continue;
         }
         let input = inputs[x];
@@ -241,7 +239,7 @@ fn bind_outputs(config: Config, before: [OutputVc; 32], made: [Granted; 8]) -> [
             continue;
         }
         let y = channel::number(config, o, counts::wide(given.vc));
-        if 32 <= y {
+        if CHANNEL_PLACES <= y {
             continue;
         }
         let output = outputs[y];
@@ -251,15 +249,16 @@ fn bind_outputs(config: Config, before: [OutputVc; 32], made: [Granted; 8]) -> [
 }
 
 // Input VC and output VC name each other.
-pub(crate) fn bind(config: Config, before: Named, made: [Granted; 8]) -> Named
+pub(crate) fn bind(config: Config, before: Vcs, made: [Granted; 8]) -> Vcs
     requires { ⌜ (config .ports ≤ 8) × (1 ≤ config .vcs) × (config .vcs ≤ 4) ⌝ }
-    ensures { λ r. ⌜ _≡_ {A = Names} (record { inputs = r .inputs; outputs = r .outputs }) (bindings config (grantAt made) (record { inputs = before .inputs; outputs = before .outputs })) ⌝ }
+    ensures { λ r. ⌜ _≡_ {A = BoundVcs} (record { inputs = r .inputs; outputs = r .outputs })
+        (bindings config (grantAt made) (record { inputs = before .inputs; outputs = before .outputs })) ⌝ }
 {
     let was_inputs = before.inputs;
     let was_outputs = before.outputs;
     let inputs = bind_inputs(config, was_inputs, made);
     let outputs = bind_outputs(config, was_outputs, made);
-    Named { inputs, outputs }
+    Vcs { inputs, outputs }
 }
 
 // Each output's VC arbiter after its own pick.

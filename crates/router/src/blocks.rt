@@ -1,6 +1,6 @@
 // The blocks of a part of a trace, one after another, as long as there is room for their lines.
 use crate::running;
-use crate::running::Went;
+use crate::running::RunParts;
 use base::Config;
 use base::ROOM;
 ghost use mathlib.Core.Path.{_≡_};
@@ -11,8 +11,8 @@ ghost use Rattle.router.specs.Running.{lacksBlockRoom, blockAt, Call, go
 ghost use Rattle.router.specs.Inside.{Ongoing, writingOf};
 
 // How far a call has come: the run, and the bytes of the part that were used.
-pub struct Through {
-    pub went: Went,
+pub struct RunAndUsed {
+    pub run: RunParts,
     pub used: usize,
 }
 
@@ -53,7 +53,7 @@ pub(crate) fn block_end(part: &[u8], from: usize) -> usize
 // At most so many blocks from `first` on.
 pub(crate) fn blocks(
     config: Config,
-    before: Went,
+    before: RunParts,
     part: &[u8],
     first: usize,
     count: usize,
@@ -61,25 +61,31 @@ pub(crate) fn blocks(
     wire: &mut [u64; 64],
     home: &mut [u8; 64],
     out: &mut [u8],
-) -> Through
+) -> RunAndUsed
     requires { ⌜ Ongoing (writingOf config before (now store) (now wire) (now home) (now out)) × (first ≤ length (now part)) ⌝ }
-    ensures { λ r. ⌜ _≡_ {A = Call} (record { used = r .used; writing = writingOf config (r .went) (now (store .exit)) (now (wire .exit)) (now (home .exit)) (now (out .exit)) })
-        (goesOn (now (part .entry)) count (record { used = first; writing = writingOf config before (now (store .entry)) (now (wire .entry)) (now (home .entry)) (now (out .entry)) })) ⌝ }
+    ensures { λ r. ⌜ _≡_ {A = Call} (record {
+      used = r .used;
+      writing = writingOf config (r .run) (now (store .exit)) (now (wire .exit)) (now (home .exit)) (now (out .exit));
+    })
+        (goesOn (now (part .entry)) count (record {
+          used = first;
+          writing = writingOf config before (now (store .entry)) (now (wire .entry)) (now (home .entry)) (now (out .entry));
+        })) ⌝ }
 {
-    let mut went = before;
+    let mut run = before;
     let mut from = first;
     let mut left = count;
     while 0 < left {
-        if went.over {
-            return Through { went, used: from };
+        if run.over {
+            return RunAndUsed { run, used: from };
         }
-        if !has_room(out, went.at) {
-            return Through { went, used: from };
+        if !has_room(out, run.at) {
+            return RunAndUsed { run, used: from };
         }
         let end = block_end(part, from);
-        went = running::block(config, went, &part[from..end], store, wire, home, out);
+        run = running::block(config, run, &part[from..end], store, wire, home, out);
         from = end;
         left -= 1;
     }
-    Through { went, used: from }
+    RunAndUsed { run, used: from }
 }

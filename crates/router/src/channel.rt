@@ -2,12 +2,12 @@
 use base::Config;
 ghost use mathlib.Core.Path.{_≡_};
 ghost use Prim.Native.Nat.{_<_};
-ghost use Rattle.state.specs.Views.{channel};
+ghost use Rattle.state.specs.Views.{channelNumber};
 
 // "requester number i·V+v"
 pub(crate) fn number(config: Config, i: usize, v: usize) -> usize
     requires { ⌜ (i < 256) × (v < 4294967296) ⌝ }
-    ensures { λ r. ⌜ r ≡ channel config i v ⌝ }
+    ensures { λ r. ⌜ r ≡ channelNumber config i v ⌝ }
 {
     i * (config.vcs as usize) + v
 }

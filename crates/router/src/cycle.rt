@@ -1,15 +1,15 @@
 // One cycle: judged, and acted on if no rule refuses it; and the public step, which tests the router that it is handed first.
 use crate::acting;
-use crate::acting::Parts;
 use crate::intake;
 use crate::judge;
+use crate::parts;
+use crate::parts::Parts;
 use base::Config;
 use base::NOT_SOUND;
 use base::Reply;
 use rules::Refusal;
 use rules::Stepped;
 use rules::Verdict;
-use state::Arbiters;
 use state::Router;
 ghost use mathlib.Core.Path.{_≡_};
 ghost use Rattle.rules.specs.declared.Stepped.{Stepped as Answer};
@@ -18,7 +18,7 @@ ghost use Rattle.state.specs.Sound.{Sound};
 ghost use Rattle.router.specs.Whole.{routerOf};
 
 // A cycle's verdict and reply, with the cycle count and the parts after it.
-pub struct Inner {
+pub struct SteppedParts {
     pub verdict: Verdict,
     pub cycle: u64,
     pub parts: Parts,
@@ -34,9 +34,13 @@ pub(crate) fn inner_step(
     store: &mut [u64; 512],
     wire: &mut [u64; 64],
     home: &mut [u8; 64],
-) -> Inner
+) -> SteppedParts
     requires { ⌜ Sound (routerOf config cycle before (now store) (now wire) (now home)) ⌝ }
-    ensures { λ r. ⌜ _≡_ {A = Answer} (record { verdict = r .verdict; router = routerOf config (r .cycle) (r .parts) (now (store .exit)) (now (wire .exit)) (now (home .exit)); reply = r .reply })
+    ensures { λ r. ⌜ _≡_ {A = Answer} (record {
+      verdict = r .verdict;
+      router = routerOf config (r .cycle) (r .parts) (now (store .exit)) (now (wire .exit)) (now (home .exit));
+      reply = r .reply;
+    })
         (stepOf (routerOf config cycle before (now (store .entry)) (now (wire .entry)) (now (home .entry))) (now (part .entry))) ⌝ }
 {
     let inputs = before.inputs;
@@ -44,7 +48,7 @@ pub(crate) fn inner_step(
     let paid = intake::pay_senders(config, inputs, home);
     let verdict = judge::judge(config, cycle, inputs, paid, outputs, part);
     if let Verdict::Refused(refusal) = verdict {
-        return Inner {
+        return SteppedParts {
             verdict: Verdict::Refused(refusal),
             cycle,
             parts: before,
@@ -70,7 +74,7 @@ pub(crate) fn inner_step(
     );
     let parts = acted.parts;
     let reply = acted.reply;
-    Inner {
+    SteppedParts {
         verdict: Verdict::Accepted,
         cycle: cycle + 1,
         parts,
@@ -78,6 +82,9 @@ pub(crate) fn inner_step(
     }
 }
 
+// One cycle of any router: 2 where it is not sound, else what the rules of the cycle make of the 64 bytes. A refused cycle leaves the
+// router as
+// it was and reports nothing.
 pub fn step(router: Router, part: &[u8]) -> Stepped
     ensures { λ r. ⌜ r ≡ stepOf router (now (part .entry)) ⌝ }
 {
@@ -95,22 +102,11 @@ pub fn step(router: Router, part: &[u8]) -> Stepped
     let mut store = router.store;
     let mut wire = router.wire;
     let mut home = router.home;
-    let inputs = router.inputs;
-    let outputs = router.outputs;
-    let arbiters = router.arbiters;
-    let vcs = arbiters.vcs;
-    let ins = arbiters.inputs;
-    let outs = arbiters.outputs;
+    let before = parts::unpack(router);
     let done = inner_step(
         config,
         router.cycle,
-        Parts {
-            inputs,
-            outputs,
-            vcs,
-            ins,
-            outs,
-        },
+        before,
         part,
         &mut store,
         &mut wire,
@@ -118,28 +114,10 @@ pub fn step(router: Router, part: &[u8]) -> Stepped
     );
     let verdict = done.verdict;
     let after = done.parts;
-    let inputs_after = after.inputs;
-    let outputs_after = after.outputs;
-    let vcs_after = after.vcs;
-    let ins_after = after.ins;
-    let outs_after = after.outs;
     let said = done.reply;
     Stepped {
         verdict,
-        router: Router {
-            config,
-            cycle: done.cycle,
-            inputs: inputs_after,
-            outputs: outputs_after,
-            store,
-            wire,
-            home,
-            arbiters: Arbiters {
-                vcs: vcs_after,
-                inputs: ins_after,
-                outputs: outs_after,
-            },
-        },
+        router: parts::pack(config, done.cycle, after, store, wire, home),
         reply: said,
     }
 }

@@ -3,6 +3,7 @@ use crate::channel;
 use crate::counts;
 use crate::rows;
 use crate::rows::Row;
+use base::CHANNEL_PLACES;
 use base::Config;
 use base::Flit;
 use base::Reached;
@@ -15,7 +16,8 @@ ghost use Prim.Native.Nat.{_-_, _≤_, _<_};
 ghost use lib.ListN.{length};
 ghost use Rattle.state.specs.Views.{wireVc};
 ghost use Rattle.rules.specs.Ports.{named};
-ghost use Rattle.rules.specs.Intake.{advanced, senderPaid, sendersPaid, reaching, reported, outputPaid, outputsPaid, oneMoreQueued, Queues, landings, Senders, offerTaken, offers};
+ghost use Rattle.rules.specs.Intake.{advanced, senderPaid, sendersPaid, reaching, reported, outputPaid, outputsPaid, oneMoreQueued};
+ghost use Rattle.rules.specs.Intake.{Queues, landings, Senders, offerTaken, offers};
 ghost use Rattle.router.specs.Fitting.{CreditsFit, QueuesFit, OutputCreditsFit};
 
 fn with_one_credit_more(input: InputVc) -> InputVc
@@ -42,7 +44,7 @@ pub(crate) fn pay_senders(config: Config, before: [InputVc; 32], home: &[u8; 64]
         }
         let x = channel::number(config, i, place - 1);
         i += 1;
-        if 32 <= x {
+        if CHANNEL_PLACES <= x {
             continue;
         }
         let input = inputs[x];
@@ -104,7 +106,7 @@ pub(crate) fn pay_outputs(config: Config, before: [OutputVc; 32], part: &[u8]) -
         }
         let y = channel::number(config, o, credit - 1);
         o += 1;
-        if 32 <= y {
+        if CHANNEL_PLACES <= y {
             continue;
         }
         let output = outputs[y];
@@ -130,7 +132,8 @@ pub(crate) fn land(
     store: &mut [u64; 512],
 ) -> [InputVc; 32]
     requires { ⌜ (config .ports ≤ 8) × QueuesFit 16 before ⌝ }
-    ensures { λ r. ⌜ _≡_ {A = Queues} (record { inputs = r; store = now (store .exit) }) (landings config (now (wire .entry)) (record { inputs = before; store = now (store .entry) })) ⌝ }
+    ensures { λ r. ⌜ _≡_ {A = Queues} (record { inputs = r; store = now (store .exit) })
+        (landings config (now (wire .entry)) (record { inputs = before; store = now (store .entry) })) ⌝ }
 {
     let mut inputs = before;
     let mut i: usize = 0;
@@ -142,7 +145,7 @@ pub(crate) fn land(
         }
         let x = channel::number(config, i, vc_on_wire(place));
         i += 1;
-        if 32 <= x {
+        if CHANNEL_PLACES <= x {
             continue;
         }
         let input = inputs[x];
@@ -203,7 +206,7 @@ fn after_offer(input: InputVc, kind: u8) -> InputVc
     let credit = counts::less_one(input.credit);
     sent.credit = credit;
     let stays = !ends(kind);
-    sent.inside = stays;
+    sent.opened = stays;
     sent
 }
 
@@ -215,7 +218,8 @@ pub(crate) fn take_offers(
     wire: &mut [u64; 64],
 ) -> [InputVc; 32]
     requires { ⌜ (config .ports ≤ 8) × (1 ≤ config .forward) × (config .forward ≤ 8) × (length (now part) ≡ 64) ⌝ }
-    ensures { λ r. ⌜ _≡_ {A = Senders} (record { inputs = r; wire = now (wire .exit) }) (offers config (now (part .entry)) (record { inputs = before; wire = now (wire .entry) })) ⌝ }
+    ensures { λ r. ⌜ _≡_ {A = Senders} (record { inputs = r; wire = now (wire .exit) })
+        (offers config (now (part .entry)) (record { inputs = before; wire = now (wire .entry) })) ⌝ }
 {
     let mut inputs = before;
     let mut next: usize = 0;
@@ -230,7 +234,7 @@ pub(crate) fn take_offers(
         let vc = counts::wide(offer.vc);
         wire[8 * (config.forward as usize - 1) + i] = (vc as u64) * 274877906944 + flit.word;
         let x = channel::number(config, i, vc);
-        if 32 <= x {
+        if CHANNEL_PLACES <= x {
             continue;
         }
         let input = inputs[x];

@@ -3,11 +3,13 @@ use crate::channel;
 use crate::counts;
 use crate::rows;
 use crate::rows::Row;
+use base::CHANNEL_PLACES;
 use base::CREDIT_PAST_ROOM;
 use base::CYCLE_LIMIT;
 use base::Config;
 use base::NO_SENDER_CREDIT;
 use base::OUT_OF_TURN;
+use base::PORT_PLACES;
 use base::ROW_WRONG;
 use base::RUN_FULL;
 use base::starts;
@@ -32,13 +34,13 @@ fn first_wrong_row(config: Config, part: &[u8]) -> usize
     ensures { λ r. ⌜ below 8 r ≡ firstFrom (rowWrong config (now (part .entry))) 8 0 ⌝ }
 {
     let mut i: usize = 0;
-    while i < 8 {
+    while i < PORT_PLACES {
         if rows::breaks(config, part, i) {
             return i;
         }
         i += 1;
     }
-    8
+    PORT_PLACES
 }
 
 // 6: "downstream credit where that output VC already has E"
@@ -55,7 +57,7 @@ fn first_past_room(config: Config, outputs: [OutputVc; 32], part: &[u8]) -> usiz
             continue;
         }
         let y = channel::number(config, o, credit - 1);
-        if 32 <= y {
+        if CHANNEL_PLACES <= y {
             let past = config.downstream == 0;
             if past {
                 return o;
@@ -68,7 +70,7 @@ fn first_past_room(config: Config, outputs: [OutputVc; 32], part: &[u8]) -> usiz
             return o;
         }
     }
-    8
+    PORT_PLACES
 }
 
 // 4: "B or T with no packet open at that sender VC, or H or S with one open"
@@ -86,19 +88,19 @@ fn first_out_of_turn(config: Config, inputs: [InputVc; 32], part: &[u8]) -> usiz
         }
         let x = channel::number(config, i, counts::wide(rows::vc_of(part, i)));
         let first = starts(kind);
-        if 32 <= x {
+        if CHANNEL_PLACES <= x {
             if first {
                 continue;
             }
             return i;
         }
         let input = inputs[x];
-        let wrong = first == input.inside;
+        let wrong = first == input.opened;
         if wrong {
             return i;
         }
     }
-    8
+    PORT_PLACES
 }
 
 // 5: "no sender credit, after phase 1"
@@ -114,7 +116,7 @@ fn first_without_credit(config: Config, paid: [InputVc; 32], part: &[u8]) -> usi
             continue;
         }
         let x = channel::number(config, i, counts::wide(rows::vc_of(part, i)));
-        if 32 <= x {
+        if CHANNEL_PLACES <= x {
             return i;
         }
         let input = paid[x];
@@ -123,7 +125,7 @@ fn first_without_credit(config: Config, paid: [InputVc; 32], part: &[u8]) -> usi
             return i;
         }
     }
-    8
+    PORT_PLACES
 }
 
 fn refusing(number: u8, port: usize) -> Verdict
@@ -155,19 +157,19 @@ pub(crate) fn judge(
         return refusing(ROW_WRONG, 0);
     }
     let row = first_wrong_row(config, part);
-    if row < 8 {
+    if row < PORT_PLACES {
         return refusing(ROW_WRONG, row);
     }
     let past = first_past_room(config, outputs, part);
-    if past < 8 {
+    if past < PORT_PLACES {
         return refusing(CREDIT_PAST_ROOM, past);
     }
     let turn = first_out_of_turn(config, inputs, part);
-    if turn < 8 {
+    if turn < PORT_PLACES {
         return refusing(OUT_OF_TURN, turn);
     }
     let without = first_without_credit(config, paid, part);
-    if without < 8 {
+    if without < PORT_PLACES {
         return refusing(NO_SENDER_CREDIT, without);
     }
     Verdict::Accepted

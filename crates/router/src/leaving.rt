@@ -1,11 +1,13 @@
 // Phase 7: the winners leave.
 use crate::channel;
 use crate::counts;
+use base::CHANNEL_PLACES;
 use base::Config;
 use base::Departure;
 use base::Flit;
 use base::Left;
 use base::Output;
+use base::PORT_PLACES;
 use base::ends;
 use state::Binding;
 use state::Holder;
@@ -18,7 +20,7 @@ ghost use lib.Dec.{eqb};
 ghost use lib.ListN.{getD, set, replicate};
 ghost use Rattle.base.specs.Flit.{kindOf, endsKind};
 ghost use Rattle.store.specs.Store.{frontOf, popped};
-ghost use Rattle.state.specs.Views.{channel};
+ghost use Rattle.state.specs.Views.{channelNumber};
 ghost use Rattle.rules.specs.Intake.{newest};
 ghost use Rattle.base.specs.declared.reply.Left.the-variants as left;
 ghost use Rattle.rules.specs.Allocation.{vcOf};
@@ -26,7 +28,7 @@ ghost use Rattle.rules.specs.Departures.{inputLeft, outputLeft, departure, Leav
 ghost use Rattle.router.specs.Picks.{pickIn};
 
 // Input VCs and output VCs after the departures, and what left.
-pub struct Gone {
+pub struct VcsAndLeft {
     pub inputs: [InputVc; 32],
     pub outputs: [OutputVc; 32],
     pub left: [Output; 8],
@@ -37,16 +39,11 @@ fn after_leaving(input: InputVc, ends: bool) -> InputVc
     ensures { λ r. ⌜ r ≡ inputLeft ends input ⌝ }
 {
     let queued = counts::less_one(input.queued);
-    if ends {
-        return InputVc {
-            binding: Binding::Unbound,
-            credit: input.credit,
-            inside: input.inside,
-            queued,
-        };
-    }
     let mut left = input;
     left.queued = queued;
+    if ends {
+        return left.with_binding(Binding::Unbound);
+    }
     left
 }
 
@@ -55,14 +52,11 @@ fn after_taking(output: OutputVc, ends: bool) -> OutputVc
     ensures { λ r. ⌜ r ≡ outputLeft ends output ⌝ }
 {
     let credit = counts::less_one(output.credit);
-    if ends {
-        return OutputVc {
-            holder: Holder::Nobody,
-            credit,
-        };
-    }
     let mut taken = output;
     taken.credit = credit;
+    if ends {
+        return taken.with_holder(Holder::Nobody);
+    }
     taken
 }
 
@@ -84,19 +78,20 @@ fn departed(out_vc: u8, input: u8, vc: u8, flit: Flit) -> Output
 // The channel of an output's winner, by the row picked there and by what that row's input picked; 32 if there is none.
 fn winning(config: Config, rows: [u8; 8], picks: [u8; 8], o: usize) -> usize
     requires { ⌜ o < 8 ⌝ }
-    ensures { λ r. ⌜ r ≡ cond (eqb (getD rows o 0) 0) 32 (cond (eqb (getD picks (getD rows o 0 - 1) 0) 0) 32 (channel config (getD rows o 0 - 1) (getD picks (getD rows o 0 - 1) 0 - 1))) ⌝ }
+    ensures { λ r. ⌜ r ≡ cond (eqb (getD rows o 0) 0) 32 (cond (eqb (getD picks (getD rows o 0 - 1) 0) 0) 32
+        (channelNumber config (getD rows o 0 - 1) (getD picks (getD rows o 0 - 1) 0 - 1))) ⌝ }
 {
     let row = rows[o];
     if row == 0 {
-        return 32;
+        return CHANNEL_PLACES;
     }
     let i = counts::wide(row - 1);
-    if 8 <= i {
-        return 32;
+    if PORT_PLACES <= i {
+        return CHANNEL_PLACES;
     }
     let pick = picks[i];
     if pick == 0 {
-        return 32;
+        return CHANNEL_PLACES;
     }
     channel::number(config, i, counts::wide(pick - 1))
 }
@@ -143,10 +138,23 @@ pub(crate) fn leave(
     picks: [u8; 8],
     store: &mut [u64; 512],
     home: &mut [u8; 64],
-) -> Gone
+) -> VcsAndLeft
     requires { ⌜ (config .ports ≤ 8) × (1 ≤ config .back) × (config .back ≤ 8) ⌝ }
-    ensures { λ r. ⌜ _≡_ {A = Leaving} (record { inputs = r .inputs; outputs = r .outputs; store = now (store .exit); home = now (home .exit); left = r .left })
-        (departures config (λ (o : ℕ). vcOf (pickIn picks) (pickIn rows o)) (record { inputs = before; outputs = earlier; store = now (store .entry); home = now (home .entry); left = replicate 8 (record { left = left.Nothing }) })) ⌝ }
+    ensures { λ r. ⌜ _≡_ {A = Leaving} (record {
+      inputs = r .inputs;
+      outputs = r .outputs;
+      store = now (store .exit);
+      home = now (home .exit);
+      left = r .left;
+    })
+        (departures config (λ (o : ℕ). vcOf (pickIn picks) (pickIn rows o))
+        (record {
+          inputs = before;
+          outputs = earlier;
+          store = now (store .entry);
+          home = now (home .entry);
+          left = replicate 8 (record { left = left.Nothing });
+        })) ⌝ }
 {
     let mut inputs = before;
     let mut outputs = earlier;
@@ -158,7 +166,7 @@ pub(crate) fn leave(
         let o = next;
         next += 1;
         let x = winning(config, rows, picks, o);
-        if 32 <= x {
+        if CHANNEL_PLACES <= x {
             continue;
         }
         let input = inputs[x];
@@ -170,13 +178,13 @@ pub(crate) fn leave(
         inputs[x] = after_leaving(input, last);
         left[o] = let_go(config, rows, picks, o, to.vc, x, store, home);
         let y = channel::number(config, o, counts::wide(to.vc));
-        if 32 <= y {
+        if CHANNEL_PLACES <= y {
             continue;
         }
         let output = outputs[y];
         outputs[y] = after_taking(output, last);
     }
-    Gone {
+    VcsAndLeft {
         inputs,
         outputs,
         left,

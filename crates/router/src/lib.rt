@@ -10,6 +10,7 @@ mod entry;
 mod intake;
 mod judge;
 mod leaving;
+mod parts;
 mod rows;
 mod running;
 mod switching;

@@ -1,8 +1,9 @@
 // The cycles of a block, stepped and listed one after another, up to the first refusal.
-use crate::acting::Parts;
 use crate::cycle::inner_step;
+use crate::parts::Parts;
 use base::Config;
 use base::Left;
+use base::PORT_PLACES;
 use base::Reply;
 use listing::Written;
 use rules::Verdict;
@@ -15,12 +16,12 @@ ghost use Prim.Native.Nat.{ℕ, _+_, _*_, _≤_, _<_};
 ghost use lib.ListN.{length};
 ghost use Rattle.trace.specs.Blocks.{heldOf};
 ghost use Rattle.listing.specs.Lines.{refusal, finish as Line·finish, cycleLines, flitLines};
-ghost use Rattle.listing.specs.Writing.{outcomeOf};
+ghost use Rattle.listing.specs.Writing.{writeOutcome};
 ghost use Rattle.router.specs.Running.{endedBy, cycled, cyclesFrom, blockTaken};
 ghost use Rattle.router.specs.Inside.{Within, GoesOn, writingOf};
 
 // A run inside a call: the router's parts that travel by value, its cycle count, the run's other fields, and where the next line comes.
-pub struct Went {
+pub struct RunParts {
     pub parts: Parts,
     pub place: Place,
     pub cycle: u64,
@@ -31,7 +32,7 @@ pub struct Went {
 
 // The bytes that a write took; a refused one took none.
 pub(crate) fn size(written: Written) -> usize
-    ensures { λ r. ⌜ ((buffer : List ℕ) → r ≡ outcomeOf written buffer .bytes) ⌝ }
+    ensures { λ r. ⌜ ((buffer : List ℕ) → r ≡ writeOutcome written buffer .bytes) ⌝ }
 {
     match written {
         Written::Lines(bytes) => bytes,
@@ -48,7 +49,7 @@ fn flits_of(reply: Reply) -> u64
     let outputs = reply.outputs;
     let mut count: u64 = 0;
     let mut next: usize = 0;
-    while next < 8 {
+    while next < PORT_PLACES {
         let output = outputs[next];
         next += 1;
         let left = output.left;
@@ -61,29 +62,32 @@ fn flits_of(reply: Reply) -> u64
 }
 
 // The run ends with an R line.
-fn refuse(before: Went, number: u8, place: u8, out: &mut [u8]) -> Went
+fn refuse(before: RunParts, number: u8, place: u8, out: &mut [u8]) -> RunParts
     requires { ⌜ Within (before .at) (now out) ⌝ }
-    ensures { λ r. ⌜ ((c : Config) (store wire home : List ℕ) → writingOf c r store wire home (now (out .exit)) ≡ endedBy (refusal number (before .cycle) place) (writingOf c before store wire home (now (out .entry)))) ⌝ }
+    ensures { λ r. ⌜ ((c : Config) (store wire home : List ℕ) → writingOf c r store wire home (now (out .exit))
+        ≡ endedBy (refusal number (before .cycle) place) (writingOf c before store wire home (now (out .entry)))) ⌝ }
 {
-    let mut went = before;
+    let mut run = before;
     let bytes = size(listing::write_refusal(out, before.at, number, before.cycle, place));
-    went.at = before.at + bytes;
-    went.over = true;
-    went
+    run.at = before.at + bytes;
+    run.over = true;
+    run
 }
 
 // One cycle and its lines.
 fn cycle(
     config: Config,
-    before: Went,
+    before: RunParts,
     part: &[u8],
     store: &mut [u64; 512],
     wire: &mut [u64; 64],
     home: &mut [u8; 64],
     out: &mut [u8],
-) -> Went
+) -> RunParts
     requires { ⌜ GoesOn (writingOf config before (now store) (now wire) (now home) (now out)) ⌝ }
-    ensures { λ r. ⌜ writingOf config r (now (store .exit)) (now (wire .exit)) (now (home .exit)) (now (out .exit)) ≡ cycled (now (part .entry)) (writingOf config before (now (store .entry)) (now (wire .entry)) (now (home .entry)) (now (out .entry))) ⌝ }
+    ensures { λ r. ⌜ writingOf config r (now (store .exit)) (now (wire .exit)) (now (home .exit)) (now (out .exit))
+        ≡ cycled (now (part .entry)) (writingOf config before (now (store .entry)) (now (wire .entry)) (now (home .entry))
+        (now (out .entry))) ⌝ }
 {
     let parts = before.parts;
     let done = inner_step(config, before.cycle, parts, part, store, wire, home);
@@ -95,7 +99,7 @@ fn cycle(
     let reply = done.reply;
     let bytes = size(listing::write_cycle(out, before.at, before.cycle, reply));
     let place = before.place;
-    Went {
+    RunParts {
         parts: after,
         place,
         cycle: done.cycle,
@@ -108,54 +112,60 @@ fn cycle(
 // The cycles that a block holds.
 fn cycles(
     config: Config,
-    before: Went,
+    before: RunParts,
     held: u8,
     block: &[u8],
     store: &mut [u64; 512],
     wire: &mut [u64; 64],
     home: &mut [u8; 64],
     out: &mut [u8],
-) -> Went
-    requires { ⌜ GoesOn (writingOf config before (now store) (now wire) (now home) (now out)) × (512 ≤ length (now block)) × (heldOf (now block) ≤ 7) × (held ≡ heldOf (now block)) ⌝ }
-    ensures { λ r. ⌜ writingOf config r (now (store .exit)) (now (wire .exit)) (now (home .exit)) (now (out .exit)) ≡ cyclesFrom (now (block .entry)) 0 held (writingOf config before (now (store .entry)) (now (wire .entry)) (now (home .entry)) (now (out .entry))) ⌝ }
+) -> RunParts
+    requires { ⌜ GoesOn (writingOf config before (now store) (now wire) (now home) (now out)) × (512 ≤ length (now block))
+        × (heldOf (now block) ≤ 7) × (held ≡ heldOf (now block)) ⌝ }
+    ensures { λ r. ⌜ writingOf config r (now (store .exit)) (now (wire .exit)) (now (home .exit)) (now (out .exit))
+        ≡ cyclesFrom (now (block .entry)) 0 held (writingOf config before (now (store .entry)) (now (wire .entry)) (now (home .entry))
+        (now (out .entry))) ⌝ }
 {
-    let mut went = before;
+    let mut run = before;
     let mut k: usize = 0;
     while k < held as usize {
-        if went.over {
-            return went;
+        if run.over {
+            return run;
         }
         let part = trace::cycle_part(block, k);
-        went = cycle(config, went, part, store, wire, home, out);
+        run = cycle(config, run, part, store, wire, home, out);
         k += 1;
     }
-    went
+    run
 }
 
 // The list ends with the E line.
-fn finish(before: Went, out: &mut [u8]) -> Went
+fn finish(before: RunParts, out: &mut [u8]) -> RunParts
     requires { ⌜ Within (before .at) (now out) ⌝ }
-    ensures { λ r. ⌜ ((c : Config) (store wire home : List ℕ) → writingOf c r store wire home (now (out .exit)) ≡ endedBy (Line·finish (before .cycle) (before .flits)) (writingOf c before store wire home (now (out .entry)))) ⌝ }
+    ensures { λ r. ⌜ ((c : Config) (store wire home : List ℕ) → writingOf c r store wire home (now (out .exit))
+        ≡ endedBy (Line·finish (before .cycle) (before .flits)) (writingOf c before store wire home (now (out .entry)))) ⌝ }
 {
-    let mut went = before;
+    let mut run = before;
     let bytes = size(listing::write_end(out, before.at, before.cycle, before.flits));
-    went.at = before.at + bytes;
-    went.over = true;
-    went
+    run.at = before.at + bytes;
+    run.over = true;
+    run
 }
 
 // One block after the configuration block.
 pub(crate) fn block(
     config: Config,
-    before: Went,
+    before: RunParts,
     block: &[u8],
     store: &mut [u64; 512],
     wire: &mut [u64; 64],
     home: &mut [u8; 64],
     out: &mut [u8],
-) -> Went
+) -> RunParts
     requires { ⌜ (before .place .configured ≡ true) × GoesOn (writingOf config before (now store) (now wire) (now home) (now out)) ⌝ }
-    ensures { λ r. ⌜ writingOf config r (now (store .exit)) (now (wire .exit)) (now (home .exit)) (now (out .exit)) ≡ blockTaken (now (block .entry)) (writingOf config before (now (store .entry)) (now (wire .entry)) (now (home .entry)) (now (out .entry))) ⌝ }
+    ensures { λ r. ⌜ writingOf config r (now (store .exit)) (now (wire .exit)) (now (home .exit)) (now (out .exit))
+        ≡ blockTaken (now (block .entry)) (writingOf config before (now (store .entry)) (now (wire .entry)) (now (home .entry))
+        (now (out .entry))) ⌝ }
 {
     let answer = trace::judge(before.place, before.cycle, block);
     let found = answer.found;

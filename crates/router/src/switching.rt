@@ -4,7 +4,9 @@ use crate::counts;
 use arbiter::Narrow;
 use arbiter::Pick;
 use arbiter::Requests;
+use base::CHANNEL_PLACES;
 use base::Config;
+use base::PORT_PLACES;
 use state::Binding;
 use state::InputVc;
 use state::OutputVc;
@@ -24,14 +26,15 @@ ghost use Rattle.router.specs.Picks.{pickIn, asksIn};
 // "A bound input VC (also one bound just now) is ready when its queue is not empty and its output VC has credit.": the channel whose credit
 // decides; 32, where there is none, if it is not bound or its queue is empty.
 fn waits_for(config: Config, input: InputVc) -> usize
-    ensures { λ r. ⌜ ((outputs : List OutputVc) → length outputs ≡ 32 → isReady config outputs input ≡ not (eqb (getD outputs r (freshOutput 0) .credit) 0)) ⌝ }
+    ensures { λ r. ⌜ ((outputs : List OutputVc) → length outputs ≡ 32 → isReady config outputs input
+        ≡ not (eqb (getD outputs r (freshOutput 0) .credit) 0)) ⌝ }
 {
     if input.queued == 0 {
-        return 32;
+        return CHANNEL_PLACES;
     }
     let binding = input.binding;
     let Binding::Bound(to) = binding else {
-        return 32;
+        return CHANNEL_PLACES;
     };
     channel::number(config, counts::wide(to.output), counts::wide(to.vc))
 }
@@ -48,7 +51,7 @@ pub(crate) fn ready(config: Config, inputs: [InputVc; 32], outputs: [OutputVc; 3
         next += 1;
         let input = inputs[x];
         let y = waits_for(config, input);
-        if 32 <= y {
+        if CHANNEL_PLACES <= y {
             continue;
         }
         let output = outputs[y];
@@ -75,7 +78,8 @@ fn pick(arbiter: Narrow, code: u8, n: u32, set: u32) -> u8
 // "Each input's V-wide arbiter picks one ready VC."
 pub(crate) fn pick_inputs(config: Config, ready: u32, arbiters: [Narrow; 8]) -> [u8; 8]
     requires { ⌜ (config .ports ≤ 8) × (config .vcs ≤ 4) ⌝ }
-    ensures { λ r. ⌜ ((i : ℕ) → i < config .ports → pickIn r i ≡ choice 8 (config .arbiter) (config .vcs) (bit (ready / 2 ^ (i * config .vcs))) (ofNarrow (getD arbiters i pastNarrow))) ⌝ }
+    ensures { λ r. ⌜ ((i : ℕ) → i < config .ports → pickIn r i
+        ≡ choice 8 (config .arbiter) (config .vcs) (bit (ready / 2 ^ (i * config .vcs))) (ofNarrow (getD arbiters i pastNarrow))) ⌝ }
 {
     let n = config.vcs as u32;
     let mut picks = [0u8; 8];
@@ -96,7 +100,7 @@ fn output_of(input: InputVc) -> usize
 {
     let binding = input.binding;
     let Binding::Bound(to) = binding else {
-        return 8;
+        return PORT_PLACES;
     };
     counts::wide(to.output)
 }
@@ -117,12 +121,12 @@ pub(crate) fn table_of(config: Config, inputs: [InputVc; 32], picks: [u8; 8]) ->
             continue;
         }
         let x = channel::number(config, i, counts::wide(pick - 1));
-        if 32 <= x {
+        if CHANNEL_PLACES <= x {
             continue;
         }
         let input = inputs[x];
         let o = output_of(input);
-        if 8 <= o {
+        if PORT_PLACES <= o {
             continue;
         }
         table[i][o] = pick;
@@ -137,7 +141,7 @@ fn column(table: &[[u8; 8]; 8], o: usize) -> u32
 {
     let mut set: u32 = 0;
     let mut i: usize = 0;
-    while i < 8 {
+    while i < PORT_PLACES {
         if table[i][o] != 0 {
             let one: u32 = 1;
             set = set + (one << (i as u32));
@@ -150,7 +154,9 @@ fn column(table: &[[u8; 8]; 8], o: usize) -> u32
 // "each output's P-wide arbiter picks one row."
 pub(crate) fn pick_outputs(config: Config, table: &[[u8; 8]; 8], arbiters: [Narrow; 8]) -> [u8; 8]
     requires { ⌜ config .ports ≤ 8 ⌝ }
-    ensures { λ r. ⌜ ((o : ℕ) → o < config .ports → pickIn r o ≡ choice 8 (config .arbiter) (config .ports) (λ (i : ℕ). asksIn (now (table .entry)) i o) (ofNarrow (getD arbiters o pastNarrow))) ⌝ }
+    ensures { λ r. ⌜ ((o : ℕ) → o < config .ports → pickIn r o
+        ≡ choice 8 (config .arbiter) (config .ports) (λ (i : ℕ). asksIn (now (table .entry)) i o)
+        (ofNarrow (getD arbiters o pastNarrow))) ⌝ }
 {
     let n = config.ports as u32;
     let mut picks = [0u8; 8];

@@ -60,5 +60,6 @@ module _ (s : Router) (part : List ℕ) (bytes : AreBytes part) (accepted : step
   readied-newest i h =
       let few = sound-legal s accepted-before .ports .1 in
       let some = sound-legal s accepted-before .back .0 in
-      advanced-newest (s .config .back) (s .config .ports) (s .home) (accepted-before .homeRest) (sound-lengths s accepted-before .home)
+      advanced-newest (s .config .back) (s .config .ports) (s .home) (accepted-before .sizes .homeRest)
+      (sound-lengths s accepted-before .home)
       (s .config .back - 1) i (omega arith) (omega arith)

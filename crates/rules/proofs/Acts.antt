@@ -41,7 +41,8 @@ touched-or-not {E} act place (suc n) y = go (act n) refl (touched-or-not act pla
             here e (ap act (sym k) ∙ q) (ap (λ (j : ℕ). place j e) (sym k) ∙ f)
         last false r f = below i e (lt-of-le-ne (omega arith) (eqb-false i n r)) q f
 
-    go : (o : Option E) → act n ≡ o → Actor act place n y ⊎ Untouched act place n y → Actor act place (suc n) y ⊎ Untouched act place (suc n) y
+    go : (o : Option E) → act n ≡ o → Actor act place n y ⊎ Untouched act place n y
+        → Actor act place (suc n) y ⊎ Untouched act place (suc n) y
     go o q (inl a) =
         inl (record { port = a .port; deed = a .deed; below = let l = a .below in omega arith; acts = a .acts; there = a .there })
     go none q (inr off) = inr (more (λ e r. absurd (Option·none-ne-some e (sym q ∙ r))) off)
@@ -69,7 +70,8 @@ module _ {A E : Type 0} (d : A) (act : ℕ → Option E) (place : ℕ → E → 
   changing i none a = a
   changing i (some e) a = change i e a
 
-  as-turns : (n : ℕ) (xs : List A) → overPorts n deeds xs ≡ overPorts n (turns d (λ (i : ℕ). placed i (act i)) (λ (i : ℕ). changing i (act i))) xs
+  as-turns : (n : ℕ) (xs : List A) → overPorts n deeds xs ≡ overPorts n
+      (turns d (λ (i : ℕ). placed i (act i)) (λ (i : ℕ). changing i (act i))) xs
   as-turns n xs =
       over-same n deeds (turns d (λ (i : ℕ). placed i (act i)) (λ (i : ℕ). changing i (act i))) xs (λ t i l. go t i (act i))
     where

@@ -98,7 +98,8 @@ module _ (delay ports : ℕ) (line : List ℕ) (unused : lineUnused delay ports 
       go k i g true q =
           ap legal (advanced-place line k i) ∙ every-at ports _ (every-at delay _ e (suc k) (ltb-true (suc k) delay q)) i g
       go k i g false q =
-          ap legal (advanced-place line k i ∙ rest-at delay ports line unused whole (suc k) i (omega arith) (inl (ltb-false (suc k) delay q))) ∙ none
+          ap legal (advanced-place line k i ∙ rest-at delay ports line unused whole (suc k) i (omega arith)
+          (inl (ltb-false (suc k) delay q))) ∙ none
 
 module _ (c : Config) (i v : ℕ) (there : i < 8) where
   -- the home line of a channel a cycle later

@@ -17,13 +17,14 @@ use Rattle.state.specs.declared.Router.{Router}
 use Rattle.state.specs.Fresh.{freshInput, freshOutput}
 use Rattle.state.specs.Sound.{Sound, creditsAddUp, packetsRead, outputCreditsFit, frontIsFor, startsInside, reading, endsAs, reads}
 use Rattle.store.specs.Store.{firstSlot}
-use Rattle.state.specs.Views.{channel, inputAt, queueAt, queueOf, wireOf, flat}
+use Rattle.state.specs.Views.{channelNumber, inputAt, queueAt, queueOf, wireOf, flat}
 use Rattle.state.proofs.Exact.{shape-is}
-use Rattle.rules.specs.Allocation.{grantOf, requesterOf, boundTo, heldBy, allocated}
+use Rattle.rules.specs.Allocation.{grantOf, requesterOf, bindTo, heldBy, allocated}
 use Rattle.rules.proofs.AllocatedNames.{bound-at, held-at, allocated-names}
 use Rattle.rules.proofs.Acts.{Actor, Untouched}
 use Rattle.rules.proofs.Arbiters.{wide-moved-sound, wide-beyond, arbiters-kept, unused-arbiters-kept}
-use Rattle.rules.proofs.Bound.{asking, giving, allocated-inputs-length, allocated-outputs-length, ungranted-stays, ungiven-stays, beyond-ungranted, beyond-ungiven, granted-or-not, given-or-not}
+use Rattle.rules.proofs.Bound.{asking, giving, allocated-inputs-length, allocated-outputs-length, ungranted-stays, ungiven-stays}
+use Rattle.rules.proofs.Bound.{beyond-ungranted, beyond-ungiven, granted-or-not, given-or-not}
 use Rattle.rules.proofs.Channels.{channels-ext}
 use Rattle.rules.proofs.Facts.{credits-sum, sum-credits, sound-lengths}
 use Rattle.rules.proofs.Grants.{grant-is}
@@ -34,7 +35,7 @@ module _ (s : Router) (sound : Sound s) where
   c = s .config
 
   -- all but the binding stays, of each input VC; all but the holder, of each output VC
-  pub inputs-alike : {B : Type 0} (see : InputVc → B) → ((o w : ℕ) (x : InputVc) → see (boundTo o w x) ≡ see x)
+  pub inputs-alike : {B : Type 0} (see : InputVc → B) → ((o w : ℕ) (x : InputVc) → see (bindTo o w x) ≡ see x)
       → Alike (freshInput 0) see (allocated s .inputs) (s .inputs)
   inputs-alike see same x = go (granted-or-not s x)
     where
@@ -56,45 +57,49 @@ module _ (s : Router) (sound : Sound s) where
   credits : creditsAddUp c (allocated s .inputs) (s .wire) (s .home) ≡ true
   credits =
       sum-credits c (allocated s .inputs) (s .wire) (s .home) (λ i v h g.
-      let before = credits-sum c (s .inputs) (s .wire) (s .home) (sound .credits) i v h g in
-      let credit = inputs-alike (λ (x : InputVc). x .credit) (λ o w x. refl) (channel c i v) in
-      let queued = inputs-alike queuedOf (λ o w x. refl) (channel c i v) in
+      let before = credits-sum c (s .inputs) (s .wire) (s .home) (sound .flow .credits) i v h g in
+      let credit = inputs-alike (λ (x : InputVc). x .credit) (λ o w x. refl) (channelNumber c i v) in
+      let queued = inputs-alike queuedOf (λ o w x. refl) (channelNumber c i v) in
       omega arith)
 
   output-credits : outputCreditsFit c (allocated s .outputs) ≡ true
   unfolding outputCreditsFit
   output-credits =
       channels-ext c _ _ (λ o w h g.
-      ap (λ (n : ℕ). leb n (c .downstream)) (outputs-alike (λ (y : OutputVc). y .credit) (λ i v y. refl) (channel c o w)))
-      ∙ sound .outputCredits
+      ap (λ (n : ℕ). leb n (c .downstream)) (outputs-alike (λ (y : OutputVc). y .credit) (λ i v y. refl) (channelNumber c o w)))
+      ∙ sound .flow .outputCredits
 
   -- a reading starts where it did: between packets, where an H or S for the output is in front
   packets : packetsRead c (allocated s .inputs) (s .store) (s .wire) ≡ true
   unfolding packetsRead reads
-  packets = channels-ext c _ _ (λ i v h g. go i v (granted-or-not s (channel c i v))) ∙ sound .packets
+  packets = channels-ext c _ _ (λ i v h g. go i v (granted-or-not s (channelNumber c i v))) ∙ sound .naming .packets
     where
-      go : (i v : ℕ) → Actor (grantOf s) (asking s) (c .ports) (channel c i v) ⊎ Untouched (grantOf s) (asking s) (c .ports) (channel c i v)
+      go : (i v : ℕ) → Actor (grantOf s) (asking s) (c .ports) (channelNumber c i v) ⊎ Untouched (grantOf s) (asking s) (c .ports)
+          (channelNumber c i v)
           → reads (queueOf c (s .store) i v (inputAt c (allocated s .inputs) i v .queued)) (flat (wireOf c (s .wire) i v))
-          (inputAt c (allocated s .inputs) i v .binding) (inputAt c (allocated s .inputs) i v .inside)
-          ≡ reads (queueOf c (s .store) i v (inputAt c (s .inputs) i v .queued)) (flat (wireOf c (s .wire) i v)) (inputAt c (s .inputs) i v .binding)
-          (inputAt c (s .inputs) i v .inside)
+          (inputAt c (allocated s .inputs) i v .binding) (inputAt c (allocated s .inputs) i v .opened)
+          ≡ reads (queueOf c (s .store) i v (inputAt c (s .inputs) i v .queued)) (flat (wireOf c (s .wire) i v))
+          (inputAt c (s .inputs) i v .binding)
+          (inputAt c (s .inputs) i v .opened)
       go i v (inl a) =
           let n = grant-is s (a .port) (a .deed) (a .acts) in
           let queue = queueOf c (s .store) i v (inputAt c (s .inputs) i v .queued) in
           let front : frontIsFor (a .port) queue ≡ true =
-          ap (λ (x : ℕ). frontIsFor (a .port) (queueAt (s .store) (firstSlot x) (getD (s .inputs) x (freshInput 0) .queued))) (sym (a .there))
+          ap (λ (x : ℕ). frontIsFor (a .port) (queueAt (s .store) (firstSlot x) (getD (s .inputs) x (freshInput 0) .queued)))
+          (sym (a .there))
           ∙ n .front in
           let unbound : inputAt c (s .inputs) i v .binding ≡ Unbound =
           ap (λ (x : ℕ). getD (s .inputs) x (freshInput 0) .binding) (sym (a .there)) ∙ n .unbound in
-          ap (λ (x : InputVc). reads (queueOf c (s .store) i v (x .queued)) (flat (wireOf c (s .wire) i v)) (x .binding) (x .inside))
+          ap (λ (x : InputVc). reads (queueOf c (s .store) i v (x .queued)) (flat (wireOf c (s .wire) i v)) (x .binding) (x .opened))
           (bound-at s sound
-          (channel c i v) a)
-          ∙ ap (λ (b : Bool). endsAs (inputAt c (s .inputs) i v .inside) (reading (not b) (queue ++ flat (wireOf c (s .wire) i v)))) front
-          ∙ ap (λ (b : Binding). endsAs (inputAt c (s .inputs) i v .inside) (reading (startsInside queue b) (queue ++ flat (wireOf c (s .wire) i v))))
+          (channelNumber c i v) a)
+          ∙ ap (λ (b : Bool). endsAs (inputAt c (s .inputs) i v .opened) (reading (not b) (queue ++ flat (wireOf c (s .wire) i v)))) front
+          ∙ ap (λ (b : Binding). endsAs (inputAt c (s .inputs) i v .opened)
+          (reading (startsInside queue b) (queue ++ flat (wireOf c (s .wire) i v))))
           (sym unbound)
       go i v (inr off) =
-          ap (λ (x : InputVc). reads (queueOf c (s .store) i v (x .queued)) (flat (wireOf c (s .wire) i v)) (x .binding) (x .inside))
-          (ungranted-stays s (channel c i v) off)
+          ap (λ (x : InputVc). reads (queueOf c (s .store) i v (x .queued)) (flat (wireOf c (s .wire) i v)) (x .binding) (x .opened))
+          (ungranted-stays s (channelNumber c i v) off)
 
   -- "each accepted cycle leaves a sound state": phase 5
   pub allocated-sound : Sound (allocated s)
@@ -103,30 +108,45 @@ module _ (s : Router) (sound : Sound s) where
       let l = sound-lengths s sound in
       let queued = inputs-alike queuedOf (λ o w x. refl) in
       record {
-        configuration = sound .configuration;
-        cycles = sound .cycles;
-        credits = credits;
-        wire = sound .wire;
-        home = sound .home;
-        queues = queues-kept c (allocated s .inputs) (s .inputs) (s .store) queued ∙ sound .queues;
-        outputCredits = output-credits;
-        names = allocated-names s sound;
-        arbiters =
-            arbiters-kept c (allocated s .arbiters) (s .arbiters) (sound .arbiters)
-            (λ o h e. wide-moved-sound c (c .ports * c .vcs) (λ (o : ℕ). requesterOf (grantOf s o)) o (s .arbiters .vcs) h e) (λ i h e. e)
-            (λ o h e. e);
-        packets = packets;
-        channels =
-            unused-kept c (allocated s .inputs) (s .inputs) (allocated s .outputs) (s .outputs)
-            (λ x h. ungranted-stays s x (beyond-ungranted s x h)) (λ x h. ungiven-stays s x (beyond-ungiven s x h))
-            ∙ sound .channels;
-        slots = slots-kept c (allocated s .inputs) (s .inputs) (s .store) queued ∙ sound .slots;
-        wireRest = sound .wireRest;
-        homeRest = sound .homeRest;
-        others =
-            unused-arbiters-kept c (allocated s .arbiters) (s .arbiters)
-            (λ o h. wide-beyond c (c .ports * c .vcs) (λ (o : ℕ). requesterOf (grantOf s o)) o (s .arbiters .vcs) h) (λ i h. refl) (λ o h. refl)
-            ∙ sound .others;
-        shape = shape-is (allocated s) (allocated-inputs-length s ∙ l .inputs) (allocated-outputs-length s ∙ l .outputs) (l .store) (l .wire)
-            (l .home);
+        sizes =
+            record {
+              configuration = sound .sizes .configuration;
+              cycles = sound .sizes .cycles;
+              wire = sound .sizes .wire;
+              home = sound .sizes .home;
+              wireRest = sound .sizes .wireRest;
+              homeRest = sound .sizes .homeRest;
+              shape = shape-is (allocated s) (allocated-inputs-length s ∙ l .inputs) (allocated-outputs-length s ∙ l .outputs) (l .store)
+                  (l .wire)
+                  (l .home);
+            };
+        flow =
+            record {
+              credits = credits;
+              queues = queues-kept c (allocated s .inputs) (s .inputs) (s .store) queued ∙ sound .flow .queues;
+              outputCredits = output-credits;
+              channels =
+                  unused-kept c (allocated s .inputs) (s .inputs) (allocated s .outputs) (s .outputs)
+                  (λ x h. ungranted-stays s x (beyond-ungranted s x h)) (λ x h. ungiven-stays s x (beyond-ungiven s x h))
+                  ∙ sound .flow .channels;
+              slots = slots-kept c (allocated s .inputs) (s .inputs) (s .store) queued ∙ sound .flow .slots;
+            };
+        naming =
+            record {
+              names = allocated-names s sound;
+              packets = packets;
+            };
+        arbitration =
+            record {
+              arbiters =
+                  arbiters-kept c (allocated s .arbiters) (s .arbiters) (sound .arbitration .arbiters)
+                  (λ o h e. wide-moved-sound c (c .ports * c .vcs) (λ (o : ℕ). requesterOf (grantOf s o)) o (s .arbiters .vcs) h e)
+                  (λ i h e. e)
+                  (λ o h e. e);
+              others =
+                  unused-arbiters-kept c (allocated s .arbiters) (s .arbiters)
+                  (λ o h. wide-beyond c (c .ports * c .vcs) (λ (o : ℕ). requesterOf (grantOf s o)) o (s .arbiters .vcs) h) (λ i h. refl)
+                  (λ o h. refl)
+                  ∙ sound .arbitration .others;
+            };
       }

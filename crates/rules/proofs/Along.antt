@@ -48,7 +48,8 @@ module _ {A : Type 0} where
         kept : Keeps (overPorts n f s)
         kept = over-keeps Keeps n f s (λ t j m k. keeps t j (omega arith) k) h
 
-        go : (e : Bool) → eqb n i ≡ e → (i < n → after (overPorts n f s) ≡ change (before s)) → after (f (overPorts n f s) n) ≡ change (before s)
+        go : (e : Bool) → eqb n i ≡ e → (i < n → after (overPorts n f s) ≡ change (before s)) → after (f (overPorts n f s) n)
+            ≡ change (before s)
         go true e rest =
             let q = eqb-true n i e in
             ap (λ (j : ℕ). after (f (overPorts n f s) j)) q ∙ own (overPorts n f s) kept

@@ -13,10 +13,10 @@ use Rattle.base.specs.declared.config.Config.{Config}
 use Rattle.base.proofs.Search.{both, every-at, all-every, every-ext}
 use Rattle.arbiter.specs.declared.Narrow.{Narrow}
 use Rattle.arbiter.specs.declared.Wide.{Wide}
-use Rattle.arbiter.specs.Arbiter.{Arbiter, ofNarrow, ofWide, after, sound}
+use Rattle.arbiter.specs.Arbiter.{Arbiter, ofNarrow, ofWide, after, sound, asNarrow, asWide}
 use Rattle.arbiter.proofs.Soundness.{sound-is, sound-holds, after-sound}
 use Rattle.state.specs.declared.Arbiters.{Arbiters}
-use Rattle.state.specs.Fresh.{asNarrow, asWide, pastNarrow, pastWide}
+use Rattle.state.specs.Fresh.{pastNarrow, pastWide}
 use Rattle.state.specs.Sound.{arbitersSound, arbiterUnused, arbitersUnused}
 use Rattle.state.specs.Views.{vcArbiter, inputArbiter, outputArbiter}
 use Rattle.rules.specs.Ports.{overPorts}
@@ -43,7 +43,8 @@ module _ {A : Type 0} (d : A) (g : ℕ → A → A) where
       below j i h l e = let same : j ≡ i = cc in omega arith
 
 -- a list of structs that hold an arbiter each, and what is read past its end
-module _ {A : Type 0} (d : A) (of : A → Arbiter) (in-struct : Arbiter → A) (same : (a : Arbiter) → of (in-struct a) ≡ a) (none : of d .rows ≡ [])
+module _ {A : Type 0} (d : A) (of : A → Arbiter) (in-struct : Arbiter → A) (same : (a : Arbiter) → of (in-struct a) ≡ a)
+    (none : of d .rows ≡ [])
     (places code n : ℕ) (room : 1 ≤ places) where
   -- a sound arbiter is not past the end
   pub sound-there : (xs : List A) (i : ℕ) → sound places code n (of (getD xs i d)) ≡ true → i < length xs
@@ -80,7 +81,8 @@ module _ (c : Config) (n : ℕ) (pick : ℕ → Option ℕ) (i : ℕ) where
   pub narrow-moved-sound : (xs : List Narrow) → i < c .ports → sound 8 (c .arbiter) n (ofNarrow (getD xs i pastNarrow)) ≡ true
       → sound 8 (c .arbiter) n (ofNarrow (getD (narrowMoved c n pick xs) i pastNarrow)) ≡ true
   unfolding narrowMoved
-  narrow-moved-sound xs l e = moved-sound-at pastNarrow ofNarrow asNarrow (λ a. refl) refl 8 (c .arbiter) n (omega arith) pick (c .ports) xs i l e
+  narrow-moved-sound xs l e = moved-sound-at pastNarrow ofNarrow asNarrow (λ a. refl) refl 8 (c .arbiter) n (omega arith) pick
+      (c .ports) xs i l e
 
   pub wide-beyond : (xs : List Wide) → c .ports ≤ i → getD (wideMoved c n pick xs) i pastWide ≡ getD xs i pastWide
   unfolding wideMoved
@@ -116,7 +118,8 @@ module _ (c : Config) (later before : Arbiters) where
     where
       none : Arbiters → ℕ → Bool
       none a i =
-          arbiterUnused 32 (ofWide (vcArbiter a i)) && arbiterUnused 8 (ofNarrow (inputArbiter a i)) && arbiterUnused 8 (ofNarrow (outputArbiter a i))
+          arbiterUnused 32 (ofWide (vcArbiter a i)) && arbiterUnused 8 (ofNarrow (inputArbiter a i))
+          && arbiterUnused 8 (ofNarrow (outputArbiter a i))
 
       go : (i : ℕ) (b : Bool) → ltb i (c .ports) ≡ b → (b || none later i) ≡ (b || none before i)
       go i true e = refl

@@ -18,7 +18,7 @@ use Rattle.base.proofs.Configurations.{Legal}
 use Rattle.state.specs.declared.InputVc.{InputVc}
 use Rattle.state.specs.Fresh.{freshInput}
 use Rattle.store.specs.Store.{firstSlot, pushed}
-use Rattle.state.specs.Views.{channel, queueAt, wirePlace, wireVc, wireFlit, onVc, slotFlit}
+use Rattle.state.specs.Views.{channelNumber, queueAt, wirePlace, wireVc, wireFlit, onVc, slotFlit}
 use Rattle.state.proofs.EmptySlots.{emptyIn, queuedAt, push-keeps-empty, push-keeps-empty-others}
 use Rattle.state.proofs.Queues.{queueIn, push-appends, push-keeps-others}
 use Rattle.store.proofs.Slots.{push-full, push-length}
@@ -130,15 +130,15 @@ module _ (c : Config) (legal : Legal c) (wire : List ℕ)
     where
       go : (b : Bool) → Whole (cond b q (joined c i (wireVc (wirePlace wire 0 i)) (wireFlit (wirePlace wire 0 i)) q))
       go true = w
-      go false = joins-whole (channel c i (wireVc (wirePlace wire 0 i))) (wireFlit (wirePlace wire 0 i)) q w
+      go false = joins-whole (channelNumber c i (wireVc (wirePlace wire 0 i))) (wireFlit (wirePlace wire 0 i)) q w
 
   pub landings-whole : (q : Queues) → Whole q → Whole (landings c wire q)
   unfolding landings
   landings-whole q w = over-keeps Whole (c .ports) turn q turn-whole w
 
-  -- a turn leaves all lanes but that of the channel that it names
+  -- a turn leaves all VCs but that of the channel that it names
   turn-elsewhere : (q : Queues) (i y : ℕ) → i < c .ports → y < 32 → Whole q
-      → (wirePlace wire 0 i ≢ 0 → channel c i (wireVc (wirePlace wire 0 i)) ≢ y) → lane (turn q i) y ≡ lane q y
+      → (wirePlace wire 0 i ≢ 0 → channelNumber c i (wireVc (wirePlace wire 0 i)) ≢ y) → lane (turn q i) y ≡ lane q y
   turn-elsewhere q i y h here w n = go (eqb (wirePlace wire 0 i) 0) refl
     where
       go : (b : Bool) → eqb (wirePlace wire 0 i) 0 ≡ b
@@ -146,40 +146,42 @@ module _ (c : Config) (legal : Legal c) (wire : List ℕ)
       go true e = refl
       go false e =
           let some = eqb-false (wirePlace wire 0 i) 0 e in
-          joins-elsewhere (channel c i (wireVc (wirePlace wire 0 i))) (wireFlit (wirePlace wire 0 i)) q y w
+          joins-elsewhere (channelNumber c i (wireVc (wirePlace wire 0 i))) (wireFlit (wirePlace wire 0 i)) q y w
           (channel-room c legal i (wireVc (wirePlace wire 0 i)) h (near i h some)) here (n some)
 
   turn-here : (q : Queues) (i v : ℕ) → i < c .ports → v < c .vcs → Whole q
-      → queuedAt (q .inputs) (channel c i v) + length (onVc v (wirePlace wire 0 i)) ≤ 16 → lane q (channel c i v) .empty ≡ true
-      → lane (turn q i) (channel c i v)
-      ≡ cond (isOn v (wirePlace wire 0 i)) (oneMore (wireFlit (wirePlace wire 0 i)) (lane q (channel c i v))) (lane q (channel c i v))
+      → queuedAt (q .inputs) (channelNumber c i v) + length (onVc v (wirePlace wire 0 i)) ≤ 16 → lane q (channelNumber c i v) .empty ≡ true
+      → lane (turn q i) (channelNumber c i v)
+      ≡ cond (isOn v (wirePlace wire 0 i)) (oneMore (wireFlit (wirePlace wire 0 i)) (lane q (channelNumber c i v)))
+      (lane q (channelNumber c i v))
   turn-here q i v h g w = go (eqb (wirePlace wire 0 i) 0) refl (eqb (wireVc (wirePlace wire 0 i)) v) refl
     where
       go : (a : Bool) → eqb (wirePlace wire 0 i) 0 ≡ a → (b : Bool) → eqb (wireVc (wirePlace wire 0 i)) v ≡ b
-          → queuedAt (q .inputs) (channel c i v) + length {A = Flit} (cond (not a && b) (wireFlit (wirePlace wire 0 i) ∷ []) []) ≤ 16
-          → lane q (channel c i v) .empty ≡ true
-          → lane (cond a q (joined c i (wireVc (wirePlace wire 0 i)) (wireFlit (wirePlace wire 0 i)) q)) (channel c i v)
-          ≡ cond (not a && b) (oneMore (wireFlit (wirePlace wire 0 i)) (lane q (channel c i v))) (lane q (channel c i v))
+          → queuedAt (q .inputs) (channelNumber c i v) + length {A = Flit} (cond (not a && b) (wireFlit (wirePlace wire 0 i) ∷ []) []) ≤ 16
+          → lane q (channelNumber c i v) .empty ≡ true
+          → lane (cond a q (joined c i (wireVc (wirePlace wire 0 i)) (wireFlit (wirePlace wire 0 i)) q)) (channelNumber c i v)
+          ≡ cond (not a && b) (oneMore (wireFlit (wirePlace wire 0 i)) (lane q (channelNumber c i v))) (lane q (channelNumber c i v))
       go true e b p room empty = refl
       go false e true p room empty =
           let same = eqb-true (wireVc (wirePlace wire 0 i)) v p in
-          ap (λ (u : ℕ). lane (joins (channel c i u) (wireFlit (wirePlace wire 0 i)) q) (channel c i v)) same
-          ∙ joins-here (channel c i v) (wireFlit (wirePlace wire 0 i)) q w (channel-room c legal i v h g) (omega arith) empty
+          ap (λ (u : ℕ). lane (joins (channelNumber c i u) (wireFlit (wirePlace wire 0 i)) q) (channelNumber c i v)) same
+          ∙ joins-here (channelNumber c i v) (wireFlit (wirePlace wire 0 i)) q w (channel-room c legal i v h g) (omega arith) empty
       go false e false p room empty =
           let some = eqb-false (wirePlace wire 0 i) 0 e in
-          joins-elsewhere (channel c i (wireVc (wirePlace wire 0 i))) (wireFlit (wirePlace wire 0 i)) q (channel c i v) w
+          joins-elsewhere (channelNumber c i (wireVc (wirePlace wire 0 i))) (wireFlit (wirePlace wire 0 i)) q (channelNumber c i v) w
           (channel-room c legal i (wireVc (wirePlace wire 0 i)) h (near i h some)) (channel-room c legal i v h g)
           (λ r. eqb-false (wireVc (wirePlace wire 0 i)) v p (channel-apart c i (wireVc (wirePlace wire 0 i)) i v (near i h some) g r .1))
 
   -- a channel that there is gets what its wire's oldest place holds
   pub lane-lands : (q : Queues) → Whole q → (i v : ℕ) → i < c .ports → v < c .vcs
-      → queuedAt (q .inputs) (channel c i v) + length (onVc v (wirePlace wire 0 i)) ≤ 16 → lane q (channel c i v) .empty ≡ true
-      → lane (landings c wire q) (channel c i v)
-      ≡ cond (isOn v (wirePlace wire 0 i)) (oneMore (wireFlit (wirePlace wire 0 i)) (lane q (channel c i v))) (lane q (channel c i v))
+      → queuedAt (q .inputs) (channelNumber c i v) + length (onVc v (wirePlace wire 0 i)) ≤ 16 → lane q (channelNumber c i v) .empty ≡ true
+      → lane (landings c wire q) (channelNumber c i v)
+      ≡ cond (isOn v (wirePlace wire 0 i)) (oneMore (wireFlit (wirePlace wire 0 i)) (lane q (channelNumber c i v)))
+      (lane q (channelNumber c i v))
   unfolding landings
   lane-lands q w i v h g room empty =
-      over-once Whole (λ (t : Queues). lane t (channel c i v)) (c .ports) turn q i _ h turn-whole w
-      (λ t j l n k. turn-elsewhere t j (channel c i v) l (channel-room c legal i v h g) k
+      over-once Whole (λ (t : Queues). lane t (channelNumber c i v)) (c .ports) turn q i _ h turn-whole w
+      (λ t j l n k. turn-elsewhere t j (channelNumber c i v) l (channel-room c legal i v h g) k
       (λ some r. n (channel-apart c j (wireVc (wirePlace wire 0 j)) i v (near j l some) g r .0)))
       (λ t k e.
       turn-here t i v h g k (subst (λ (l : Lane). l .queued + length (onVc v (wirePlace wire 0 i)) ≤ 16) (sym e) room)

@@ -11,9 +11,9 @@ use Rattle.state.specs.declared.InputVc.{InputVc}
 use Rattle.state.specs.declared.OutputVc.{OutputVc}
 use Rattle.state.specs.declared.Router.{Router}
 use Rattle.state.specs.Fresh.{freshInput, freshOutput}
-use Rattle.state.specs.Views.{channel, outputAt}
+use Rattle.state.specs.Views.{channelNumber, outputAt}
 use Rattle.rules.specs.Ports.{overPorts}
-use Rattle.rules.specs.Allocation.{Grant, grantOf, boundTo, heldBy, Names, boundBy, bindings, allocated}
+use Rattle.rules.specs.Allocation.{Grant, grantOf, bindTo, heldBy, Vcs, boundBy, bindings, allocated}
 use Rattle.rules.proofs.Turns.{over-seen}
 use Rattle.rules.proofs.Acts.{Actor, Untouched, touched-or-not, acted, deeds, deeds-length, untouched-stays, touched-changes}
 use Rattle.rules.proofs.Channels.{channel-below, channel-apart}
@@ -25,35 +25,37 @@ module _ (s : Router) where
   asking o g = g .requester
 
   abbrev pub giving : ℕ → Grant → ℕ
-  giving o g = channel (s .config) o (g .vc)
+  giving o g = channelNumber (s .config) o (g .vc)
 
   abbrev bind : ℕ → Grant → InputVc → InputVc
-  bind o g x = boundTo o (g .vc) x
+  bind o g x = bindTo o (g .vc) x
 
   abbrev hold : ℕ → Grant → OutputVc → OutputVc
   hold o g y = heldBy (g .requester / s .config .vcs) (g .requester % s .config .vcs) y
 
   -- the two lists that phase 5 changes, each a fold of its own
-  abbrev start : Names
+  abbrev start : Vcs
   start = record { inputs = s .inputs; outputs = s .outputs }
 
   inputs-fold : allocated s .inputs ≡ overPorts (s .config .ports) (deeds (freshInput 0) (grantOf s) asking bind) (s .inputs)
   unfolding allocated bindings
   inputs-fold =
-      over-seen (λ (m : Names). m .inputs) (s .config .ports) (λ m o. boundBy (s .config) o (grantOf s o) m)
+      over-seen (λ (m : Vcs). m .inputs) (s .config .ports) (λ m o. boundBy (s .config) o (grantOf s o) m)
       (deeds (freshInput 0) (grantOf s) asking bind) start (λ m o l. go m o (grantOf s o))
     where
-      go : (m : Names) (o : ℕ) (q : Option Grant) → boundBy (s .config) o q m .inputs ≡ acted (freshInput 0) (asking o) (bind o) q (m .inputs)
+      go : (m : Vcs) (o : ℕ) (q : Option Grant) → boundBy (s .config) o q m .inputs
+          ≡ acted (freshInput 0) (asking o) (bind o) q (m .inputs)
       go m o none = refl
       go m o (some g) = refl
 
   outputs-fold : allocated s .outputs ≡ overPorts (s .config .ports) (deeds (freshOutput 0) (grantOf s) giving hold) (s .outputs)
   unfolding allocated bindings
   outputs-fold =
-      over-seen (λ (m : Names). m .outputs) (s .config .ports) (λ m o. boundBy (s .config) o (grantOf s o) m)
+      over-seen (λ (m : Vcs). m .outputs) (s .config .ports) (λ m o. boundBy (s .config) o (grantOf s o) m)
       (deeds (freshOutput 0) (grantOf s) giving hold) start (λ m o l. go m o (grantOf s o))
     where
-      go : (m : Names) (o : ℕ) (q : Option Grant) → boundBy (s .config) o q m .outputs ≡ acted (freshOutput 0) (giving o) (hold o) q (m .outputs)
+      go : (m : Vcs) (o : ℕ) (q : Option Grant) → boundBy (s .config) o q m .outputs
+          ≡ acted (freshOutput 0) (giving o) (hold o) q (m .outputs)
       go m o none = refl
       go m o (some g) = refl
 
@@ -66,7 +68,7 @@ module _ (s : Router) where
 
   -- the requester that output o grants is bound to o and the VC given out
   pub granted-bound : (o : ℕ) (g : Grant) → o < s .config .ports → grantOf s o ≡ some g → g .requester < length (s .inputs)
-      → getD (allocated s .inputs) (g .requester) (freshInput 0) ≡ boundTo o (g .vc) (getD (s .inputs) (g .requester) (freshInput 0))
+      → getD (allocated s .inputs) (g .requester) (freshInput 0) ≡ bindTo o (g .vc) (getD (s .inputs) (g .requester) (freshInput 0))
   granted-bound o g l e m =
       ap (λ (xs : List InputVc). getD xs (g .requester) (freshInput 0)) inputs-fold
       ∙ touched-changes (freshInput 0) (grantOf s) asking bind (s .config .ports) (s .inputs) o g l e m
@@ -80,11 +82,12 @@ module _ (s : Router) where
       ∙ untouched-stays (freshInput 0) (grantOf s) asking bind (s .config .ports) (s .inputs) x off
 
   -- the output VC that is given out is held by the requester that gets it
-  pub given-held : (o : ℕ) (g : Grant) → o < s .config .ports → grantOf s o ≡ some g → channel (s .config) o (g .vc) < length (s .outputs)
+  pub given-held : (o : ℕ) (g : Grant) → o < s .config .ports → grantOf s o ≡ some g
+      → channelNumber (s .config) o (g .vc) < length (s .outputs)
       → outputAt (s .config) (allocated s .outputs) o (g .vc)
       ≡ heldBy (g .requester / s .config .vcs) (g .requester % s .config .vcs) (outputAt (s .config) (s .outputs) o (g .vc))
   given-held o g l e m =
-      ap (λ (ys : List OutputVc). getD ys (channel (s .config) o (g .vc)) (freshOutput 0)) outputs-fold
+      ap (λ (ys : List OutputVc). getD ys (channelNumber (s .config) o (g .vc)) (freshOutput 0)) outputs-fold
       ∙ touched-changes (freshOutput 0) (grantOf s) giving hold (s .config .ports) (s .outputs) o g l e m
       (λ p h k f same. channel-apart (s .config) p (h .vc) o (g .vc) (grant-is s p h f .vc-below) (grant-is s o g e .vc-below) same .0)
 

@@ -13,29 +13,29 @@ use Rattle.base.specs.Search.{every}
 use Rattle.base.proofs.Configurations.{Legal}
 use Rattle.base.proofs.Search.{every-at, all-every, every-ext}
 use Rattle.state.specs.Sound.{everyChannel}
-use Rattle.state.specs.Views.{channel}
+use Rattle.state.specs.Views.{channelNumber}
 use Rattle.state.proofs.Made.{channels-fit}
 use Rattle.state.proofs.Naming.{channel-fits}
 
 module _ (c : Config) where
   -- a channel that there is has a number below P·V
-  pub channel-below : (i v : ℕ) → i < c .ports → v < c .vcs → channel c i v < c .ports * c .vcs
+  pub channel-below : (i v : ℕ) → i < c .ports → v < c .vcs → channelNumber c i v < c .ports * c .vcs
   channel-below i v h g = digits-lt h g
 
   -- two channels with one number are one channel
-  pub channel-apart : (i v j u : ℕ) → v < c .vcs → u < c .vcs → channel c i v ≡ channel c j u → (i ≡ j) × (v ≡ u)
+  pub channel-apart : (i v j u : ℕ) → v < c .vcs → u < c .vcs → channelNumber c i v ≡ channelNumber c j u → (i ≡ j) × (v ≡ u)
   channel-apart i v j u h g e = (
     sym (digits-div i h) ∙ ap (λ (x : ℕ). x / c .vcs) e ∙ digits-div j g,
     sym (digits-mod i h) ∙ ap (λ (x : ℕ). x % c .vcs) e ∙ digits-mod j g,
   )
 
   -- of one port, the numbers tell the VCs apart
-  pub channel-same : (i v u : ℕ) → eqb (channel c i u) (channel c i v) ≡ eqb u v
+  pub channel-same : (i v u : ℕ) → eqb (channelNumber c i u) (channelNumber c i v) ≡ eqb u v
   channel-same i v u = go (eqb u v) refl
     where
-      go : (b : Bool) → eqb u v ≡ b → eqb (channel c i u) (channel c i v) ≡ b
-      go true e = eq-eqb (channel c i u) (channel c i v) (ap (channel c i) (eqb-true u v e))
-      go false e = ne-eqb (channel c i u) (channel c i v) (λ q. eqb-false u v e (omega arith))
+      go : (b : Bool) → eqb u v ≡ b → eqb (channelNumber c i u) (channelNumber c i v) ≡ b
+      go true e = eq-eqb (channelNumber c i u) (channelNumber c i v) (ap (channelNumber c i) (eqb-true u v e))
+      go false e = ne-eqb (channelNumber c i u) (channelNumber c i v) (λ q. eqb-false u v e (omega arith))
 
   -- each number below P·V is a channel's
   pub record Split (x : ℕ) : Type 0 where
@@ -43,7 +43,7 @@ module _ (c : Config) where
     pub vc : ℕ
     pub portThere : port < c .ports
     pub vcThere : vc < c .vcs
-    pub is : channel c port vc ≡ x
+    pub is : channelNumber c port vc ≡ x
 
   pub channel-of : (x : ℕ) → 1 ≤ c .vcs → x < c .ports * c .vcs → Split x
   channel-of x pos h =
@@ -74,5 +74,5 @@ module _ (c : Config) where
     pub channels-room : c .ports * c .vcs ≤ 32
     channels-room = channels-fit (c .ports) (c .vcs) (legal .ports .1) (legal .vcs .1)
 
-    pub channel-room : (i v : ℕ) → i < c .ports → v < c .vcs → channel c i v < 32
+    pub channel-room : (i v : ℕ) → i < c .ports → v < c .vcs → channelNumber c i v < 32
     channel-room i v h g = channel-fits (c .ports) (c .vcs) i v h g (legal .ports .1) (legal .vcs .1)

@@ -79,12 +79,14 @@ unfoldable pub passesBy : Router → ℕ → Bool
 passesBy s x = not (isNone (firstOn (exit s) (byPlace s) (s .config .ports) x))
 
 module _ (s : Router) (x : ℕ) where
-  pub grant-to : (a : Actor (grantOf s) (asking s) (s .config .ports) x) → grantTo s x ≡ some (record { output = a .port; vc = a .deed .vc })
+  pub grant-to : (a : Actor (grantOf s) (asking s) (s .config .ports) x) → grantTo s x
+      ≡ some (record { output = a .port; vc = a .deed .vc })
   unfolding grantTo
   grant-to a =
       let f = first-on (grantOf s) (asking s) (s .config .ports) x a in
       let b = f .0 in
-      let port : b .port ≡ a .port = grants-differ s (b .port) (a .port) (b .deed) (a .deed) (b .acts) (a .acts) (b .there ∙ sym (a .there)) in
+      let port : b .port ≡ a .port = grants-differ s (b .port) (a .port) (b .deed) (a .deed) (b .acts) (a .acts)
+      (b .there ∙ sym (a .there)) in
       ap (givenAt (grantOf s)) (f .1 ∙ ap some port) ∙ ap (givenBy (a .port)) (a .acts)
 
   pub no-grant-to : Untouched (grantOf s) (asking s) (s .config .ports) x → grantTo s x ≡ none

@@ -12,12 +12,12 @@ use Rattle.base.specs.declared.flit.Flit.{Flit}
 use Rattle.base.proofs.Search.{both, every-at}
 use Rattle.arbiter.specs.declared.Narrow.{Narrow}
 use Rattle.arbiter.specs.declared.Wide.{Wide}
-use Rattle.arbiter.specs.Arbiter.{ofNarrow, ofWide, after, sound}
+use Rattle.arbiter.specs.Arbiter.{ofNarrow, ofWide, after, sound, asNarrow, asWide}
 use Rattle.model.specs.Cycle.{Event}
 use Rattle.model.specs.Router as free
 use Rattle.state.specs.declared.Arbiters.{Arbiters}
 use Rattle.state.specs.declared.Router.{Router}
-use Rattle.state.specs.Fresh.{asNarrow, asWide, pastNarrow, pastWide}
+use Rattle.state.specs.Fresh.{pastNarrow, pastWide}
 use Rattle.state.specs.Sound.{arbitersSound}
 use Rattle.state.specs.Views.{vcArbiter, inputArbiter, outputArbiter}
 use Rattle.trace.specs.Bytes.{AreBytes}
@@ -76,8 +76,9 @@ module _ (s : Router) (part : List ℕ) (bytes : AreBytes part) (accepted : step
   unfolding arbitersSound
   sound-at i port =
       let p = both _ (sound 8 (c .arbiter) (c .ports) (ofNarrow (outputArbiter a i)))
-      (every-at (c .ports) _ (accepted-before s part bytes accepted .arbiters) i port) in
-      let q = both (sound 32 (c .arbiter) (c .ports * c .vcs) (ofWide (vcArbiter a i))) (sound 8 (c .arbiter) (c .vcs) (ofNarrow (inputArbiter a i)))
+      (every-at (c .ports) _ (accepted-before s part bytes accepted .arbitration .arbiters) i port) in
+      let q = both (sound 32 (c .arbiter) (c .ports * c .vcs) (ofWide (vcArbiter a i)))
+      (sound 8 (c .arbiter) (c .vcs) (ofNarrow (inputArbiter a i)))
       (p .0) in
       (q .0, q .1, p .1)
 
@@ -87,18 +88,22 @@ module _ (s : Router) (part : List ℕ) (bytes : AreBytes part) (accepted : step
   vc-arbiter-steps o port =
       ap (λ (y : Stepped). ofWide (vcArbiter (y .router .arbiters) o)) (accepted-steps s part bytes accepted)
       ∙ wide-moved-at c (c .ports * c .vcs) (λ (o : ℕ). requesterOf (grantOf came o)) o port (a .vcs) (sound-at o port .0)
-      ∙ ap (λ (p : Option ℕ). after 32 (c .arbiter) (c .ports * c .vcs) p (ofWide (vcArbiter a o))) (sym (binds-alike s part bytes accepted o port))
+      ∙ ap (λ (p : Option ℕ). after 32 (c .arbiter) (c .ports * c .vcs) p (ofWide (vcArbiter a o)))
+      (sym (binds-alike s part bytes accepted o port))
 
   -- an input's over its VCs
-  pub input-arbiter-steps : (i : ℕ) → i < c .ports → ofNarrow (inputArbiter (stepOf s part .router .arbiters) i) ≡ inputArbiterAfter c a f e i
+  pub input-arbiter-steps : (i : ℕ) → i < c .ports → ofNarrow (inputArbiter (stepOf s part .router .arbiters) i)
+      ≡ inputArbiterAfter c a f e i
   unfolding inputArbiterAfter routerAfter sentOut switched allocated takenIn offersTaken landed creditsReturned creditsReached
   input-arbiter-steps i port =
       ap (λ (y : Stepped). ofNarrow (inputArbiter (y .router .arbiters) i)) (accepted-steps s part bytes accepted)
       ∙ narrow-moved-at c (c .vcs) (inputPick mid) i port (a .inputs) (sound-at i port .1)
-      ∙ ap (λ (p : Option ℕ). after 8 (c .arbiter) (c .vcs) p (ofNarrow (inputArbiter a i))) (sym (input-alike s part bytes accepted i port))
+      ∙ ap (λ (p : Option ℕ). after 8 (c .arbiter) (c .vcs) p (ofNarrow (inputArbiter a i)))
+      (sym (input-alike s part bytes accepted i port))
 
   -- an output's over the inputs
-  pub output-arbiter-steps : (o : ℕ) → o < c .ports → ofNarrow (outputArbiter (stepOf s part .router .arbiters) o) ≡ outputArbiterAfter c a f e o
+  pub output-arbiter-steps : (o : ℕ) → o < c .ports → ofNarrow (outputArbiter (stepOf s part .router .arbiters) o)
+      ≡ outputArbiterAfter c a f e o
   unfolding outputArbiterAfter routerAfter sentOut switched allocated takenIn offersTaken landed creditsReturned creditsReached
   output-arbiter-steps o port =
       ap (λ (y : Stepped). ofNarrow (outputArbiter (y .router .arbiters) o)) (accepted-steps s part bytes accepted)

@@ -26,7 +26,7 @@ use Rattle.state.specs.declared.Router.{Router}
 use Rattle.state.specs.Channels.{boundTo}
 use Rattle.state.specs.Sound as sound
 use Rattle.state.specs.Sound.{bindingIs, frontIsFor}
-use Rattle.state.specs.Views.{channel, inputAt, outputAt, queueOf, vcArbiter}
+use Rattle.state.specs.Views.{channelNumber, inputAt, outputAt, queueOf, vcArbiter}
 use Rattle.trace.specs.Bytes.{AreBytes}
 use Rattle.rules.specs.declared.Verdict.the-variants.{Accepted}
 use Rattle.rules.specs.Allocation.{asks, freeVc, granted, grantOf, requesterOf}
@@ -68,10 +68,10 @@ module _ (s : Router) (part : List ℕ) (bytes : AreBytes part) (accepted : step
 
   agree : Agree c (came .inputs) (came .outputs)
   unfolding takenIn offersTaken landed creditsReturned creditsReached
-  agree = names-agree c (came .inputs) (came .outputs) (taken-sound s part bytes accepted .names)
+  agree = names-agree c (came .inputs) (came .outputs) (taken-sound s part bytes accepted .naming .names)
 
   -- who asks at output o
-  asks-alike : (o i v : ℕ) → i < c .ports → v < c .vcs → asksAt c a f e o i v ≡ asks (came .inputs) (came .store) o (channel c i v)
+  asks-alike : (o i v : ℕ) → i < c .ports → v < c .vcs → asksAt c a f e o i v ≡ asks (came .inputs) (came .store) o (channelNumber c i v)
   unfolding asksAt asks
   asks-alike o i v port vc =
       ap₂ (λ (b : Option free.OutVc) (q : List Flit). chosen.isUnbound b && frontIsFor o q) (bound-came s part bytes accepted i v port vc)
@@ -110,7 +110,8 @@ module _ (s : Router) (part : List ℕ) (bytes : AreBytes part) (accepted : step
               let p = both (eqb (b .output) o) (eqb (b .vc) w) k in
               let named = agree .bound i v h g b r in
               absurd (nobody-not (outputAt c (came .outputs) o w .holder) (record { input = i; vc = v }) q
-              (ap₂ (λ (o w : ℕ). outputAt c (came .outputs) o w .holder) (sym (eqb-true (b .output) o (p .0))) (sym (eqb-true (b .vc) w (p .1)))
+              (ap₂ (λ (o w : ℕ). outputAt c (came .outputs) o w .holder) (sym (eqb-true (b .output) o (p .0)))
+              (sym (eqb-true (b .vc) w (p .1)))
               ∙ named .2))
 
       go : (h : Holder) → outputAt c (came .outputs) o w .holder ≡ h
@@ -120,7 +121,8 @@ module _ (s : Router) (part : List ℕ) (bytes : AreBytes part) (accepted : step
           all-every (c .vcs) _ (λ v g. told i v h g ∙ apart q i v h g (inputAt c (came .inputs) i v .binding) refl))
       go (Held h) q =
           let named = agree .held o w port vc h q in
-          not-every (c .ports) _ (h .input) (named .0) (not-every (c .vcs) _ (h .vc) (named .1) (told (h .input) (h .vc) (named .0) (named .1)
+          not-every (c .ports) _ (h .input) (named .0) (not-every (c .vcs) _ (h .vc) (named .1)
+          (told (h .input) (h .vc) (named .0) (named .1)
           ∙ ap (λ (b : Binding). not (bindingIs o w b)) (named .2)
           ∙ ap not (ap₂ _&&_ (eq-eqb o o refl) (eq-eqb w w refl))))
 

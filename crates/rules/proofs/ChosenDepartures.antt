@@ -27,7 +27,7 @@ use Rattle.state.specs.declared.Holder.the-variants.{Held}
 use Rattle.state.specs.declared.InputVc.{InputVc}
 use Rattle.state.specs.declared.Router.{Router}
 use Rattle.state.specs.Channels.{boundTo, isThere}
-use Rattle.state.specs.Views.{channel, inputAt, outputAt, queueOf}
+use Rattle.state.specs.Views.{channelNumber, inputAt, outputAt, queueOf}
 use Rattle.trace.specs.Bytes.{AreBytes}
 use Rattle.rules.specs.declared.Verdict.the-variants.{Accepted}
 use Rattle.rules.specs.Allocation.{allocated, winner}
@@ -111,7 +111,7 @@ module _ (s : Router) (part : List ℕ) (bytes : AreBytes part) (accepted : step
   queue-now i v port vc =
       queue-came s part bytes accepted i v port vc
       ∙ ap (queueOf c (came .store) i v)
-      (sym (inputs-alike came (taken-sound s part bytes accepted) (λ (y : InputVc). y .queued) (λ o w y. refl) (channel c i v)))
+      (sym (inputs-alike came (taken-sound s part bytes accepted) (λ (y : InputVc). y .queued) (λ o w y. refl) (channelNumber c i v)))
 
   -- one flit leaves by the VC that an exit is by
   exit-counts : (o : ℕ) (d : Exit) → o < c .ports → exit mid o ≡ some d → length (departuresOn o (d .by) now) ≡ 1
@@ -167,19 +167,21 @@ module _ (s : Router) (part : List ℕ) (bytes : AreBytes part) (accepted : step
           (k .2, k .3, x .0, x .1, x .2)
 
   -- as many leave by an output VC
-  pub departures-alike : (o w : ℕ) → o < c .ports → w < c .vcs → length (departuresOn o w now) ≡ one (passesBy mid (channel c o w))
+  pub departures-alike : (o w : ℕ) → o < c .ports → w < c .vcs → length (departuresOn o w now) ≡ one (passesBy mid (channelNumber c o w))
   unfolding allocated takenIn offersTaken landed creditsReturned creditsReached
-  departures-alike o w port vc = go (touched-or-not (exit mid) (byPlace mid) (c .ports) (channel c o w))
+  departures-alike o w port vc = go (touched-or-not (exit mid) (byPlace mid) (c .ports) (channelNumber c o w))
     where
-      none-leave : Untouched (exit mid) (byPlace mid) (c .ports) (channel c o w) → (l : List (Departure Flit)) → departuresOn o w now ≡ l
+      none-leave : Untouched (exit mid) (byPlace mid) (c .ports) (channelNumber c o w) → (l : List (Departure Flit))
+          → departuresOn o w now ≡ l
           → length l ≡ 0
       none-leave off [] q = refl
       none-leave off (d ∷ ds) q =
           let x = left-exits o w d ds q in
-          absurd (off o (x .2) port (x .3) (ap (channel c o) (x .4)))
+          absurd (off o (x .2) port (x .3) (ap (channelNumber c o) (x .4)))
 
-      go : Actor (exit mid) (byPlace mid) (c .ports) (channel c o w) ⊎ Untouched (exit mid) (byPlace mid) (c .ports) (channel c o w)
-          → length (departuresOn o w now) ≡ one (passesBy mid (channel c o w))
+      go : Actor (exit mid) (byPlace mid) (c .ports) (channelNumber c o w) ⊎ Untouched (exit mid) (byPlace mid) (c .ports)
+          (channelNumber c o w)
+          → length (departuresOn o w now) ≡ one (passesBy mid (channelNumber c o w))
       go (inl d) =
           let x = exit-is mid (d .port) (d .deed) (d .acts) in
           let by = agree-now s part bytes accepted .bound (d .deed .input) (d .deed .vc) (x .wins .input-below) (x .wins .vc-below)
@@ -187,8 +189,8 @@ module _ (s : Router) (part : List ℕ) (bytes : AreBytes part) (accepted : step
           let at = channel-apart c (d .port) (d .deed .by) o w by vc (d .there) in
           ap₂ (λ (o w : ℕ). length (departuresOn o w now)) (sym (at .0)) (sym (at .1))
           ∙ exit-counts (d .port) (d .deed) (d .below) (d .acts)
-          ∙ ap one (sym (passes-by mid (channel c o w) d))
-      go (inr off) = none-leave off (departuresOn o w now) refl ∙ ap one (sym (none-passes mid (channel c o w) off))
+          ∙ ap one (sym (passes-by mid (channelNumber c o w) d))
+      go (inr off) = none-leave off (departuresOn o w now) refl ∙ ap one (sym (none-passes mid (channelNumber c o w) off))
 
   -- none leaves by an output VC that there is not
   pub departures-beyond : (o w : ℕ) → isThere c o w ≡ false → length (departuresOn o w now) ≡ 0

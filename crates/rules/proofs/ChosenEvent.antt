@@ -55,7 +55,8 @@ fresh-stays c f b =
 pub offered-alike : (c : Config) (part : List ℕ) (i v : ℕ) → i < c .ports → phases.offered (eventOf c part) i v ≡ offered part i v
 unfolding eventOf
 offered-alike c part i v port =
-    ap (λ (b : Bool). onVc v (cond (b && brings part i) (some (record { vc = vcAt part i; flit = flitAt part i })) none)) (lt-ltb i (c .ports) port)
+    ap (λ (b : Bool). onVc v (cond (b && brings part i) (some (record { vc = vcAt part i; flit = flitAt part i })) none))
+    (lt-ltb i (c .ports) port)
     ∙ go (brings part i)
   where
     go : (b : Bool) → onVc v (cond b (some (record { vc = vcAt part i; flit = flitAt part i })) none)

@@ -24,7 +24,7 @@ use Rattle.state.specs.Fresh.{freshInput}
 use Rattle.state.specs.Sound as sound
 use Rattle.state.specs.Sound.{all, legalFlit, queuesLegal, frontIsFor}
 use Rattle.store.specs.Store.{firstSlot}
-use Rattle.state.specs.Views.{channel, inputAt, outputAt, queueAt, queueOf}
+use Rattle.state.specs.Views.{channelNumber, inputAt, outputAt, queueAt, queueOf}
 use Rattle.trace.specs.Bytes.{AreBytes}
 use Rattle.rules.specs.declared.Verdict.the-variants.{Accepted}
 use Rattle.rules.specs.Allocation.{Grant, freeVc, grantOf, requesterOf}
@@ -85,7 +85,7 @@ module _ (s : Router) (part : List ℕ) (bytes : AreBytes part) (accepted : step
 
   module _ (i v : ℕ) (port : i < c .ports) (vc : v < c .vcs) where
     abbrev x : ℕ
-    x = channel c i v
+    x = channelNumber c i v
 
     abbrev queue : List Flit
     queue = queueOf c (came .store) i v (inputAt c (came .inputs) i v .queued)
@@ -94,7 +94,7 @@ module _ (s : Router) (part : List ℕ) (bytes : AreBytes part) (accepted : step
     unfolding queuesLegal takenIn offersTaken landed creditsReturned creditsReached
     legal =
         channel-at c (λ i v. all (legalFlit c) (queueOf c (came .store) i v (inputAt c (came .inputs) i v .queued)))
-        (taken-sound s part bytes accepted .queues) i v port vc
+        (taken-sound s part bytes accepted .flow .queues) i v port vc
 
     front-there : (y : Flit) (q : List Flit) → queue ≡ y ∷ q → destinationOf y < c .ports
     unfolding all
@@ -134,7 +134,8 @@ module _ (s : Router) (part : List ℕ) (bytes : AreBytes part) (accepted : step
             → grantBy c a f e i v queue ≡ nameOf (grantTo came x)
         go (inl d) =
             granted-at (d .port) (d .deed) (d .below) (d .acts) (d .there) queue
-            (ap (λ (x : ℕ). frontIsFor (d .port) (queueAt (came .store) (firstSlot x) (getD (came .inputs) x (freshInput 0) .queued))) (sym (d .there))
+            (ap (λ (x : ℕ). frontIsFor (d .port) (queueAt (came .store) (firstSlot x) (getD (came .inputs) x (freshInput 0) .queued)))
+            (sym (d .there))
             ∙ grant-is came (d .port) (d .deed) (d .acts) .front)
             ∙ ap nameOf (sym (grant-to came x d))
         go (inr off) = ungranted-at off queue refl ∙ ap nameOf (sym (no-grant-to came x off))
@@ -143,7 +144,8 @@ module _ (s : Router) (part : List ℕ) (bytes : AreBytes part) (accepted : step
     pub grant-alike : grant c a f e i v ≡ nameOf (grantTo came x)
     unfolding grant
     grant-alike =
-        ap₂ (λ (b : Bool) (q : List Flit). cond b (grantBy c a f e i v q) none) (is-there c i v port vc) (queue-came s part bytes accepted i v port vc)
+        ap₂ (λ (b : Bool) (q : List Flit). cond b (grantBy c a f e i v q) none) (is-there c i v port vc)
+        (queue-came s part bytes accepted i v port vc)
         ∙ by-alike
 
   -- none is granted to an input VC that there is not

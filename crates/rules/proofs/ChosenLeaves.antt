@@ -19,7 +19,7 @@ use Rattle.state.specs.declared.Binding.{Binding}
 use Rattle.state.specs.declared.Binding.the-variants.{Unbound, Bound}
 use Rattle.state.specs.declared.Router.{Router}
 use Rattle.state.specs.Channels.{boundTo, isThere}
-use Rattle.state.specs.Views.{channel, inputAt}
+use Rattle.state.specs.Views.{channelNumber, inputAt}
 use Rattle.trace.specs.Bytes.{AreBytes}
 use Rattle.rules.specs.declared.Verdict.the-variants.{Accepted}
 use Rattle.rules.specs.Allocation.{allocated, inputPick, outputPick, winning, vcOf, winner}
@@ -99,28 +99,29 @@ module _ (s : Router) (part : List ℕ) (bytes : AreBytes part) (accepted : step
       ∙ eq-eqb i i refl)
 
   -- whose front leaves
-  pub leaves-alike : (i v : ℕ) → i < c .ports → v < c .vcs → leaves c a f e i v ≡ leavesFrom mid (channel c i v)
+  pub leaves-alike : (i v : ℕ) → i < c .ports → v < c .vcs → leaves c a f e i v ≡ leavesFrom mid (channelNumber c i v)
   unfolding allocated takenIn offersTaken landed creditsReturned creditsReached
-  leaves-alike i v port vc = go (touched-or-not (exit mid) (fromPlace mid) (c .ports) (channel c i v))
+  leaves-alike i v port vc = go (touched-or-not (exit mid) (fromPlace mid) (c .ports) (channelNumber c i v))
     where
-      stays : Untouched (exit mid) (fromPlace mid) (c .ports) (channel c i v) → (b : Bool) → leaves c a f e i v ≡ b → b ≡ false
+      stays : Untouched (exit mid) (fromPlace mid) (c .ports) (channelNumber c i v) → (b : Bool) → leaves c a f e i v ≡ b → b ≡ false
       stays off false q = refl
       stays off true q =
           let g = leaves-goes i v q in
           let x = winner-exits mid (g .to .output) (record { input = i; vc = v }) (g .won) in
           let there = agree-now s part bytes accepted .bound i v port vc (g .to) (g .bound) .0 in
-          absurd (off (g .to .output) (x .0) there (x .1) (ap₂ (channel c) (x .2) (x .3)))
+          absurd (off (g .to .output) (x .0) there (x .1) (ap₂ (channelNumber c) (x .2) (x .3)))
 
-      go : Actor (exit mid) (fromPlace mid) (c .ports) (channel c i v) ⊎ Untouched (exit mid) (fromPlace mid) (c .ports) (channel c i v)
-          → leaves c a f e i v ≡ leavesFrom mid (channel c i v)
+      go : Actor (exit mid) (fromPlace mid) (c .ports) (channelNumber c i v) ⊎ Untouched (exit mid) (fromPlace mid) (c .ports)
+          (channelNumber c i v)
+          → leaves c a f e i v ≡ leavesFrom mid (channelNumber c i v)
       go (inl d) =
           let x = exit-is mid (d .port) (d .deed) (d .acts) in
           let from = channel-apart c (d .deed .input) (d .deed .vc) i v (x .wins .vc-below) vc (d .there) in
           goes-leaves i v (d .port) (d .deed .by) port vc
           (ap₂ (λ (i v : ℕ). inputAt c (mid .inputs) i v .binding) (sym (from .0)) (sym (from .1)) ∙ x .bound)
           (x .won ∙ ap₂ (λ (i v : ℕ). some (record { input = i; vc = v })) (from .0) (from .1))
-          ∙ sym (leaves-from mid (channel c i v) d)
-      go (inr off) = stays off (leaves c a f e i v) refl ∙ sym (none-leaves mid (channel c i v) off)
+          ∙ sym (leaves-from mid (channelNumber c i v) d)
+      go (inr off) = stays off (leaves c a f e i v) refl ∙ sym (none-leaves mid (channelNumber c i v) off)
 
   -- what there is not does not leave
   pub leaves-beyond : (i v : ℕ) → isThere c i v ≡ false → leaves c a f e i v ≡ false

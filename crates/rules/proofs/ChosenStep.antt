@@ -1,4 +1,5 @@
--- THE step in both views: an accepted cycle of the router is a step of the free router of crates/model, with the choice that the arbiters make.
+-- THE step in both views: an accepted cycle of the router is a step of the free router of crates/model, with the choice that the
+-- arbiters make.
 -- Assumes nothing.
 use mathlib.Core.Path.{_≡_, refl, sym, ap, ap₂, _∙_}
 use mathlib.Core.Bool.{Bool, true, false, cond, not, _&&_}
@@ -26,7 +27,7 @@ use Rattle.state.specs.declared.Arbiters.{Arbiters}
 use Rattle.state.specs.declared.Router.{Router}
 use Rattle.state.specs.Channels.{ChannelView, freshView, isThere, channelView, viewOf, outCreditOf}
 use Rattle.state.specs.Sound.{Sound}
-use Rattle.state.specs.Views.{channel, outputAt}
+use Rattle.state.specs.Views.{channelNumber, outputAt}
 use Rattle.trace.specs.Bytes.{AreBytes}
 use Rattle.rules.specs.declared.Verdict.the-variants.{Accepted}
 use Rattle.rules.specs.declared.Stepped.{Stepped}
@@ -131,7 +132,8 @@ module _ (s : Router) (part : List ℕ) (bytes : AreBytes part) (accepted : step
         let there : isThere (later .config) i v ≡ false = ap (λ (c : Config). isThere c i v) config-stays ∙ out in
         let brought = credit-beyond s part bytes accepted i v out in
         let stays = departures-beyond s part bytes accepted i v out in
-        ap₂ (λ (b : Bool) (n : ℕ). cond b (outputAt (later .config) (later .outputs) i v .credit) n) there (ap (λ (c : Config). c .downstream) config-stays)
+        ap₂ (λ (b : Bool) (n : ℕ). cond b (outputAt (later .config) (later .outputs) i v .credit) n) there
+        (ap (λ (c : Config). c .downstream) config-stays)
         ∙ ap (λ (b : Bool). cond b (outputAt c (s .outputs) i v .credit) (c .downstream)) (sym out)
         ∙ less (outCreditOf s i v) _ _ brought stays
       where
@@ -141,7 +143,7 @@ module _ (s : Router) (part : List ℕ) (bytes : AreBytes part) (accepted : step
   -- of a channel that there is
   module _ (i v : ℕ) (port : i < c .ports) (vc : v < c .vcs) where
     abbrev x : ℕ
-    x = channel c i v
+    x = channelNumber c i v
 
     abbrev stepped : ChannelView
     stepped =
@@ -184,7 +186,8 @@ module _ (s : Router) (part : List ℕ) (bytes : AreBytes part) (accepted : step
         let goes = leaves-alike s part bytes accepted i v port vc in
         let queue = queueNow (channelOf (channelView s i v)) in
         let bound = sym (named-granted (grantTo came x) (channelView s i v .bound))
-        ∙ ap₂ (λ (g : Option free.OutVc) (y : ChannelView). granted g (nameOf (y .bound))) (sym (grant-alike s part bytes accepted i v port vc))
+        ∙ ap₂ (λ (g : Option free.OutVc) (y : ChannelView). granted g (nameOf (y .bound)))
+        (sym (grant-alike s part bytes accepted i v port vc))
         (sym was) in
         ap (λ (y : ChannelView). nameOf (y .bound)) later-there
         ∙ named-cond (leavesFrom mid x && frontEnds queue) (nowBound (grantTo came x) (channelView s i v .bound))

@@ -16,7 +16,7 @@ use Rattle.state.specs.declared.Binding.{Binding}
 use Rattle.state.specs.declared.Router.{Router}
 use Rattle.state.specs.Channels.{ChannelView, boundTo, freshView, isThere, channelView, viewOf, outCreditOf}
 use Rattle.state.specs.Sound.{Sound}
-use Rattle.state.specs.Views.{channel, inputAt, outputAt, queueOf, toVc}
+use Rattle.state.specs.Views.{channelNumber, inputAt, outputAt, queueOf, toVc}
 use Rattle.trace.specs.Bytes.{AreBytes}
 use Rattle.rules.specs.declared.Verdict.the-variants.{Accepted}
 use Rattle.rules.specs.Free.{channelOf, nameOf, freeOf, eventOf}
@@ -68,7 +68,8 @@ module _ (s : Router) (part : List ℕ) (bytes : AreBytes part) (accepted : step
   unfolding freeOf
   bound-came i v port vc =
       ap (λ (y : ChannelView). nameOf (y .bound)) (view-there s i v port vc)
-      ∙ ap (λ (b : Binding). nameOf (boundTo b)) (sym (binding-after s part before (accepted-none s part bytes accepted) bytes (channel c i v)))
+      ∙ ap (λ (b : Binding). nameOf (boundTo b)) (sym (binding-after s part before (accepted-none s part bytes accepted) bytes
+      (channelNumber c i v)))
 
   -- what came out of the wire is queued
   pub queue-came : (i v : ℕ) → i < c .ports → v < c .vcs

@@ -25,7 +25,7 @@ use Rattle.state.specs.declared.InputVc.{InputVc}
 use Rattle.state.specs.declared.OutputVc.{OutputVc}
 use Rattle.state.specs.declared.Router.{Router}
 use Rattle.state.specs.Channels.{ChannelView, boundTo, isThere}
-use Rattle.state.specs.Views.{channel, inputAt, queueOf, inputArbiter, outputArbiter}
+use Rattle.state.specs.Views.{channelNumber, inputAt, queueOf, inputArbiter, outputArbiter}
 use Rattle.state.proofs.Queues.{queueIn, none-queued, front-is-first}
 use Rattle.trace.specs.Bytes.{AreBytes}
 use Rattle.rules.specs.declared.Verdict.the-variants.{Accepted}
@@ -82,14 +82,14 @@ module _ (s : Router) (part : List ℕ) (bytes : AreBytes part) (accepted : step
 
   pub agree-now : Agree c (mid .inputs) (mid .outputs)
   unfolding allocated takenIn offersTaken landed creditsReturned creditsReached
-  agree-now = names-agree c (mid .inputs) (mid .outputs) (readied-sound s part bytes accepted .names)
+  agree-now = names-agree c (mid .inputs) (mid .outputs) (readied-sound s part bytes accepted .naming .names)
 
   -- what an input VC is bound to after phase 5
   pub bound-alike : (i v : ℕ) → i < c .ports → v < c .vcs → boundNow c a f e i v ≡ nameOf (boundTo (inputAt c (mid .inputs) i v .binding))
   unfolding boundNow takenIn offersTaken landed creditsReturned creditsReached
   bound-alike i v port vc =
       ap₂ granted (grant-alike s part bytes accepted i v port vc) (bound-came s part bytes accepted i v port vc)
-      ∙ named-granted (grantTo came (channel c i v)) (boundTo (inputAt c (came .inputs) i v .binding))
+      ∙ named-granted (grantTo came (channelNumber c i v)) (boundTo (inputAt c (came .inputs) i v .binding))
       ∙ ap nameOf (sym (bound-now came (taken-sound s part bytes accepted) i v port vc))
 
   -- one that there is not is bound to nothing
@@ -106,16 +106,17 @@ module _ (s : Router) (part : List ℕ) (bytes : AreBytes part) (accepted : step
         let named = agree-now .bound i v port vc b q in
         ap (λ (n : ℕ). not (eqb n 0))
         (credit-came s part bytes accepted (b .output) (b .vc) (named .0) (named .1)
-        ∙ sym (outputs-alike came (taken-sound s part bytes accepted) (λ (y : OutputVc). y .credit) (λ i v y. refl) (channel c (b .output) (b .vc))))
+        ∙ sym (outputs-alike came (taken-sound s part bytes accepted) (λ (y : OutputVc). y .credit) (λ i v y. refl)
+        (channelNumber c (b .output) (b .vc))))
 
     empty-alike : isEmpty (queueOf c (came .store) i v (inputAt c (came .inputs) i v .queued)) ≡ eqb (inputAt c (mid .inputs) i v .queued) 0
     unfolding takenIn offersTaken landed creditsReturned creditsReached
     empty-alike =
-        queue-empty (came .store) (channel c i v) (inputAt c (came .inputs) i v .queued)
+        queue-empty (came .store) (channelNumber c i v) (inputAt c (came .inputs) i v .queued)
         (channel-room c (sound-legal s (accepted-before s part bytes accepted)) i v port vc)
         (sound-lengths came (taken-sound s part bytes accepted) .store) (queued-few came (taken-sound s part bytes accepted) i v port vc)
         ∙ ap (λ (n : ℕ). eqb n 0)
-        (sym (inputs-alike came (taken-sound s part bytes accepted) (λ (y : InputVc). y .queued) (λ o w y. refl) (channel c i v)))
+        (sym (inputs-alike came (taken-sound s part bytes accepted) (λ (y : InputVc). y .queued) (λ o w y. refl) (channelNumber c i v)))
 
     -- who is ready
     ready-alike : isReady c a f e i v ≡ ready c (mid .inputs) (mid .outputs) i v

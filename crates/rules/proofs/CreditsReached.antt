@@ -15,14 +15,15 @@ use Rattle.state.specs.declared.InputVc.{InputVc}
 use Rattle.state.specs.declared.Router.{Router}
 use Rattle.state.specs.Fresh.{freshInput}
 use Rattle.state.specs.Sound.{Sound, homeLegal, creditsAddUp}
-use Rattle.state.specs.Views.{channel, inputAt, homePlace, homeOf, toVc, total}
+use Rattle.state.specs.Views.{channelNumber, inputAt, homePlace, homeOf, toVc, total}
 use Rattle.state.proofs.Exact.{shape-is}
+use Rattle.state.proofs.Places.{total-end}
 use Rattle.rules.specs.Ports.{named}
 use Rattle.rules.specs.Intake.{advanced, senderPaid, creditTo, sendersPaid, creditsReached}
 use Rattle.rules.proofs.Folds.{changed, over-same}
 use Rattle.rules.proofs.Named.{named-there, named-raises}
 use Rattle.rules.proofs.Turns.{onChannel, Made, made-length, made-keeps, made-at, made-past}
-use Rattle.rules.proofs.Lines.{total-end, total-first}
+use Rattle.rules.proofs.Lines.{total-first}
 use Rattle.rules.proofs.Advance.{advanced-length, advanced-rest, advanced-legal, home-advanced}
 use Rattle.rules.proofs.Facts.{credits-sum, sum-credits, sound-legal, sound-lengths, inputs-room, home-at}
 use Rattle.rules.proofs.Kept.{bindingOf, insideOf, queuedOf, queues-kept, slots-kept, names-kept, packets-kept, unused-kept}
@@ -64,7 +65,8 @@ module _ (c : Config) (home : List ℕ) (inputs : List InputVc) where
     paid-past = made-past paid there
 
 -- one credit goes from the home line to the sender
-pub home-total : (c : Config) (home : List ℕ) (i v : ℕ) → 1 ≤ c .back → homeOf c (advanced home) i v ≡ drop 1 (homeOf c home i v) ++ (0 ∷ [])
+pub home-total : (c : Config) (home : List ℕ) (i v : ℕ) → 1 ≤ c .back → homeOf c (advanced home) i v
+    ≡ drop 1 (homeOf c home i v) ++ (0 ∷ [])
     → toVc v (homePlace home 0 i) + total (homeOf c (advanced home) i v) ≡ total (homeOf c home i v)
 unfolding homeOf
 home-total c home i v pos e =
@@ -85,17 +87,19 @@ module _ (s : Router) (sound : Sound s) where
       let l = sound-legal s sound in
       let pos = l .back .0 in
       let few = l .ports .1 in
-      let moved = home-total c (s .home) i v pos (home-advanced c i v (omega arith) (s .home) pos (sound .homeRest) (sound-lengths s sound .home)) in
-      let before = credits-sum c (s .inputs) (s .wire) (s .home) (sound .credits) i v h g in
+      let moved = home-total c (s .home) i v pos (home-advanced c i v (omega arith) (s .home) pos (sound .sizes .homeRest)
+      (sound-lengths s sound .home)) in
+      let before = credits-sum c (s .inputs) (s .wire) (s .home) (sound .flow .credits) i v h g in
       let raised = credit-reaches c (s .home) (s .inputs) near i v h g (inputs-room s sound) in
-      let queued = paid-keeps c (s .home) (s .inputs) queuedOf (λ x. refl) (channel c i v) in
+      let queued = paid-keeps c (s .home) (s .inputs) queuedOf (λ x. refl) (channelNumber c i v) in
       omega arith)
 
   home : homeLegal c (advanced (s .home)) ≡ true
   unfolding homeLegal
   home =
-      advanced-legal (c .back) (c .ports) (s .home) (sound .homeRest) (sound-lengths s sound .home) (λ (place : ℕ). leb place (c .vcs))
-      (le-leb 0 (c .vcs) (omega arith)) (sound-legal s sound .ports .1) (sound .home)
+      advanced-legal (c .back) (c .ports) (s .home) (sound .sizes .homeRest) (sound-lengths s sound .home)
+      (λ (place : ℕ). leb place (c .vcs))
+      (le-leb 0 (c .vcs) (omega arith)) (sound-legal s sound .ports .1) (sound .sizes .home)
 
   pub creditsReached-sound : Sound (creditsReached s)
   unfolding creditsReached
@@ -106,21 +110,35 @@ module _ (s : Router) (sound : Sound s) where
       let bound = paid-keeps c (s .home) (s .inputs) bindingOf (λ x. refl) in
       let inside = paid-keeps c (s .home) (s .inputs) insideOf (λ x. refl) in
       record {
-        configuration = sound .configuration;
-        cycles = sound .cycles;
-        credits = credits;
-        wire = sound .wire;
-        home = home;
-        queues = queues-kept c paid (s .inputs) (s .store) queued ∙ sound .queues;
-        outputCredits = sound .outputCredits;
-        names = names-kept c paid (s .inputs) (s .outputs) (s .outputs) bound (λ x. refl) ∙ sound .names;
-        arbiters = sound .arbiters;
-        packets = packets-kept c paid (s .inputs) (s .store) (s .wire) queued bound inside ∙ sound .packets;
-        channels =
-            unused-kept c paid (s .inputs) (s .outputs) (s .outputs) (paid-past c (s .home) (s .inputs) near) (λ x h. refl) ∙ sound .channels;
-        slots = slots-kept c paid (s .inputs) (s .store) queued ∙ sound .slots;
-        wireRest = sound .wireRest;
-        homeRest = advanced-rest (c .back) (c .ports) (s .home) (sound .homeRest) (l .home);
-        others = sound .others;
-        shape = shape-is _ (paid-length c (s .home) (s .inputs) ∙ l .inputs) (l .outputs) (l .store) (l .wire) (advanced-length (s .home) (l .home));
+        sizes =
+            record {
+              configuration = sound .sizes .configuration;
+              cycles = sound .sizes .cycles;
+              wire = sound .sizes .wire;
+              home = home;
+              wireRest = sound .sizes .wireRest;
+              homeRest = advanced-rest (c .back) (c .ports) (s .home) (sound .sizes .homeRest) (l .home);
+              shape = shape-is _ (paid-length c (s .home) (s .inputs) ∙ l .inputs) (l .outputs) (l .store) (l .wire)
+                  (advanced-length (s .home) (l .home));
+            };
+        flow =
+            record {
+              credits = credits;
+              queues = queues-kept c paid (s .inputs) (s .store) queued ∙ sound .flow .queues;
+              outputCredits = sound .flow .outputCredits;
+              channels =
+                  unused-kept c paid (s .inputs) (s .outputs) (s .outputs) (paid-past c (s .home) (s .inputs) near) (λ x h. refl)
+                  ∙ sound .flow .channels;
+              slots = slots-kept c paid (s .inputs) (s .store) queued ∙ sound .flow .slots;
+            };
+        naming =
+            record {
+              names = names-kept c paid (s .inputs) (s .outputs) (s .outputs) bound (λ x. refl) ∙ sound .naming .names;
+              packets = packets-kept c paid (s .inputs) (s .store) (s .wire) queued bound inside ∙ sound .naming .packets;
+            };
+        arbitration =
+            record {
+              arbiters = sound .arbitration .arbiters;
+              others = sound .arbitration .others;
+            };
       }

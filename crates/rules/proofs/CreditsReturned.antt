@@ -36,7 +36,9 @@ module _ (c : Config) (part : List ℕ) (outputs : List OutputVc) where
 
   returned : Made c (freshOutput 0) returning (λ (o : ℕ). outputPaid) outputs (outputsPaid c part outputs)
   unfolding outputsPaid
-  returned = record { is = over-same (c .ports) (λ outputs o. creditFrom c o (returning o) outputs) _ outputs (λ t o l. go t o (returning o)) }
+  returned = record {
+    is = over-same (c .ports) (λ outputs o. creditFrom c o (returning o) outputs) _ outputs (λ t o l. go t o (returning o));
+  }
     where
       go : (t : List OutputVc) (o : ℕ) (n : Option ℕ) → creditFrom c o n t ≡ changed (freshOutput 0) outputPaid (onChannel c o n) t
       go t o none = refl
@@ -61,7 +63,8 @@ module _ (c : Config) (part : List ℕ) (outputs : List OutputVc) where
         ∙ named-raises (λ (y : OutputVc). y .credit) outputPaid (λ y. refl) w (creditAt part o) (outputAt c outputs o w)
 
     -- what is no channel's stays
-    pub returned-past : (x : ℕ) → c .ports * c .vcs ≤ x → getD (outputsPaid c part outputs) x (freshOutput 0) ≡ getD outputs x (freshOutput 0)
+    pub returned-past : (x : ℕ) → c .ports * c .vcs ≤ x → getD (outputsPaid c part outputs) x (freshOutput 0)
+        ≡ getD outputs x (freshOutput 0)
     returned-past = made-past returned there
 
 module _ (s : Router) (part : List ℕ) (sound : Sound s)
@@ -78,7 +81,7 @@ module _ (s : Router) (part : List ℕ) (sound : Sound s)
   output-credits =
       all-channels c (λ o w. leb (outputAt c (outputsPaid c part (s .outputs)) o w .credit) (c .downstream)) (λ o w h g.
       let before = leb-true (outputAt c (s .outputs) o w .credit) (c .downstream)
-      (channel-at c (λ o w. leb (outputAt c (s .outputs) o w .credit) (c .downstream)) (sound .outputCredits) o w h g) in
+      (channel-at c (λ o w. leb (outputAt c (s .outputs) o w .credit) (c .downstream)) (sound .flow .outputCredits) o w h g) in
       let raised = credit-returns c part (s .outputs) near o w h g (outputs-room s sound) in
       le-leb _ (c .downstream) (go o w h (eqb (creditAt part o) (w + 1)) refl (outputAt c (s .outputs) o w .credit) refl before raised))
     where
@@ -98,21 +101,35 @@ module _ (s : Router) (part : List ℕ) (sound : Sound s)
       let paid = outputsPaid c part (s .outputs) in
       let l = sound-lengths s sound in
       record {
-        configuration = sound .configuration;
-        cycles = sound .cycles;
-        credits = sound .credits;
-        wire = sound .wire;
-        home = sound .home;
-        queues = sound .queues;
-        outputCredits = output-credits;
-        names = names-kept c (s .inputs) (s .inputs) paid (s .outputs) (λ x. refl) (returned-keeps c part (s .outputs)) ∙ sound .names;
-        arbiters = sound .arbiters;
-        packets = sound .packets;
-        channels =
-            unused-kept c (s .inputs) (s .inputs) paid (s .outputs) (λ x h. refl) (returned-past c part (s .outputs) near) ∙ sound .channels;
-        slots = sound .slots;
-        wireRest = sound .wireRest;
-        homeRest = sound .homeRest;
-        others = sound .others;
-        shape = shape-is _ (l .inputs) (returned-length c part (s .outputs) ∙ l .outputs) (l .store) (l .wire) (l .home);
+        sizes =
+            record {
+              configuration = sound .sizes .configuration;
+              cycles = sound .sizes .cycles;
+              wire = sound .sizes .wire;
+              home = sound .sizes .home;
+              wireRest = sound .sizes .wireRest;
+              homeRest = sound .sizes .homeRest;
+              shape = shape-is _ (l .inputs) (returned-length c part (s .outputs) ∙ l .outputs) (l .store) (l .wire) (l .home);
+            };
+        flow =
+            record {
+              credits = sound .flow .credits;
+              queues = sound .flow .queues;
+              outputCredits = output-credits;
+              channels =
+                  unused-kept c (s .inputs) (s .inputs) paid (s .outputs) (λ x h. refl) (returned-past c part (s .outputs) near)
+                  ∙ sound .flow .channels;
+              slots = sound .flow .slots;
+            };
+        naming =
+            record {
+              names = names-kept c (s .inputs) (s .inputs) paid (s .outputs) (λ x. refl) (returned-keeps c part (s .outputs))
+                  ∙ sound .naming .names;
+              packets = sound .naming .packets;
+            };
+        arbitration =
+            record {
+              arbiters = sound .arbitration .arbiters;
+              others = sound .arbitration .others;
+            };
       }

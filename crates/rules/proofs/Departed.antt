@@ -109,4 +109,5 @@ module _ (s : Router) (part : List ℕ) (bytes : AreBytes part) (accepted : step
   unfolding allocated takenIn offersTaken landed creditsReturned creditsReached
   exits-reported o e l q =
       let few = sound-legal s (accepted-before s part bytes accepted) .ports .1 in
-      ap (λ (xs : List Output). getD xs o noOutput .left) outputs-are ∙ ap (λ (x : Output). x .left) (exit-reported mid o e l (omega arith) q)
+      ap (λ (xs : List Output). getD xs o noOutput .left) outputs-are
+      ∙ ap (λ (x : Output). x .left) (exit-reported mid o e l (omega arith) q)

@@ -17,7 +17,8 @@ use Rattle.state.specs.declared.Router.{Router}
 use Rattle.rules.specs.declared.Refusal.{Refusal}
 use Rattle.rules.specs.declared.Verdict.{Verdict}
 use Rattle.rules.specs.declared.Verdict.the-variants.{Accepted, Refused}
-use Rattle.rules.specs.Numbers.{Rule, rule2, rule10, rule3, rule6, rule4, rule5, rulesOf, refusing, refusedAt, firstOf, judged, numberOf, portOf, runFull}
+use Rattle.rules.specs.Numbers.{Rule, rule2, rule10, rule3, rule6, rule4, rule5, rulesOf, refusing, refusedAt, firstOf, judged}
+use Rattle.rules.specs.Numbers.{numberOf, portOf, runFull}
 use Rattle.rules.specs.Intake.{sendersPaid}
 use Rattle.rules.specs.Step.{stepBy, stepOf}
 
@@ -155,7 +156,8 @@ module _ (s : Router) (part : List ℕ) where
       go (later _ (later _ f)) = absurd (true≢false (sym (first-numbered _ 10 p f)))
 
   -- 3, "row breaks the byte rules above, or VC, destination or credit too large"
-  pub three-exactly : (p : ℕ) → (stepOf s part .verdict ≡ refusing numbers.rowWrong p) ↔ (Nowhere (rule2 s) × Nowhere (rule10 (s .cycle)) × FirstAt (rule3 (s .config) part) p)
+  pub three-exactly : (p : ℕ) → (stepOf s part .verdict ≡ refusing numbers.rowWrong p) ↔
+      (Nowhere (rule2 s) × Nowhere (rule10 (s .cycle)) × FirstAt (rule3 (s .config) part) p)
   three-exactly p = (λ e. go (refused-exactly 3 p .0 e), λ f. refused-exactly 3 p .1 (later (f .0) (later (f .1) (this (f .2)))))
     where
       go : First (rulesOf s part) 3 p → Nowhere (rule2 s) × Nowhere (rule10 (s .cycle)) × FirstAt (rule3 (s .config) part) p
@@ -163,26 +165,49 @@ module _ (s : Router) (part : List ℕ) where
       go (later _ (later _ (later _ f))) = absurd (true≢false (sym (first-numbered _ 3 p f)))
 
   -- 6, "downstream credit where that output VC already has E"
-  pub six-exactly : (p : ℕ) → (stepOf s part .verdict ≡ refusing numbers.creditPastRoom p) ↔ (Nowhere (rule2 s) × Nowhere (rule10 (s .cycle)) × Nowhere (rule3 (s .config) part) × FirstAt (rule6 (s .config) (s .outputs) part) p)
-  six-exactly p = (λ e. go (refused-exactly 6 p .0 e), λ f. refused-exactly 6 p .1 (later (f .0) (later (f .1) (later (f .2) (this (f .3))))))
+  pub six-exactly : (p : ℕ) → (stepOf s part .verdict ≡ refusing numbers.creditPastRoom p) ↔
+      (Nowhere (rule2 s) × Nowhere (rule10 (s .cycle)) × Nowhere (rule3 (s .config) part)
+      × FirstAt (rule6 (s .config) (s .outputs) part) p)
+  six-exactly p = (
+    λ e. go (refused-exactly 6 p .0 e),
+    λ f. refused-exactly 6 p .1
+        (later (f .0) (later (f .1) (later (f .2) (this (f .3))))),
+  )
     where
-      go : First (rulesOf s part) 6 p → Nowhere (rule2 s) × Nowhere (rule10 (s .cycle)) × Nowhere (rule3 (s .config) part) × FirstAt (rule6 (s .config) (s .outputs) part) p
+      go : First (rulesOf s part) 6 p → Nowhere (rule2 s) × Nowhere (rule10 (s .cycle)) × Nowhere (rule3 (s .config) part)
+          × FirstAt (rule6 (s .config) (s .outputs) part) p
       go (later a (later b (later d (this f)))) = (a, b, d, f)
       go (later _ (later _ (later _ (later _ f)))) = absurd (true≢false (sym (first-numbered _ 6 p f)))
 
   -- 4, "B or T with no packet open at that sender VC, or H or S with one open"
-  pub four-exactly : (p : ℕ) → (stepOf s part .verdict ≡ refusing numbers.outOfTurn p) ↔ (Nowhere (rule2 s) × Nowhere (rule10 (s .cycle)) × Nowhere (rule3 (s .config) part) × Nowhere (rule6 (s .config) (s .outputs) part) × FirstAt (rule4 (s .config) (s .inputs) part) p)
-  four-exactly p = (λ e. go (refused-exactly 4 p .0 e), λ f. refused-exactly 4 p .1 (later (f .0) (later (f .1) (later (f .2) (later (f .3) (this (f .4)))))))
+  pub four-exactly : (p : ℕ) → (stepOf s part .verdict ≡ refusing numbers.outOfTurn p) ↔
+      (Nowhere (rule2 s) × Nowhere (rule10 (s .cycle)) × Nowhere (rule3 (s .config) part)
+      × Nowhere (rule6 (s .config) (s .outputs) part) × FirstAt (rule4 (s .config) (s .inputs) part) p)
+  four-exactly p = (
+    λ e. go (refused-exactly 4 p .0 e),
+    λ f. refused-exactly 4 p .1
+        (later (f .0) (later (f .1) (later (f .2) (later (f .3) (this (f .4)))))),
+  )
     where
-      go : First (rulesOf s part) 4 p → Nowhere (rule2 s) × Nowhere (rule10 (s .cycle)) × Nowhere (rule3 (s .config) part) × Nowhere (rule6 (s .config) (s .outputs) part) × FirstAt (rule4 (s .config) (s .inputs) part) p
+      go : First (rulesOf s part) 4 p → Nowhere (rule2 s) × Nowhere (rule10 (s .cycle)) × Nowhere (rule3 (s .config) part)
+          × Nowhere (rule6 (s .config) (s .outputs) part) × FirstAt (rule4 (s .config) (s .inputs) part) p
       go (later a (later b (later d (later e (this f))))) = (a, b, d, e, f)
       go (later _ (later _ (later _ (later _ (later _ f))))) = absurd (true≢false (sym (first-numbered _ 4 p f)))
 
   -- 5, "no sender credit, after phase 1"
-  pub five-exactly : (p : ℕ) → (stepOf s part .verdict ≡ refusing numbers.noSenderCredit p) ↔ (Nowhere (rule2 s) × Nowhere (rule10 (s .cycle)) × Nowhere (rule3 (s .config) part) × Nowhere (rule6 (s .config) (s .outputs) part) × Nowhere (rule4 (s .config) (s .inputs) part) × FirstAt (rule5 (s .config) (sendersPaid (s .config) (s .home) (s .inputs)) part) p)
-  five-exactly p = (λ e. go (refused-exactly 5 p .0 e), λ f. refused-exactly 5 p .1 (later (f .0) (later (f .1) (later (f .2) (later (f .3) (later (f .4) (this (f .5))))))))
+  pub five-exactly : (p : ℕ) → (stepOf s part .verdict ≡ refusing numbers.noSenderCredit p) ↔
+      (Nowhere (rule2 s) × Nowhere (rule10 (s .cycle)) × Nowhere (rule3 (s .config) part)
+      × Nowhere (rule6 (s .config) (s .outputs) part) × Nowhere (rule4 (s .config) (s .inputs) part)
+      × FirstAt (rule5 (s .config) (sendersPaid (s .config) (s .home) (s .inputs)) part) p)
+  five-exactly p = (
+    λ e. go (refused-exactly 5 p .0 e),
+    λ f. refused-exactly 5 p .1
+        (later (f .0) (later (f .1) (later (f .2) (later (f .3) (later (f .4) (this (f .5))))))),
+  )
     where
-      go : First (rulesOf s part) 5 p → Nowhere (rule2 s) × Nowhere (rule10 (s .cycle)) × Nowhere (rule3 (s .config) part) × Nowhere (rule6 (s .config) (s .outputs) part) × Nowhere (rule4 (s .config) (s .inputs) part) × FirstAt (rule5 (s .config) (sendersPaid (s .config) (s .home) (s .inputs)) part) p
+      go : First (rulesOf s part) 5 p → Nowhere (rule2 s) × Nowhere (rule10 (s .cycle)) × Nowhere (rule3 (s .config) part)
+          × Nowhere (rule6 (s .config) (s .outputs) part) × Nowhere (rule4 (s .config) (s .inputs) part)
+          × FirstAt (rule5 (s .config) (sendersPaid (s .config) (s .home) (s .inputs)) part) p
       go (later a (later b (later d (later e (later g (this f)))))) = (a, b, d, e, g, f)
       go (later _ (later _ (later _ (later _ (later _ (later _ f)))))) = absurd (true≢false (sym (first-numbered _ 5 p f)))
 
@@ -194,6 +219,7 @@ module _ (s : Router) (part : List ℕ) where
       go (accepts f) = f
 
   -- "a refused cycle gives the state as before and an empty reply"
-  pub refused-leaves : (r : Refusal) → stepOf s part .verdict ≡ Refused r → (stepOf s part .router ≡ s) × (stepOf s part .reply ≡ emptyReply)
+  pub refused-leaves : (r : Refusal) → stepOf s part .verdict ≡ Refused r → (stepOf s part .router ≡ s)
+      × (stepOf s part .reply ≡ emptyReply)
   unfolding stepOf
   refused-leaves r e = rw (sym verdict-judged ∙ e) (refl, refl)

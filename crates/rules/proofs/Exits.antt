@@ -20,11 +20,11 @@ use Rattle.state.specs.declared.Binding.the-variants.{Unbound, Bound}
 use Rattle.state.specs.declared.Router.{Router}
 use Rattle.state.specs.Fresh.{freshInput}
 use Rattle.store.specs.Store.{firstSlot, frontOf, popped}
-use Rattle.state.specs.Views.{channel, inputAt}
+use Rattle.state.specs.Views.{channelNumber, inputAt}
 use Rattle.store.proofs.Slots.{pop-other-slot}
 use Rattle.rules.specs.Ports.{overPorts}
 use Rattle.rules.specs.Allocation.{winner}
-use Rattle.rules.specs.Departures.{Leaving, departed, leaves, leavesBy, departures, leavingOf}
+use Rattle.rules.specs.Departures.{Leaving, departed, goesOut, leavesBy, departures, leavingOf}
 use Rattle.rules.proofs.Along.{over-alike}
 use Rattle.rules.proofs.Channels.{channel-apart}
 use Rattle.rules.proofs.Winners.{Wins, winner-is, winners-differ}
@@ -40,7 +40,7 @@ module _ (s : Router) where
   abbrev exitBy : InVc → Binding → Option Exit
   exitBy x Unbound = none
   exitBy x (Bound b) =
-      some (record { input = x .input; vc = x .vc; by = b .vc; flit = frontOf (s .store) (channel (s .config) (x .input) (x .vc)) })
+      some (record { input = x .input; vc = x .vc; by = b .vc; flit = frontOf (s .store) (channelNumber (s .config) (x .input) (x .vc)) })
 
   abbrev exitFor : Option InVc → Option Exit
   exitFor none = none
@@ -55,7 +55,7 @@ module _ (s : Router) where
     pub wins : Wins s o (record { input = e .input; vc = e .vc })
     pub won : winner s o ≡ some (record { input = e .input; vc = e .vc })
     pub bound : inputAt (s .config) (s .inputs) (e .input) (e .vc) .binding ≡ Bound (record { output = o; vc = e .by })
-    pub front : e .flit ≡ frontOf (s .store) (channel (s .config) (e .input) (e .vc))
+    pub front : e .flit ≡ frontOf (s .store) (channelNumber (s .config) (e .input) (e .vc))
 
   pub exit-is : (o : ℕ) (e : Exit) → exit o ≡ some e → Exits o e
   unfolding exit
@@ -72,7 +72,12 @@ module _ (s : Router) where
               let one : Bound b ≡ Bound (w .to) = sym r ∙ w .bound in
               let to : b ≡ w .to = cc in
               let here : b .output ≡ o = ap (λ (t : OutVc). t .output) to ∙ w .here in
-              made (record { input = x .input; vc = x .vc; by = b .vc; flit = frontOf (s .store) (channel (s .config) (x .input) (x .vc)) }) e
+              made (record {
+                input = x .input;
+                vc = x .vc;
+                by = b .vc;
+                flit = frontOf (s .store) (channelNumber (s .config) (x .input) (x .vc));
+              }) e
               (Option·some-injective _ e g)
               (record { wins = w; won = p; bound = r ∙ ap (λ (n : ℕ). Bound (record { output = n; vc = b .vc })) here; front = refl })
             where
@@ -84,7 +89,7 @@ module _ (s : Router) where
   unfolding exit
   winner-exits o x p =
       let w = winner-is s o x p in (
-        record { input = x .input; vc = x .vc; by = w .to .vc; flit = frontOf (s .store) (channel (s .config) (x .input) (x .vc)) },
+        record { input = x .input; vc = x .vc; by = w .to .vc; flit = frontOf (s .store) (channelNumber (s .config) (x .input) (x .vc)) },
         ap exitFor p ∙ ap (exitBy x) (w .bound),
         refl,
         refl,
@@ -96,10 +101,11 @@ module _ (s : Router) where
 
   -- so each leaves a channel of its own
   pub exits-apart : (o p : ℕ) (e f : Exit) → exit o ≡ some e → exit p ≡ some f
-      → channel (s .config) (e .input) (e .vc) ≡ channel (s .config) (f .input) (f .vc) → o ≡ p
+      → channelNumber (s .config) (e .input) (e .vc) ≡ channelNumber (s .config) (f .input) (f .vc) → o ≡ p
   exits-apart o p e f q r same =
       exits-differ o p e f q r
-      (channel-apart (s .config) (e .input) (e .vc) (f .input) (f .vc) (exit-is o e q .wins .vc-below) (exit-is p f r .wins .vc-below) same .0)
+      (channel-apart (s .config) (e .input) (e .vc) (f .input) (f .vc) (exit-is o e q .wins .vc-below)
+      (exit-is p f r .wins .vc-below) same .0)
 
   -- an exit of output o, if there is one
   abbrev pub exits : ℕ → Option Exit → Leaving → Leaving
@@ -107,14 +113,21 @@ module _ (s : Router) where
   exits o (some e) l = departed (s .config) o (e .by) (e .input) (e .vc) (e .flit) l
 
   abbrev pub atFirst : Leaving
-  atFirst = record { inputs = s .inputs; outputs = s .outputs; store = s .store; home = s .home; left = replicate 8 (record { left = left.Nothing }) }
+  atFirst = record {
+    inputs = s .inputs;
+    outputs = s .outputs;
+    store = s .store;
+    home = s .home;
+    left = replicate 8 (record { left = left.Nothing });
+  }
 
   -- from output i on, each winner finds its binding and its front as they were
   abbrev Found : ℕ → Leaving → Type 0
   Found i l =
       (o : ℕ) → i ≤ o → (x : InVc) → winner s o ≡ some x
       → (inputAt (s .config) (l .inputs) (x .input) (x .vc) .binding ≡ inputAt (s .config) (s .inputs) (x .input) (x .vc) .binding)
-      × (frontOf (l .store) (channel (s .config) (x .input) (x .vc)) ≡ frontOf (s .store) (channel (s .config) (x .input) (x .vc)))
+      × (frontOf (l .store) (channelNumber (s .config) (x .input) (x .vc))
+      ≡ frontOf (s .store) (channelNumber (s .config) (x .input) (x .vc)))
 
   -- a pop leaves the fronts of other channels
   front-stays : (store : List ℕ) (x y : ℕ) → x ≢ y → frontOf (popped store x) y ≡ frontOf store y
@@ -126,22 +139,26 @@ module _ (s : Router) where
   found-then l i h o g x p = go (exit i) refl
     where
       go : (m : Option Exit) → exit i ≡ m
-          → (inputAt (s .config) (exits i m l .inputs) (x .input) (x .vc) .binding ≡ inputAt (s .config) (s .inputs) (x .input) (x .vc) .binding)
-          × (frontOf (exits i m l .store) (channel (s .config) (x .input) (x .vc)) ≡ frontOf (s .store) (channel (s .config) (x .input) (x .vc)))
+          → (inputAt (s .config) (exits i m l .inputs) (x .input) (x .vc) .binding
+          ≡ inputAt (s .config) (s .inputs) (x .input) (x .vc) .binding)
+          × (frontOf (exits i m l .store) (channelNumber (s .config) (x .input) (x .vc))
+          ≡ frontOf (s .store) (channelNumber (s .config) (x .input) (x .vc)))
       go none q = h o (omega arith) x p
       go (some e) q =
           let f = winner-exits o x p in
-          let apart : channel (s .config) (e .input) (e .vc) ≢ channel (s .config) (x .input) (x .vc) =
+          let apart : channelNumber (s .config) (e .input) (e .vc) ≢ channelNumber (s .config) (x .input) (x .vc) =
           λ same.
-          let r = exits-apart i o e (f .0) q (f .1) (same ∙ ap₂ (channel (s .config)) (sym (f .2)) (sym (f .3))) in
+          let r = exits-apart i o e (f .0) q (f .1) (same ∙ ap₂ (channelNumber (s .config)) (sym (f .2)) (sym (f .3))) in
           omega arith
           in
           let rest = h o (omega arith) x p in (
             ap (λ b. b .binding)
-                (getD-set-other (l .inputs) (channel (s .config) (e .input) (e .vc)) (channel (s .config) (x .input) (x .vc)) _ (freshInput 0)
+                (getD-set-other (l .inputs) (channelNumber (s .config) (e .input) (e .vc)) (channelNumber (s .config) (x .input) (x .vc)) _
+                (freshInput 0)
                 (λ r. apart (sym r)))
                 ∙ rest .0,
-            front-stays (l .store) (channel (s .config) (e .input) (e .vc)) (channel (s .config) (x .input) (x .vc)) apart ∙ rest .1,
+            front-stays (l .store) (channelNumber (s .config) (e .input) (e .vc)) (channelNumber (s .config) (x .input) (x .vc)) apart
+                ∙ rest .1,
           )
 
   -- phase 7 is the exits, output by output
@@ -154,14 +171,15 @@ module _ (s : Router) where
       same : (l : Leaving) (o : ℕ) (m : Option InVc) → winner s o ≡ m
           → ((x : InVc) → winner s o ≡ some x
           → (inputAt (s .config) (l .inputs) (x .input) (x .vc) .binding ≡ inputAt (s .config) (s .inputs) (x .input) (x .vc) .binding)
-          × (frontOf (l .store) (channel (s .config) (x .input) (x .vc)) ≡ frontOf (s .store) (channel (s .config) (x .input) (x .vc))))
+          × (frontOf (l .store) (channelNumber (s .config) (x .input) (x .vc))
+          ≡ frontOf (s .store) (channelNumber (s .config) (x .input) (x .vc))))
           → leavesBy (s .config) o m l ≡ exits o (exit o) l
       same l o none p k = ap (λ (m : Option InVc). exits o (exitFor m) l) (sym p)
       same l o (some x) p k =
-          ap (λ (b : Binding). leaves (s .config) o (x .input) (x .vc) b l) (k x p .0)
+          ap (λ (b : Binding). goesOut (s .config) o (x .input) (x .vc) b l) (k x p .0)
           ∙ at (inputAt (s .config) (s .inputs) (x .input) (x .vc) .binding)
           ∙ ap (λ (m : Option InVc). exits o (exitFor m) l) (sym p)
         where
-          at : (b : Binding) → leaves (s .config) o (x .input) (x .vc) b l ≡ exits o (exitBy x b) l
+          at : (b : Binding) → goesOut (s .config) o (x .input) (x .vc) b l ≡ exits o (exitBy x b) l
           at Unbound = refl
           at (Bound b) = ap (λ (f : Flit). departed (s .config) o (b .vc) (x .input) (x .vc) f l) (k x p .1)

@@ -57,10 +57,10 @@ module _ (c : Config) (inputs : List InputVc) (wire home : List ℕ) where
 
 module _ (s : Router) (sound : Sound s) where
   pub sound-legal : Legal (s .config)
-  sound-legal = configuration-legal (s .config) (sound .configuration)
+  sound-legal = configuration-legal (s .config) (sound .sizes .configuration)
 
   pub sound-lengths : Lengths s
-  sound-lengths = shape-lengths s (sound .shape)
+  sound-lengths = shape-lengths s (sound .sizes .shape)
 
   -- the arrays have room for all channels
   pub inputs-room : s .config .ports * s .config .vcs ≤ length (s .inputs)
@@ -74,9 +74,9 @@ module _ (s : Router) (sound : Sound s) where
   unfolding homeLegal
   home-at k i h g =
       leb-true (homePlace (s .home) k i) (s .config .vcs)
-      (every-at (s .config .ports) _ (every-at (s .config .back) _ (sound .home) k h) i g)
+      (every-at (s .config .ports) _ (every-at (s .config .back) _ (sound .sizes .home) k h) i g)
 
   -- "wire .. places are empty or legal"
   pub wire-at : (k i : ℕ) → k < s .config .forward → i < s .config .ports → wirePlaceLegal (s .config) (wirePlace (s .wire) k i) ≡ true
   unfolding wireLegal
-  wire-at k i h g = every-at (s .config .ports) _ (every-at (s .config .forward) _ (sound .wire) k h) i g
+  wire-at k i h g = every-at (s .config .ports) _ (every-at (s .config .forward) _ (sound .sizes .wire) k h) i g

@@ -11,7 +11,7 @@ use lib.Arith.{lt-of-le-ne}
 use lib.Dec.{eqb}
 use lib.ListN.{length, getD, set, length-set}
 use lib.Seq.{getD-set-same, getD-set-other}
-use borrow.Author.Tests.{eqb-true, eqb-false, eq-eqb, ne-eqb}
+use borrow.Author.Tests.{eqb-true, eqb-false}
 use Rattle.rules.specs.Ports.{overPorts}
 
 module _ {A : Type 0} where
@@ -34,7 +34,8 @@ module _ {A : Type 0} where
       → Keeps (overPorts n f s)
   unfolding overPorts
   over-keeps Keeps zero f s turn h = h
-  over-keeps Keeps (suc n) f s turn h = turn (overPorts n f s) n (omega arith) (over-keeps Keeps n f s (λ t i l k. turn t i (omega arith) k) h)
+  over-keeps Keeps (suc n) f s turn h = turn (overPorts n f s) n (omega arith)
+      (over-keeps Keeps n f s (λ t i l k. turn t i (omega arith) k) h)
 
   -- turns that do the same give the same
   pub over-same : (n : ℕ) (f g : A → ℕ → A) (s : A) → ((t : A) (i : ℕ) → i < n → f t i ≡ g t i) → overPorts n f s ≡ overPorts n g s

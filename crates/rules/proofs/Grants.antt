@@ -1,6 +1,6 @@
 -- Phase 5, who is bound: what an output grants, and that no two outputs grant the same requester.
 -- Assumes nothing.
-use mathlib.Core.Path.{_≡_, refl, sym, ap, _∙_}
+use mathlib.Core.Path.{_≡_, sym, ap, _∙_}
 use mathlib.Core.Bool.{true, false, false≢true}
 use mathlib.Core.List.{List, [], _∷_}
 use mathlib.Core.Option.{Option, some, none, Option·some-injective, Option·none-ne-some}
@@ -14,24 +14,15 @@ use Rattle.base.specs.Flit.{kindOf, destinationOf, startsKind}
 use Rattle.base.proofs.Search.{both, first-found}
 use Rattle.arbiter.specs.Arbiter.{ofWide, choice}
 use Rattle.arbiter.proofs.Winners.{winner-asks}
-use Rattle.state.specs.declared.Binding.{Binding}
-use Rattle.state.specs.declared.Binding.the-variants.{Unbound, Bound}
-use Rattle.state.specs.declared.Holder.{Holder}
-use Rattle.state.specs.declared.Holder.the-variants.{Nobody, Held}
+use Rattle.state.specs.declared.Binding.the-variants.{Unbound}
+use Rattle.state.specs.declared.Holder.the-variants.{Nobody}
 use Rattle.state.specs.declared.Router.{Router}
 use Rattle.state.specs.Fresh.{freshInput}
 use Rattle.state.specs.Sound.{isUnbound, isFree, frontIsFor}
 use Rattle.store.specs.Store.{firstSlot}
 use Rattle.state.specs.Views.{outputAt, queueAt, vcArbiter}
+use Rattle.state.proofs.Naming.{unbound-is, free-is}
 use Rattle.rules.specs.Allocation.{Grant, asks, freeVc, granted, grantOf}
-
-pub unbound-is : (b : Binding) → isUnbound b ≡ true → b ≡ Unbound
-unbound-is Unbound e = refl
-unbound-is (Bound b) e = absurd (false≢true e)
-
-pub free-is : (h : Holder) → isFree h ≡ true → h ≡ Nobody
-free-is Nobody e = refl
-free-is (Held h) e = absurd (false≢true e)
 
 -- a front that is for an output starts a packet, and names no other
 front-names : (o p : ℕ) (queue : List Flit) → frontIsFor o queue ≡ true → frontIsFor p queue ≡ true → o ≡ p
@@ -65,7 +56,8 @@ grant-is s o g e =
     let p = granted-is (freeVc c (s .outputs) o)
     (choice 32 (c .arbiter) (c .ports * c .vcs) (asks (s .inputs) (s .store) o) (ofWide (vcArbiter (s .arbiters) o))) g e in
     let f = first-found (λ (w : ℕ). isFree (outputAt c (s .outputs) o w .holder)) (c .vcs) 0 (g .vc) (p .0) in
-    let w = winner-asks 32 (c .arbiter) (c .ports * c .vcs) (asks (s .inputs) (s .store) o) (ofWide (vcArbiter (s .arbiters) o)) (g .requester)
+    let w = winner-asks 32 (c .arbiter) (c .ports * c .vcs) (asks (s .inputs) (s .store) o) (ofWide (vcArbiter (s .arbiters) o))
+    (g .requester)
     (p .1) in
     let a = both (isUnbound (getD (s .inputs) (g .requester) (freshInput 0) .binding))
     (frontIsFor o (queueAt (s .store) (firstSlot (g .requester)) (getD (s .inputs) (g .requester) (freshInput 0) .queued))) (w .1) in

@@ -1,4 +1,5 @@
--- A channel after phases 1 to 4, in the free router's words: lines shifted, what came out of the wire queued, what came home no longer taken.
+-- A channel after phases 1 to 4, in the free router's words: lines shifted, what came out of the wire queued, what came home no longer
+-- taken.
 -- Assumes nothing.
 use mathlib.Core.Path.{_≡_, sym, ap, _∙_}
 use mathlib.Core.Bool.{Bool, cond, not}
@@ -13,7 +14,7 @@ use Rattle.model.specs.Line.{out, shift}
 use Rattle.state.specs.declared.Router.{Router}
 use Rattle.state.specs.Channels.{ChannelView, boundTo, channelView}
 use Rattle.state.specs.Sound.{Sound}
-use Rattle.state.specs.Views.{channel, inputAt, wirePlace, wireOf, homePlace, homeOf, onVc, toVc, total}
+use Rattle.state.specs.Views.{channelNumber, inputAt, wirePlace, wireOf, homePlace, homeOf, onVc, toVc, total}
 use Rattle.trace.specs.Bytes.{AreBytes}
 use Rattle.rules.specs.Rows.{kindAt}
 use Rattle.rules.specs.Intake.{creditsReached, creditsReturned, landed, offersTaken}
@@ -66,7 +67,7 @@ module _ (s : Router) (part : List ℕ) (sound : Sound s) (none : None (rulesOf 
       ≡ c .depth - inputAt c (s .inputs) i v .credit - out 0 (homeOf c (s .home) i v) + length (offered part i v)
   taken-after i v h g =
       let after = credit-after s part sound none bytes i v h g in
-      let sum = credits-sum c (s .inputs) (s .wire) (s .home) (sound .credits) i v h g in
+      let sum = credits-sum c (s .inputs) (s .wire) (s .home) (sound .flow .credits) i v h g in
       let out = home-out c i v (s .home) (sound-legal s sound .back .0) in
       let few = home-out-counts c i v (s .home) (sound-legal s sound .back .0) in
       omega arith
@@ -74,7 +75,7 @@ module _ (s : Router) (part : List ℕ) (sound : Sound s) (none : None (rulesOf 
   pub view-after : (i v : ℕ) → i < c .ports → v < c .vcs
       → channelView (takenIn part s) i v
       ≡ takenInView (channelView s i v) (offered part i v)
-      (cond (bringsOn part i v) (not (endsKind (kindAt part i))) (inputAt c (s .inputs) i v .inside))
+      (cond (bringsOn part i v) (not (endsKind (kindAt part i))) (inputAt c (s .inputs) i v .opened))
   unfolding takenIn offersTaken landed creditsReturned creditsReached
   view-after i v h g =
       let taken = taken-after i v h g in
@@ -83,5 +84,5 @@ module _ (s : Router) (part : List ℕ) (sound : Sound s) (none : None (rulesOf 
       (sym (wire-out c i v (s .wire) (sound-legal s sound .forward .0))) in
       let home = home-after s part sound none bytes i v h in
       let opened = inside-after s part sound none bytes i v h g in
-      let bound = ap boundTo (binding-after s part sound none bytes (channel c i v)) in
+      let bound = ap boundTo (binding-after s part sound none bytes (channelNumber c i v)) in
       λ t. record { taken = taken t; wire = wire t; queue = queue t; home = home t; opened = opened t; bound = bound t }

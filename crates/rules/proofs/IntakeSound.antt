@@ -9,7 +9,7 @@ use Rattle.base.specs.Flit.{startsKind}
 use Rattle.state.specs.declared.InputVc.{InputVc}
 use Rattle.state.specs.declared.Router.{Router}
 use Rattle.state.specs.Sound.{Sound}
-use Rattle.state.specs.Views.{channel, wirePlace}
+use Rattle.state.specs.Views.{channelNumber, wirePlace}
 use Rattle.trace.specs.Bytes.{AreBytes}
 use Rattle.rules.specs.Rows.{brings, kindAt, vcAt}
 use Rattle.rules.specs.Intake.{creditsReached, creditsReturned, landed, offersTaken}
@@ -49,21 +49,23 @@ module _ (s : Router) (part : List ℕ) (sound : Sound s) (none : None (rulesOf 
   unfolding creditsReached creditsReturned
   in-turn i h b =
       ap (λ (t : Bool). xor t (startsKind (kindAt part i)))
-      (landed-keeps (paidUp part s) paidUp-sound insideOf (λ x. refl) (channel (s .config) i (vcAt part i))
-      ∙ paid-keeps (s .config) (s .home) (s .inputs) insideOf (λ x. refl) (channel (s .config) i (vcAt part i)))
+      (landed-keeps (paidUp part s) paidUp-sound insideOf (λ x. refl) (channelNumber (s .config) i (vcAt part i))
+      ∙ paid-keeps (s .config) (s .home) (s .inputs) insideOf (λ x. refl) (channelNumber (s .config) i (vcAt part i)))
       ∙ permitted .turns i h b
 
   paid-for : (i : ℕ) → i < s .config .ports → brings part i ≡ true → PaidFor (s .config) (landed (paidUp part s) .inputs) part i
   unfolding creditsReached creditsReturned
   paid-for i h b =
-      let same = landed-keeps (paidUp part s) paidUp-sound (λ (x : InputVc). x .credit) (λ x. refl) (channel (s .config) i (vcAt part i)) in
+      let same = landed-keeps (paidUp part s) paidUp-sound (λ (x : InputVc). x .credit) (λ x. refl)
+      (channelNumber (s .config) i (vcAt part i)) in
       subst (λ (n : ℕ). 1 ≤ n) (sym same) (permitted .paid i h b)
 
   newest-empty : (k i : ℕ) → i < s .config .ports → suc k ≡ s .config .forward → wirePlace (landed (paidUp part s) .wire) k i ≡ 0
   unfolding creditsReached creditsReturned landed
   newest-empty k i h e =
       let few = sound-legal s sound .ports .1 in
-      advanced-newest (s .config .forward) (s .config .ports) (s .wire) (sound .wireRest) (sound-lengths s sound .wire) k i (omega arith) e
+      advanced-newest (s .config .forward) (s .config .ports) (s .wire) (sound .sizes .wireRest) (sound-lengths s sound .wire) k i
+      (omega arith) e
 
   module _ (bytes : AreBytes part) where
     pub ready : Ready (landed (paidUp part s)) part

@@ -13,7 +13,7 @@ use Rattle.state.specs.declared.InputVc.{InputVc}
 use Rattle.state.specs.declared.Router.{Router}
 use Rattle.state.specs.Fresh.{freshInput, freshOutput}
 use Rattle.state.specs.Sound.{Sound}
-use Rattle.state.specs.Views.{channel, inputAt, outputAt, queueOf, wirePlace, wireOf, homePlace, homeOf, toVc, onVc}
+use Rattle.state.specs.Views.{channelNumber, inputAt, outputAt, queueOf, wirePlace, wireOf, homePlace, homeOf, toVc, onVc}
 use Rattle.trace.specs.Bytes.{AreBytes}
 use Rattle.rules.specs.Rows.{kindAt, creditAt, flitAt}
 use Rattle.rules.specs.Intake.{offerTaken, creditsReached, creditsReturned, landed, offersTaken}
@@ -45,10 +45,11 @@ module _ (s : Router) (part : List ℕ) (sound : Sound s) (none : None (rulesOf 
   home-after i v h =
       let l = sound-legal s sound in
       let few = l .ports .1 in
-      home-advanced c i v (omega arith) (s .home) (l .back .0) (sound .homeRest) (sound-lengths s sound .home)
+      home-advanced c i v (omega arith) (s .home) (l .back .0) (sound .sizes .homeRest) (sound-lengths s sound .home)
 
   -- so have the flits on the wire, and what is brought enters it
-  pub wire-after : (i v : ℕ) → i < c .ports → wireOf c (takenIn part s .wire) i v ≡ drop 1 (wireOf c (s .wire) i v) ++ (offered part i v ∷ [])
+  pub wire-after : (i v : ℕ) → i < c .ports → wireOf c (takenIn part s .wire) i v
+      ≡ drop 1 (wireOf c (s .wire) i v) ++ (offered part i v ∷ [])
   unfolding takenIn offersTaken landed creditsReturned creditsReached wireOf
   wire-after i v h =
       places-advance (c .forward) (λ (k : ℕ). onVc v (wirePlace (s .wire) k i)) (λ (k : ℕ). onVc v (wirePlace (takenIn part s .wire) k i))
@@ -73,18 +74,19 @@ module _ (s : Router) (part : List ℕ) (sound : Sound s) (none : None (rulesOf 
       → inputAt c (takenIn part s .inputs) i v .queued ≡ inputAt c (s .inputs) i v .queued + length (lands (s .wire) i v)
   unfolding creditsReturned creditsReached
   queued-after i v h g =
-      mid-keeps queuedOf (λ k x. refl) (channel c i v)
+      mid-keeps queuedOf (λ k x. refl) (channelNumber c i v)
       ∙ queued-lands (paidUp part s) (paidUp-sound s part sound none) i v h g
-      ∙ ap (λ (n : ℕ). n + length (lands (s .wire) i v)) (paid-keeps c (s .home) (s .inputs) queuedOf (λ x. refl) (channel c i v))
+      ∙ ap (λ (n : ℕ). n + length (lands (s .wire) i v)) (paid-keeps c (s .home) (s .inputs) queuedOf (λ x. refl) (channelNumber c i v))
 
   pub queue-after : (i v : ℕ) → i < c .ports → v < c .vcs
       → queueOf c (takenIn part s .store) i v (inputAt c (takenIn part s .inputs) i v .queued)
       ≡ queueOf c (s .store) i v (inputAt c (s .inputs) i v .queued) ++ lands (s .wire) i v
   unfolding takenIn offersTaken creditsReturned creditsReached
   queue-after i v h g =
-      ap (queueOf c (mid .store) i v) (mid-keeps queuedOf (λ k x. refl) (channel c i v))
+      ap (queueOf c (mid .store) i v) (mid-keeps queuedOf (λ k x. refl) (channelNumber c i v))
       ∙ queue-lands (paidUp part s) (paidUp-sound s part sound none) i v h g
-      ∙ ap (λ (n : ℕ). queueOf c (s .store) i v n ++ lands (s .wire) i v) (paid-keeps c (s .home) (s .inputs) queuedOf (λ x. refl) (channel c i v))
+      ∙ ap (λ (n : ℕ). queueOf c (s .store) i v n ++ lands (s .wire) i v)
+      (paid-keeps c (s .home) (s .inputs) queuedOf (λ x. refl) (channelNumber c i v))
 
   -- the VC of port i after phase 3, and the one after phase 4
   abbrev midInput : ℕ → ℕ → InputVc
@@ -102,7 +104,7 @@ module _ (s : Router) (part : List ℕ) (sound : Sound s) (none : None (rulesOf 
   unfolding creditsReturned creditsReached landed
   credit-after i v h g =
       ap (λ (x : InputVc). x .credit + length (offered part i v)) (input-is i v h g) ∙ go (bringsOn part i v) refl
-      ∙ landed-keeps (paidUp part s) (paidUp-sound s part sound none) (λ (x : InputVc). x .credit) (λ x. refl) (channel c i v)
+      ∙ landed-keeps (paidUp part s) (paidUp-sound s part sound none) (λ (x : InputVc). x .credit) (λ x. refl) (channelNumber c i v)
       ∙ credit-reaches c (s .home) (s .inputs) (λ j l. home-at s sound 0 j (sound-legal s sound .back .0) l) i v h g (inputs-room s sound)
     where
       go : (b : Bool) → bringsOn part i v ≡ b
@@ -116,17 +118,17 @@ module _ (s : Router) (part : List ℕ) (sound : Sound s) (none : None (rulesOf 
 
   -- after a taken flit a packet is open, unless it ends one
   pub inside-after : (i v : ℕ) → i < c .ports → v < c .vcs
-      → inputAt c (takenIn part s .inputs) i v .inside
-      ≡ cond (bringsOn part i v) (not (endsKind (kindAt part i))) (inputAt c (s .inputs) i v .inside)
+      → inputAt c (takenIn part s .inputs) i v .opened
+      ≡ cond (bringsOn part i v) (not (endsKind (kindAt part i))) (inputAt c (s .inputs) i v .opened)
   unfolding creditsReturned creditsReached
-  inside-after i v h g = ap (λ (x : InputVc). x .inside) (input-is i v h g) ∙ go (bringsOn part i v)
+  inside-after i v h g = ap (λ (x : InputVc). x .opened) (input-is i v h g) ∙ go (bringsOn part i v)
     where
-      go : (b : Bool) → cond b (offerTaken (kindAt part i) (midInput i v)) (midInput i v) .inside
-          ≡ cond b (not (endsKind (kindAt part i))) (inputAt c (s .inputs) i v .inside)
+      go : (b : Bool) → cond b (offerTaken (kindAt part i) (midInput i v)) (midInput i v) .opened
+          ≡ cond b (not (endsKind (kindAt part i))) (inputAt c (s .inputs) i v .opened)
       go true = refl
       go false =
-          landed-keeps (paidUp part s) (paidUp-sound s part sound none) insideOf (λ x. refl) (channel c i v)
-          ∙ paid-keeps c (s .home) (s .inputs) insideOf (λ x. refl) (channel c i v)
+          landed-keeps (paidUp part s) (paidUp-sound s part sound none) insideOf (λ x. refl) (channelNumber c i v)
+          ∙ paid-keeps c (s .home) (s .inputs) insideOf (λ x. refl) (channelNumber c i v)
 
   -- each credit from downstream is added
   pub output-credit-after : (o w : ℕ) → o < c .ports → w < c .vcs

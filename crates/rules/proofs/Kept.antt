@@ -17,7 +17,7 @@ use Rattle.state.specs.declared.InputVc.{InputVc}
 use Rattle.state.specs.declared.OutputVc.{OutputVc}
 use Rattle.state.specs.Fresh.{freshInput, freshOutput}
 use Rattle.store.specs.Store.{slot}
-use Rattle.state.specs.Views.{channel, inputAt, outputAt, queueOf, wireOf, flat}
+use Rattle.state.specs.Views.{channelNumber, inputAt, outputAt, queueOf, wireOf, flat}
 use Rattle.state.specs.Sound
 use Rattle.state.specs.Sound.{all, legalFlit, reads, inputNamed, outputNamed, inputUnused, outputUnused, holderIs, bindingIs}
 use Rattle.rules.proofs.Channels.{channels-ext}
@@ -30,7 +30,7 @@ abbrev pub bindingOf : InputVc → Binding
 bindingOf x = x .binding
 
 abbrev pub insideOf : InputVc → Bool
-insideOf x = x .inside
+insideOf x = x .opened
 
 abbrev pub queuedOf : InputVc → ℕ
 queuedOf x = x .queued
@@ -40,12 +40,14 @@ holderOf y = y .holder
 
 module _ (c : Config) (later before : List InputVc) where
   -- queues and their empty slots: how many are queued
-  pub queues-kept : (store : List ℕ) → Alike (freshInput 0) queuedOf later before → Sound.queuesLegal c later store ≡ Sound.queuesLegal c before store
+  pub queues-kept : (store : List ℕ) → Alike (freshInput 0) queuedOf later before → Sound.queuesLegal c later store
+      ≡ Sound.queuesLegal c before store
   unfolding Sound.queuesLegal
   queues-kept store same =
-      channels-ext c _ _ (λ i v h g. ap (λ (n : ℕ). all (legalFlit c) (queueOf c store i v n)) (same (channel c i v)))
+      channels-ext c _ _ (λ i v h g. ap (λ (n : ℕ). all (legalFlit c) (queueOf c store i v n)) (same (channelNumber c i v)))
 
-  pub slots-kept : (store : List ℕ) → Alike (freshInput 0) queuedOf later before → Sound.slotsEmpty later store ≡ Sound.slotsEmpty before store
+  pub slots-kept : (store : List ℕ) → Alike (freshInput 0) queuedOf later before → Sound.slotsEmpty later store
+      ≡ Sound.slotsEmpty before store
   unfolding Sound.slotsEmpty
   slots-kept store same =
       every-ext 32 _ _ (λ x h. every-ext 16 _ _ (λ k g. ap (λ (n : ℕ). ltb k n || eqb (getD store (slot x k) 0) 0) (same x)))
@@ -56,18 +58,22 @@ module _ (c : Config) (later before : List InputVc) where
   unfolding Sound.namesAgree
   names-kept outLater outBefore same held =
       ap₂ _&&_
-      (channels-ext c _ _ (λ i v h g. ap (inputNamed c outLater i v) (same (channel c i v)) ∙ inputs-agree i v (inputAt c before i v .binding)))
-      (channels-ext c _ _ (λ o w h g. ap (outputNamed c later o w) (held (channel c o w)) ∙ outputs-agree o w (outputAt c outBefore o w .holder)))
+      (channels-ext c _ _ (λ i v h g. ap (inputNamed c outLater i v) (same (channelNumber c i v))
+      ∙ inputs-agree i v (inputAt c before i v .binding)))
+      (channels-ext c _ _ (λ o w h g. ap (outputNamed c later o w) (held (channelNumber c o w))
+      ∙ outputs-agree o w (outputAt c outBefore o w .holder)))
     where
       inputs-agree : (i v : ℕ) (b : Binding) → inputNamed c outLater i v b ≡ inputNamed c outBefore i v b
       inputs-agree i v Unbound = refl
       inputs-agree i v (Bound b) =
-          ap (λ (h : Holder). ltb (b .output) (c .ports) && ltb (b .vc) (c .vcs) && holderIs i v h) (held (channel c (b .output) (b .vc)))
+          ap (λ (h : Holder). ltb (b .output) (c .ports) && ltb (b .vc) (c .vcs) && holderIs i v h)
+          (held (channelNumber c (b .output) (b .vc)))
 
       outputs-agree : (o w : ℕ) (h : Holder) → outputNamed c later o w h ≡ outputNamed c before o w h
       outputs-agree o w Nobody = refl
       outputs-agree o w (Held h) =
-          ap (λ (b : Binding). ltb (h .input) (c .ports) && ltb (h .vc) (c .vcs) && bindingIs o w b) (same (channel c (h .input) (h .vc)))
+          ap (λ (b : Binding). ltb (h .input) (c .ports) && ltb (h .vc) (c .vcs) && bindingIs o w b)
+          (same (channelNumber c (h .input) (h .vc)))
 
   -- packets: what is queued, what is bound, and whether a packet is open
   pub packets-kept : (store wire : List ℕ) → Alike (freshInput 0) queuedOf later before → Alike (freshInput 0) bindingOf later before
@@ -75,10 +81,11 @@ module _ (c : Config) (later before : List InputVc) where
   unfolding Sound.packetsRead
   packets-kept store wire queued bound inside =
       channels-ext c _ _ (λ i v h g.
-      ap₂ (λ (n : ℕ) (b : Binding). reads (queueOf c store i v n) (flat (wireOf c wire i v)) b (inputAt c later i v .inside)) (queued (channel c i v))
-      (bound (channel c i v))
+      ap₂ (λ (n : ℕ) (b : Binding). reads (queueOf c store i v n) (flat (wireOf c wire i v)) b (inputAt c later i v .opened))
+      (queued (channelNumber c i v))
+      (bound (channelNumber c i v))
       ∙ ap (reads (queueOf c store i v (inputAt c before i v .queued)) (flat (wireOf c wire i v)) (inputAt c before i v .binding)) (inside
-      (channel c i v)))
+      (channelNumber c i v)))
 
   -- what is no channel's: all of it
   pub unused-kept : (outLater outBefore : List OutputVc)

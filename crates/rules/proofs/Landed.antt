@@ -18,7 +18,7 @@ use Rattle.state.specs.declared.InputVc.{InputVc}
 use Rattle.state.specs.declared.Router.{Router}
 use Rattle.state.specs.Fresh.{freshInput}
 use Rattle.state.specs.Sound.{Sound, all, legalFlit, wirePlaceLegal, slotsEmpty}
-use Rattle.state.specs.Views.{channel, inputAt, queueOf, wirePlace, wireOf, wireVc, wireFlit, onVc, flat}
+use Rattle.state.specs.Views.{channelNumber, inputAt, queueOf, wirePlace, wireOf, wireVc, wireFlit, onVc, flat}
 use Rattle.state.proofs.EmptySlots.{emptyIn, queuedAt}
 use Rattle.rules.specs.Intake.{Queues, oneMoreQueued, joined, landedAt, landings, advanced, landed}
 use Rattle.rules.proofs.Channels.{channel-of, channel-room}
@@ -34,7 +34,8 @@ abbrev pub lands : List ℕ → ℕ → ℕ → List Flit
 lands wire i v = onVc v (wirePlace wire 0 i)
 
 -- the flits on a wire: those of its oldest place, and those that are on it a cycle later
-pub wire-flits : (c : Config) (wire : List ℕ) (i v : ℕ) → 1 ≤ c .forward → wireOf c (advanced wire) i v ≡ drop 1 (wireOf c wire i v) ++ ([] ∷ [])
+pub wire-flits : (c : Config) (wire : List ℕ) (i v : ℕ) → 1 ≤ c .forward → wireOf c (advanced wire) i v
+    ≡ drop 1 (wireOf c wire i v) ++ ([] ∷ [])
     → flat (wireOf c wire i v) ≡ lands wire i v ++ flat (wireOf c (advanced wire) i v)
 unfolding wireOf
 wire-flits c wire i v pos e =
@@ -43,7 +44,8 @@ wire-flits c wire i v pos e =
     (sym (ap flat e ∙ flat-end (drop 1 (wireOf c wire i v)) [] ∙ append-nil (flat (drop 1 (wireOf c wire i v)))))
 
 -- a legal place that is not empty holds a legal flit on a VC that there is
-pub place-vc : (c : Config) (place : ℕ) → wirePlaceLegal c place ≡ true → place ≢ 0 → (legalFlit c (wireFlit place) ≡ true) × (wireVc place < c .vcs)
+pub place-vc : (c : Config) (place : ℕ) → wirePlaceLegal c place ≡ true → place ≢ 0 → (legalFlit c (wireFlit place) ≡ true)
+    × (wireVc place < c .vcs)
 unfolding wirePlaceLegal
 place-vc c place e n =
     let p = both (legalFlit c (wireFlit place)) (ltb (wireVc place) (c .vcs))
@@ -84,11 +86,13 @@ module _ (c : Config) (wire : List ℕ) (q : Queues) where
   landings-keep see same = made-keeps counted see (λ i. same)
 
   -- what is no channel's stays
-  pub landings-past : ((i : ℕ) → i < c .ports → wirePlace wire 0 i ≢ 0 → wireVc (wirePlace wire 0 i) < c .vcs) → (x : ℕ) → c .ports * c .vcs ≤ x
+  pub landings-past : ((i : ℕ) → i < c .ports → wirePlace wire 0 i ≢ 0 → wireVc (wirePlace wire 0 i) < c .vcs) → (x : ℕ)
+      → c .ports * c .vcs ≤ x
       → getD (landings c wire q .inputs) x (freshInput 0) ≡ getD (q .inputs) x (freshInput 0)
   landings-past near = made-past counted (λ i v l. there i v l (eqb (wirePlace wire 0 i) 0) refl)
     where
-      there : (i v : ℕ) → i < c .ports → (b : Bool) → eqb (wirePlace wire 0 i) 0 ≡ b → cond b none (some (wireVc (wirePlace wire 0 i))) ≡ some v
+      there : (i v : ℕ) → i < c .ports → (b : Bool) → eqb (wirePlace wire 0 i) 0 ≡ b → cond b none (some (wireVc (wirePlace wire 0 i)))
+          ≡ some v
           → v < c .vcs
       there i v l true p e = absurd (Option·none-ne-some v e)
       there i v l false p e =
@@ -119,26 +123,27 @@ module _ (s : Router) (sound : Sound s) where
       let l = sound-legal s sound in
       let few = l .ports .1 in
       let pos = l .forward .0 in
-      wire-flits c (s .wire) i v pos (wire-advanced c i v (omega arith) (s .wire) pos (sound .wireRest) (sound-lengths s sound .wire))
+      wire-flits c (s .wire) i v pos (wire-advanced c i v (omega arith) (s .wire) pos (sound .sizes .wireRest)
+      (sound-lengths s sound .wire))
 
   empty : (x : ℕ) → x < 32 → lane before x .empty ≡ true
   unfolding slotsEmpty
-  empty x h = every-at 32 (λ (x : ℕ). emptyIn (s .store) x (queuedAt (s .inputs) x)) (sound .slots) x h
+  empty x h = every-at 32 (λ (x : ℕ). emptyIn (s .store) x (queuedAt (s .inputs) x)) (sound .flow .slots) x h
 
   -- "A queue can't overflow"
-  room : (i v : ℕ) → i < c .ports → v < c .vcs → queuedAt (s .inputs) (channel c i v) + length (lands (s .wire) i v) ≤ 16
+  room : (i v : ℕ) → i < c .ports → v < c .vcs → queuedAt (s .inputs) (channelNumber c i v) + length (lands (s .wire) i v) ≤ 16
   room i v h g =
-      let sum = credits-sum c (s .inputs) (s .wire) (s .home) (sound .credits) i v h g in
+      let sum = credits-sum c (s .inputs) (s .wire) (s .home) (sound .flow .credits) i v h g in
       let deep = sound-legal s sound .depth .1 in
       let more = ap length (flits-land i v h) ∙ length-append (lands (s .wire) i v) (flat (wireOf c (landed s .wire) i v)) in
       omega arith
 
-  landed-lane : (i v : ℕ) → i < c .ports → v < c .vcs → lane after (channel c i v)
-      ≡ cond (isOn v (wirePlace (s .wire) 0 i)) (oneMore (wireFlit (wirePlace (s .wire) 0 i)) (lane before (channel c i v)))
-      (lane before (channel c i v))
+  landed-lane : (i v : ℕ) → i < c .ports → v < c .vcs → lane after (channelNumber c i v)
+      ≡ cond (isOn v (wirePlace (s .wire) 0 i)) (oneMore (wireFlit (wirePlace (s .wire) 0 i)) (lane before (channelNumber c i v)))
+      (lane before (channelNumber c i v))
   landed-lane i v h g =
       lane-lands c (sound-legal s sound) (s .wire) near before whole i v h g (room i v h g)
-      (empty (channel c i v) (channel-room c (sound-legal s sound) i v h g))
+      (empty (channelNumber c i v) (channel-room c (sound-legal s sound) i v h g))
 
   -- the slots behind a queue, or of no channel, are empty
   pub slots-land : slotsEmpty (landed s .inputs) (landed s .store) ≡ true
@@ -146,20 +151,23 @@ module _ (s : Router) (sound : Sound s) where
   slots-land =
       all-every 32 (λ (x : ℕ). emptyIn (after .store) x (queuedAt (after .inputs) x)) (λ x h. go x h (ltb x (c .ports * c .vcs)) refl)
     where
-      here : (i v : ℕ) → i < c .ports → v < c .vcs → lane after (channel c i v) .empty ≡ true
+      here : (i v : ℕ) → i < c .ports → v < c .vcs → lane after (channelNumber c i v) .empty ≡ true
       here i v h g = ap (λ (l : Lane). l .empty) (landed-lane i v h g) ∙ either (isOn v (wirePlace (s .wire) 0 i))
         where
           either : (b : Bool)
-              → cond b (oneMore (wireFlit (wirePlace (s .wire) 0 i)) (lane before (channel c i v))) (lane before (channel c i v)) .empty ≡ true
+              → cond b (oneMore (wireFlit (wirePlace (s .wire) 0 i)) (lane before (channelNumber c i v)))
+              (lane before (channelNumber c i v)) .empty
+              ≡ true
           either true = refl
-          either false = empty (channel c i v) (channel-room c (sound-legal s sound) i v h g)
+          either false = empty (channelNumber c i v) (channel-room c (sound-legal s sound) i v h g)
 
       go : (x : ℕ) → x < 32 → (b : Bool) → ltb x (c .ports * c .vcs) ≡ b → lane after x .empty ≡ true
       go x h true e =
           let n = channel-of c x (sound-legal s sound .vcs .0) (ltb-true x (c .ports * c .vcs) e) in
           subst (λ (y : ℕ). lane after y .empty ≡ true) (n .is) (here (n .port) (n .vc) (n .portThere) (n .vcThere))
       go x h false e =
-          ap (λ (l : Lane). l .empty) (lane-past c (sound-legal s sound) (s .wire) near before whole x (ltb-false x (c .ports * c .vcs) e) h)
+          ap (λ (l : Lane). l .empty) (lane-past c (sound-legal s sound) (s .wire) near before whole x
+          (ltb-false x (c .ports * c .vcs) e) h)
           ∙ empty x h
 
   -- the queue gets what lands
@@ -169,20 +177,22 @@ module _ (s : Router) (sound : Sound s) where
   unfolding landed
   queue-lands i v h g = ap (λ (l : Lane). l .queue) (landed-lane i v h g) ∙ go (isOn v (wirePlace (s .wire) 0 i))
     where
-      go : (b : Bool) → cond b (oneMore (wireFlit (wirePlace (s .wire) 0 i)) (lane before (channel c i v))) (lane before (channel c i v)) .queue
-          ≡ lane before (channel c i v) .queue ++ cond b (wireFlit (wirePlace (s .wire) 0 i) ∷ []) []
+      go : (b : Bool) → cond b (oneMore (wireFlit (wirePlace (s .wire) 0 i)) (lane before (channelNumber c i v)))
+          (lane before (channelNumber c i v)) .queue
+          ≡ lane before (channelNumber c i v) .queue ++ cond b (wireFlit (wirePlace (s .wire) 0 i) ∷ []) []
       go true = refl
-      go false = sym (append-nil (lane before (channel c i v) .queue))
+      go false = sym (append-nil (lane before (channelNumber c i v) .queue))
 
   pub queued-lands : (i v : ℕ) → i < c .ports → v < c .vcs
       → inputAt c (landed s .inputs) i v .queued ≡ inputAt c (s .inputs) i v .queued + length (lands (s .wire) i v)
   unfolding landed
   queued-lands i v h g = ap (λ (l : Lane). l .queued) (landed-lane i v h g) ∙ go (isOn v (wirePlace (s .wire) 0 i))
     where
-      go : (b : Bool) → cond b (oneMore (wireFlit (wirePlace (s .wire) 0 i)) (lane before (channel c i v))) (lane before (channel c i v)) .queued
-          ≡ lane before (channel c i v) .queued + length {A = Flit} (cond b (wireFlit (wirePlace (s .wire) 0 i) ∷ []) [])
+      go : (b : Bool) → cond b (oneMore (wireFlit (wirePlace (s .wire) 0 i)) (lane before (channelNumber c i v)))
+          (lane before (channelNumber c i v)) .queued
+          ≡ lane before (channelNumber c i v) .queued + length {A = Flit} (cond b (wireFlit (wirePlace (s .wire) 0 i) ∷ []) [])
       go true = refl
-      go false = sym (add-zero (lane before (channel c i v) .queued))
+      go false = sym (add-zero (lane before (channelNumber c i v) .queued))
 
   -- the wire gives it up
   pub wire-lands : (i v : ℕ) → i < c .ports → wireOf c (landed s .wire) i v ≡ drop 1 (wireOf c (s .wire) i v) ++ ([] ∷ [])
@@ -190,7 +200,7 @@ module _ (s : Router) (sound : Sound s) where
   wire-lands i v h =
       let l = sound-legal s sound in
       let few = l .ports .1 in
-      wire-advanced c i v (omega arith) (s .wire) (l .forward .0) (sound .wireRest) (sound-lengths s sound .wire)
+      wire-advanced c i v (omega arith) (s .wire) (l .forward .0) (sound .sizes .wireRest) (sound-lengths s sound .wire)
 
   -- binding, credit and whether a packet is open stay
   pub landed-keeps : {B : Type 0} (see : InputVc → B) → ((x : InputVc) → see (oneMoreQueued x) ≡ see x) → (x : ℕ)

@@ -19,13 +19,15 @@ use Rattle.state.specs.declared.OutputVc.{OutputVc}
 use Rattle.state.specs.declared.Router.{Router}
 use Rattle.state.specs.Channels.{boundTo}
 use Rattle.state.specs.Sound.{Sound}
-use Rattle.state.specs.Views.{channel, inputAt, outputAt, queueOf, homePlace, homeOf, places, toVc}
+use Rattle.state.specs.Views.{channelNumber, inputAt, outputAt, queueOf, homePlace, homeOf, places, toVc}
+use Rattle.state.specs.Setters.{withBinding, withQueued}
 use Rattle.rules.specs.Allocation.{grantOf, allocated}
 use Rattle.rules.specs.Departures.{leavingOf}
 use Rattle.rules.proofs.Acts.{Actor, Untouched, touched-or-not}
 use Rattle.rules.proofs.AllocatedNames.{bound-at}
 use Rattle.rules.proofs.Bound.{asking, ungranted-stays, granted-or-not}
-use Rattle.rules.proofs.Choices.{grantTo, leavesFrom, grant-to, no-grant-to, leaves-from, none-leaves, passesBy, passes-by, none-passes}
+use Rattle.rules.proofs.Choices.{grantTo, leavesFrom, grant-to, no-grant-to, leaves-from, none-leaves, passesBy, passes-by}
+use Rattle.rules.proofs.Choices.{none-passes}
 use Rattle.rules.proofs.Exits.{exit}
 use Rattle.rules.proofs.Facts.{sound-legal}
 use Rattle.rules.proofs.Left.{ends, fromPlace, byPlace, others-stay, unused-outputs-stay}
@@ -53,13 +55,14 @@ module _ (s : Router) (sound : Sound s) (i v : ℕ) (port : i < s .config .ports
   c = s .config
 
   abbrev x : ℕ
-  x = channel c i v
+  x = channelNumber c i v
 
   abbrev queue : List Flit
   queue = queueOf c (s .store) i v (inputAt c (s .inputs) i v .queued)
 
   -- phase 5
-  pub bound-now : boundTo (inputAt c (allocated s .inputs) i v .binding) ≡ nowBound (grantTo s x) (boundTo (inputAt c (s .inputs) i v .binding))
+  pub bound-now : boundTo (inputAt c (allocated s .inputs) i v .binding)
+      ≡ nowBound (grantTo s x) (boundTo (inputAt c (s .inputs) i v .binding))
   bound-now = go (granted-or-not s x)
     where
       go : Actor (grantOf s) (asking s) (c .ports) x ⊎ Untouched (grantOf s) (asking s) (c .ports) x
@@ -96,7 +99,8 @@ module _ (s : Router) (sound : Sound s) (i v : ℕ) (port : i < s .config .ports
       go (inl a) =
           ap (λ (y : InputVc). boundTo (y .binding)) (left-at s sound x a)
           ∙ unbound (ends (a .deed)) (inputAt c (s .inputs) i v .binding)
-          ∙ ap₂ (λ (l : Bool) (q : List Flit). cond (l && frontEnds q) none (boundTo (inputAt c (s .inputs) i v .binding))) (sym (leaves-from s x a))
+          ∙ ap₂ (λ (l : Bool) (q : List Flit). cond (l && frontEnds q) none (boundTo (inputAt c (s .inputs) i v .binding)))
+          (sym (leaves-from s x a))
           (sym (exit-front s sound i v port vc a))
       go (inr off) =
           ap (λ (y : InputVc). boundTo (y .binding)) (others-stay s x off)
@@ -104,7 +108,7 @@ module _ (s : Router) (sound : Sound s) (i v : ℕ) (port : i < s .config .ports
 
   -- nothing else of it changes
   pub input-left : {B : Type 0} (see : InputVc → B) → ((b : Binding) (q : ℕ) (y : InputVc)
-      → see (record { binding = b; credit = y .credit; inside = y .inside; queued = q }) ≡ see y)
+      → see (withBinding b (withQueued q y)) ≡ see y)
       → see (inputAt c (leavingOf s .inputs) i v) ≡ see (inputAt c (s .inputs) i v)
   input-left {B} see same = go (touched-or-not (exit s) (fromPlace s) (c .ports) x)
     where
@@ -149,19 +153,19 @@ module _ (s : Router) (sound : Sound s) (i v : ℕ) (port : i < s .config .ports
 -- the output VC that it leaves by has one credit less
 pub output-credit-left : (s : Router) → Sound s → (o w : ℕ)
     → outputAt (s .config) (leavingOf s .outputs) o w .credit
-    ≡ outputAt (s .config) (s .outputs) o w .credit - one (passesBy s (channel (s .config) o w))
-output-credit-left s sound o w = go (touched-or-not (exit s) (byPlace s) (s .config .ports) (channel (s .config) o w))
+    ≡ outputAt (s .config) (s .outputs) o w .credit - one (passesBy s (channelNumber (s .config) o w))
+output-credit-left s sound o w = go (touched-or-not (exit s) (byPlace s) (s .config .ports) (channelNumber (s .config) o w))
   where
     all-of : (n : ℕ) → n ≡ n - 0
     all-of n = omega arith
 
-    go : Passes s sound (channel (s .config) o w) ⊎ Untouched (exit s) (byPlace s) (s .config .ports) (channel (s .config) o w)
+    go : Passes s sound (channelNumber (s .config) o w) ⊎ Untouched (exit s) (byPlace s) (s .config .ports) (channelNumber (s .config) o w)
         → outputAt (s .config) (leavingOf s .outputs) o w .credit
-        ≡ outputAt (s .config) (s .outputs) o w .credit - one (passesBy s (channel (s .config) o w))
+        ≡ outputAt (s .config) (s .outputs) o w .credit - one (passesBy s (channelNumber (s .config) o w))
     go (inl a) =
-        ap (λ (y : OutputVc). y .credit) (passed-at s sound (channel (s .config) o w) a)
-        ∙ ap (λ (b : Bool). outputAt (s .config) (s .outputs) o w .credit - one b) (sym (passes-by s (channel (s .config) o w) a))
+        ap (λ (y : OutputVc). y .credit) (passed-at s sound (channelNumber (s .config) o w) a)
+        ∙ ap (λ (b : Bool). outputAt (s .config) (s .outputs) o w .credit - one b) (sym (passes-by s (channelNumber (s .config) o w) a))
     go (inr off) =
-        ap (λ (y : OutputVc). y .credit) (unused-outputs-stay s (channel (s .config) o w) off)
+        ap (λ (y : OutputVc). y .credit) (unused-outputs-stay s (channelNumber (s .config) o w) off)
         ∙ all-of (outputAt (s .config) (s .outputs) o w .credit)
-        ∙ ap (λ (b : Bool). outputAt (s .config) (s .outputs) o w .credit - one b) (sym (none-passes s (channel (s .config) o w) off))
+        ∙ ap (λ (b : Bool). outputAt (s .config) (s .outputs) o w .credit - one b) (sym (none-passes s (channelNumber (s .config) o w) off))

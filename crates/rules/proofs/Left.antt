@@ -14,7 +14,7 @@ use Rattle.state.specs.declared.InputVc.{InputVc}
 use Rattle.state.specs.declared.OutputVc.{OutputVc}
 use Rattle.state.specs.declared.Router.{Router}
 use Rattle.state.specs.Fresh.{freshInput, freshOutput}
-use Rattle.state.specs.Views.{channel, inputAt, outputAt, homePlace}
+use Rattle.state.specs.Views.{channelNumber, inputAt, outputAt, homePlace}
 use Rattle.rules.specs.Ports.{overPorts}
 use Rattle.rules.specs.Intake.{newest}
 use Rattle.rules.specs.Departures.{Leaving, inputLeft, outputLeft, departure, leavingOf}
@@ -34,10 +34,10 @@ noOutput = record { left = left.Nothing }
 module _ (s : Router) where
   -- where a flit that leaves by output o acts: its input VC, its output VC, the home line's newest place of its input, the reply's place
   abbrev pub fromPlace : ℕ → Exit → ℕ
-  fromPlace o e = channel (s .config) (e .input) (e .vc)
+  fromPlace o e = channelNumber (s .config) (e .input) (e .vc)
 
   abbrev pub byPlace : ℕ → Exit → ℕ
-  byPlace o e = channel (s .config) o (e .by)
+  byPlace o e = channelNumber (s .config) o (e .by)
 
   abbrev pub homeward : ℕ → Exit → ℕ
   homeward o e = newest (s .config .back) (e .input)
@@ -64,7 +64,8 @@ module _ (s : Router) where
       → part (leavingOf s) ≡ overPorts (s .config .ports) (deeds d (exit s) place change) (part (atFirst s))
   part-fold part d place change same =
       ap part (leaving-exits s)
-      ∙ over-seen part (s .config .ports) (λ l o. exits s o (exit s o) l) (deeds d (exit s) place change) (atFirst s) (λ l o h. same l o (exit s o))
+      ∙ over-seen part (s .config .ports) (λ l o. exits s o (exit s o) l) (deeds d (exit s) place change) (atFirst s)
+      (λ l o h. same l o (exit s o))
 
   inputs-fold : leavingOf s .inputs ≡ overPorts (s .config .ports) (deeds (freshInput 0) (exit s) fromPlace outOf) (s .inputs)
   inputs-fold = part-fold (λ (l : Leaving). l .inputs) (freshInput 0) fromPlace outOf same
@@ -105,8 +106,10 @@ module _ (s : Router) where
   left-home-length = ap length home-fold ∙ deeds-length 0 (exit s) homeward sendHome (s .config .ports) (s .home)
 
   -- the input VC that a flit leaves: one less is queued, and it is unbound if that ends a packet
-  pub exit-unqueues : (o : ℕ) (e : Exit) → o < s .config .ports → exit s o ≡ some e → channel (s .config) (e .input) (e .vc) < length (s .inputs)
-      → inputAt (s .config) (leavingOf s .inputs) (e .input) (e .vc) ≡ inputLeft (ends e) (inputAt (s .config) (s .inputs) (e .input) (e .vc))
+  pub exit-unqueues : (o : ℕ) (e : Exit) → o < s .config .ports → exit s o ≡ some e
+      → channelNumber (s .config) (e .input) (e .vc) < length (s .inputs)
+      → inputAt (s .config) (leavingOf s .inputs) (e .input) (e .vc)
+      ≡ inputLeft (ends e) (inputAt (s .config) (s .inputs) (e .input) (e .vc))
   exit-unqueues o e l q m =
       ap (λ (xs : List InputVc). getD xs (fromPlace o e) (freshInput 0)) inputs-fold
       ∙ touched-changes (freshInput 0) (exit s) fromPlace outOf (s .config .ports) (s .inputs) o e l q m
@@ -120,7 +123,7 @@ module _ (s : Router) where
 
   -- the output VC that it leaves by: one credit less, and it is free if that ends a packet
   pub exit-pays : ((o : ℕ) (e : Exit) → exit s o ≡ some e → e .by < s .config .vcs)
-      → (o : ℕ) (e : Exit) → o < s .config .ports → exit s o ≡ some e → channel (s .config) o (e .by) < length (s .outputs)
+      → (o : ℕ) (e : Exit) → o < s .config .ports → exit s o ≡ some e → channelNumber (s .config) o (e .by) < length (s .outputs)
       → outputAt (s .config) (leavingOf s .outputs) o (e .by) ≡ outputLeft (ends e) (outputAt (s .config) (s .outputs) o (e .by))
   exit-pays near o e l q m =
       ap (λ (ys : List OutputVc). getD ys (byPlace o e) (freshOutput 0)) outputs-fold
@@ -134,7 +137,8 @@ module _ (s : Router) where
       ∙ untouched-stays (freshOutput 0) (exit s) byPlace through (s .config .ports) (s .outputs) x off
 
   -- the home line's newest place of its input: 1 + VC
-  pub exit-sends-home : (o : ℕ) (e : Exit) → o < s .config .ports → exit s o ≡ some e → newest (s .config .back) (e .input) < length (s .home)
+  pub exit-sends-home : (o : ℕ) (e : Exit) → o < s .config .ports → exit s o ≡ some e
+      → newest (s .config .back) (e .input) < length (s .home)
       → homePlace (leavingOf s .home) (s .config .back - 1) (e .input) ≡ e .vc + 1
   exit-sends-home o e l q m =
       ap (λ (ps : List ℕ). getD ps (homeward o e) 0) home-fold

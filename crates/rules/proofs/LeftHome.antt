@@ -12,11 +12,12 @@ use lib.Dec.{eqb}
 use lib.ListN.{length}
 use borrow.Author.Tests.{eq-eqb, ne-eqb, eqb-true, eqb-false, le-leb}
 use Rattle.base.specs.declared.config.Config.{Config}
-use Rattle.base.proofs.Search.{all-every}
+use Rattle.base.proofs.Search.{all-every, one-less}
 use Rattle.state.specs.declared.InputVc.{InputVc}
 use Rattle.state.specs.declared.Router.{Router}
 use Rattle.state.specs.Sound.{Sound, creditsAddUp, homeLegal, lineUnused}
-use Rattle.state.specs.Views.{channel, inputAt, homePlace, homeOf, wireOf, flat, places, total, toVc}
+use Rattle.state.specs.Views.{channelNumber, inputAt, homePlace, homeOf, wireOf, flat, places, total, toVc}
+use Rattle.state.proofs.Places.{total-end}
 use Rattle.rules.specs.Departures.{leavingOf}
 use Rattle.rules.proofs.Acts.{Actor, Untouched, touched-or-not}
 use Rattle.rules.proofs.Advance.{rest-at, at-rest}
@@ -25,7 +26,7 @@ use Rattle.rules.proofs.Exits.{Exit, exit, exit-is}
 use Rattle.rules.proofs.Facts.{credits-sum, sum-credits, sound-legal, sound-lengths, home-at}
 use Rattle.rules.proofs.Left.{fromPlace, exit-sends-home, home-stays, others-stay}
 use Rattle.rules.proofs.LeftNames.{Leaves, left-at}
-use Rattle.rules.proofs.Lines.{places-ext, total-end}
+use Rattle.rules.proofs.Lines.{places-ext}
 
 -- a line that gets z credits into its newest place, which was empty
 pub total-newest : (n : ℕ) (f g : ℕ → ℕ) (z : ℕ) → 1 ≤ n → ((k : ℕ) → suc k < n → g k ≡ f k) → ((k : ℕ) → suc k ≡ n → f k ≡ 0)
@@ -81,7 +82,7 @@ module _ (s : Router) (sound : Sound s) where
       d (omega arith))
 
   -- how the credit of a channel that a flit leaves counts
-  pub sent-counts : (i v : ℕ) → i < c .ports → v < c .vcs → (a : Leaves s sound (channel c i v))
+  pub sent-counts : (i v : ℕ) → i < c .ports → v < c .vcs → (a : Leaves s sound (channelNumber c i v))
       → toVc v (homePlace (leavingOf s .home) (c .back - 1) i) ≡ 1
   sent-counts i v h g a =
       let w = exit-is s (a .port) (a .deed) (a .acts) in
@@ -90,7 +91,7 @@ module _ (s : Router) (sound : Sound s) where
       ∙ ap (λ (b : Bool). cond b 1 0) (eq-eqb (a .deed .vc + 1) (v + 1) (ap (λ (n : ℕ). n + 1) (from .1)))
 
   module _ (empty : (i : ℕ) → i < c .ports → homePlace (s .home) (c .back - 1) i ≡ 0) where
-    pub unsent-counts : (i v : ℕ) → i < c .ports → v < c .vcs → Untouched (exit s) (fromPlace s) (c .ports) (channel c i v)
+    pub unsent-counts : (i v : ℕ) → i < c .ports → v < c .vcs → Untouched (exit s) (fromPlace s) (c .ports) (channelNumber c i v)
         → toVc v (homePlace (leavingOf s .home) (c .back - 1) i) ≡ 0
     unsent-counts i v h g off = go (touched-or-not (exit s) fromInput (c .ports) i)
       where
@@ -98,10 +99,12 @@ module _ (s : Router) (sound : Sound s) where
         go (inl a) =
             ap (toVc v) (newest-sent i a)
             ∙ ap (λ (b : Bool). cond b 1 0)
-            (ne-eqb (a .deed .vc + 1) (v + 1) (λ e. off (a .port) (a .deed) (a .below) (a .acts) (ap₂ (channel c) (a .there) (omega arith))))
+            (ne-eqb (a .deed .vc + 1) (v + 1) (λ e. off (a .port) (a .deed) (a .below) (a .acts)
+            (ap₂ (channelNumber c) (a .there) (omega arith))))
         go (inr none) =
             let few = sound-legal s sound .ports .1 in
-            ap (toVc v) (newest-stays i (omega arith) none ∙ empty i h) ∙ ap (λ (b : Bool). cond b 1 0) (ne-eqb 0 (v + 1) (λ e. omega arith))
+            ap (toVc v) (newest-stays i (omega arith) none ∙ empty i h)
+            ∙ ap (λ (b : Bool). cond b 1 0) (ne-eqb 0 (v + 1) (λ e. omega arith))
 
     -- the credits on their way home: the newest place's more
     home-more : (i v : ℕ) → i < c .ports
@@ -121,18 +124,16 @@ module _ (s : Router) (sound : Sound s) where
     pub left-credits : creditsAddUp c (leavingOf s .inputs) (s .wire) (leavingOf s .home) ≡ true
     left-credits =
         sum-credits c (leavingOf s .inputs) (s .wire) (leavingOf s .home) (λ i v h g.
-        go i v h g (touched-or-not (exit s) (fromPlace s) (c .ports) (channel c i v)))
+        go i v h g (touched-or-not (exit s) (fromPlace s) (c .ports) (channelNumber c i v)))
       where
         sum : (credit wire queued home credit′ queued′ home′ z depth : ℕ) → credit + wire + queued + home ≡ depth → credit′ ≡ credit
             → queued′ + z ≡ queued → home′ ≡ home + z → credit′ + wire + queued′ + home′ ≡ depth
         sum credit wire queued home credit′ queued′ home′ z depth e f g h = omega arith
 
-        less : (n : ℕ) → n ≢ 0 → n - 1 + 1 ≡ n
-        less zero d = absurd (d refl)
-        less (suc n) d = omega arith
-
-        go : (i v : ℕ) → i < c .ports → v < c .vcs → Leaves s sound (channel c i v) ⊎ Untouched (exit s) (fromPlace s) (c .ports) (channel c i v)
-            → inputAt c (leavingOf s .inputs) i v .credit + length (flat (wireOf c (s .wire) i v)) + inputAt c (leavingOf s .inputs) i v .queued
+        go : (i v : ℕ) → i < c .ports → v < c .vcs → Leaves s sound (channelNumber c i v) ⊎ Untouched (exit s) (fromPlace s) (c .ports)
+            (channelNumber c i v)
+            → inputAt c (leavingOf s .inputs) i v .credit + length (flat (wireOf c (s .wire) i v)) + inputAt c
+            (leavingOf s .inputs) i v .queued
             + total (homeOf c (leavingOf s .home) i v)
             ≡ c .depth
         go i v h g (inl a) =
@@ -142,16 +143,19 @@ module _ (s : Router) (sound : Sound s) where
             λ z. w .wins .queued (ap₂ (λ (i v : ℕ). inputAt c (s .inputs) i v .queued) (from .0) (from .1) ∙ z) in
             sum (inputAt c (s .inputs) i v .credit) (length (flat (wireOf c (s .wire) i v))) (inputAt c (s .inputs) i v .queued)
             (total (homeOf c (s .home) i v)) (inputAt c (leavingOf s .inputs) i v .credit) (inputAt c (leavingOf s .inputs) i v .queued)
-            (total (homeOf c (leavingOf s .home) i v)) 1 (c .depth) (credits-sum c (s .inputs) (s .wire) (s .home) (sound .credits) i v h g)
-            (ap (λ (y : InputVc). y .credit) (left-at s sound (channel c i v) a))
-            (ap (λ (y : InputVc). y .queued + 1) (left-at s sound (channel c i v) a) ∙ less (inputAt c (s .inputs) i v .queued) some-queued)
+            (total (homeOf c (leavingOf s .home) i v)) 1 (c .depth)
+            (credits-sum c (s .inputs) (s .wire) (s .home) (sound .flow .credits) i v h g)
+            (ap (λ (y : InputVc). y .credit) (left-at s sound (channelNumber c i v) a))
+            (ap (λ (y : InputVc). y .queued + 1) (left-at s sound (channelNumber c i v) a)
+            ∙ one-less (inputAt c (s .inputs) i v .queued) some-queued)
             (home-more i v h ∙ ap (λ (z : ℕ). total (homeOf c (s .home) i v) + z) (sent-counts i v h g a))
         go i v h g (inr off) =
             sum (inputAt c (s .inputs) i v .credit) (length (flat (wireOf c (s .wire) i v))) (inputAt c (s .inputs) i v .queued)
             (total (homeOf c (s .home) i v)) (inputAt c (leavingOf s .inputs) i v .credit) (inputAt c (leavingOf s .inputs) i v .queued)
-            (total (homeOf c (leavingOf s .home) i v)) 0 (c .depth) (credits-sum c (s .inputs) (s .wire) (s .home) (sound .credits) i v h g)
-            (ap (λ (y : InputVc). y .credit) (others-stay s (channel c i v) off))
-            (ap (λ (y : InputVc). y .queued + 0) (others-stay s (channel c i v) off) ∙ add-zero (inputAt c (s .inputs) i v .queued))
+            (total (homeOf c (leavingOf s .home) i v)) 0 (c .depth)
+            (credits-sum c (s .inputs) (s .wire) (s .home) (sound .flow .credits) i v h g)
+            (ap (λ (y : InputVc). y .credit) (others-stay s (channelNumber c i v) off))
+            (ap (λ (y : InputVc). y .queued + 0) (others-stay s (channelNumber c i v) off) ∙ add-zero (inputAt c (s .inputs) i v .queued))
             (home-more i v h ∙ ap (λ (z : ℕ). total (homeOf c (s .home) i v) + z) (unsent-counts i v h g off))
 
   -- "home places are empty or legal"
@@ -161,12 +165,14 @@ module _ (s : Router) (sound : Sound s) where
       all-every (c .back) _ (λ k h. all-every (c .ports) _ (λ i g. le-leb (homePlace (leavingOf s .home) k i) (c .vcs)
       (go k i h g (eqb (suc k) (c .back)) refl (touched-or-not (exit s) fromInput (c .ports) i))))
     where
-      go : (k i : ℕ) → k < c .back → i < c .ports → (b : Bool) → eqb (suc k) (c .back) ≡ b → Sends i ⊎ Untouched (exit s) fromInput (c .ports) i
+      go : (k i : ℕ) → k < c .back → i < c .ports → (b : Bool) → eqb (suc k) (c .back) ≡ b
+          → Sends i ⊎ Untouched (exit s) fromInput (c .ports) i
           → homePlace (leavingOf s .home) k i ≤ c .vcs
       go k i h g true e (inl a) =
           let q = eqb-true (suc k) (c .back) e in
           let last : k ≡ c .back - 1 = omega arith in
-          let sent : homePlace (leavingOf s .home) k i ≡ a .deed .vc + 1 = ap (λ (k : ℕ). homePlace (leavingOf s .home) k i) last ∙ newest-sent i a in
+          let sent : homePlace (leavingOf s .home) k i ≡ a .deed .vc + 1 = ap (λ (k : ℕ). homePlace (leavingOf s .home) k i) last
+          ∙ newest-sent i a in
           let below = exit-is s (a .port) (a .deed) (a .acts) .wins .vc-below in
           omega arith
       go k i h g true e (inr off) =
@@ -189,7 +195,7 @@ module _ (s : Router) (sound : Sound s) where
   left-home-rest =
       at-rest (c .back) (c .ports) (leavingOf s .home) (λ k i h g out.
       home-stays s (8 * k + i) (λ o e l q same. beyond k i g out (e .input) (exit-below o e q) same)
-      ∙ rest-at (c .back) (c .ports) (s .home) (sound .homeRest) (sound-lengths s sound .home) k i g out)
+      ∙ rest-at (c .back) (c .ports) (s .home) (sound .sizes .homeRest) (sound-lengths s sound .home) k i g out)
     where
       beyond : (k i : ℕ) → i < 8 → (c .back ≤ k) ⊎ (c .ports ≤ i) → (j : ℕ) → j < c .ports → 8 * (c .back - 1) + j ≡ 8 * k + i → ⊥
       beyond k i g (inl out) j below same =

@@ -19,7 +19,7 @@ use Rattle.state.specs.declared.OutputVc.{OutputVc}
 use Rattle.state.specs.declared.Router.{Router}
 use Rattle.state.specs.Fresh.{freshInput, freshOutput}
 use Rattle.state.specs.Sound.{Sound, namesAgree}
-use Rattle.state.specs.Views.{channel, inputAt, outputAt}
+use Rattle.state.specs.Views.{channelNumber, inputAt, outputAt}
 use Rattle.rules.specs.Departures.{inputLeft, outputLeft, leavingOf}
 use Rattle.rules.proofs.Acts.{Actor, Untouched, touched-or-not}
 use Rattle.rules.proofs.Channels.{channel-below, channel-apart}
@@ -40,10 +40,11 @@ module _ (s : Router) (sound : Sound s) where
   Passes x = Actor (exit s) (byPlace s) (c .ports) x
 
   agree : Agree c (s .inputs) (s .outputs)
-  agree = names-agree c (s .inputs) (s .outputs) (sound .names)
+  agree = names-agree c (s .inputs) (s .outputs) (sound .naming .names)
 
   -- the output VC that a flit leaves by there is, and is held by the input VC that it leaves
-  pub exit-named : (o : ℕ) (e : Exit) → exit s o ≡ some e → BoundTo c (s .inputs) (s .outputs) (e .input) (e .vc) (record { output = o; vc = e .by })
+  pub exit-named : (o : ℕ) (e : Exit) → exit s o ≡ some e → BoundTo c (s .inputs) (s .outputs) (e .input) (e .vc)
+      (record { output = o; vc = e .by })
   exit-named o e q =
       let x = exit-is s o e q in
       agree .bound (e .input) (e .vc) (x .wins .input-below) (x .wins .vc-below) (record { output = o; vc = e .by }) (x .bound)
@@ -51,7 +52,8 @@ module _ (s : Router) (sound : Sound s) where
   -- one flit leaves a channel, and one by a channel
   leaves-one : (x : ℕ) (a b : Leaves x) → a .deed ≡ b .deed
   leaves-one x a b =
-      let same : a .port ≡ b .port = exits-apart s (a .port) (b .port) (a .deed) (b .deed) (a .acts) (b .acts) (a .there ∙ sym (b .there)) in
+      let same : a .port ≡ b .port = exits-apart s (a .port) (b .port) (a .deed) (b .deed) (a .acts) (b .acts)
+      (a .there ∙ sym (b .there)) in
       Option·some-injective (a .deed) (b .deed) (sym (a .acts) ∙ ap (exit s) same ∙ b .acts)
 
   passes-one : (x : ℕ) (a b : Passes x) → a .deed ≡ b .deed
@@ -61,7 +63,8 @@ module _ (s : Router) (sound : Sound s) where
       Option·some-injective (a .deed) (b .deed) (sym (a .acts) ∙ ap (exit s) (same .0) ∙ b .acts)
 
   -- the input VC that a flit leaves, and the output VC that it leaves by, by number
-  pub left-at : (x : ℕ) (a : Leaves x) → getD (leavingOf s .inputs) x (freshInput 0) ≡ inputLeft (ends (a .deed)) (getD (s .inputs) x (freshInput 0))
+  pub left-at : (x : ℕ) (a : Leaves x) → getD (leavingOf s .inputs) x (freshInput 0)
+      ≡ inputLeft (ends (a .deed)) (getD (s .inputs) x (freshInput 0))
   left-at x a =
       let w = exit-is s (a .port) (a .deed) (a .acts) .wins in
       ap (λ (y : ℕ). getD (leavingOf s .inputs) y (freshInput 0)) (sym (a .there))
@@ -74,7 +77,8 @@ module _ (s : Router) (sound : Sound s) where
   passed-at x a =
       ap (λ (y : ℕ). getD (leavingOf s .outputs) y (freshOutput 0)) (sym (a .there))
       ∙ exit-pays s (λ o e q. exit-named o e q .1) (a .port) (a .deed) (a .below) (a .acts)
-      (lt-of-lt-of-le (channel-below c (a .port) (a .deed .by) (a .below) (exit-named (a .port) (a .deed) (a .acts) .1)) (outputs-room s sound))
+      (lt-of-lt-of-le (channel-below c (a .port) (a .deed .by) (a .below) (exit-named (a .port) (a .deed) (a .acts) .1))
+      (outputs-room s sound))
       ∙ ap (λ (y : ℕ). outputLeft (ends (a .deed)) (getD (s .outputs) y (freshOutput 0))) (a .there)
 
   -- a binding goes with the flit that ends a packet, and stays otherwise
@@ -97,7 +101,8 @@ module _ (s : Router) (sound : Sound s) where
       go : Leaves x ⊎ Untouched (exit s) (fromPlace s) (c .ports) x → Binds x
       go (inl a) = at a (ends (a .deed)) refl
       go (inr off) =
-          stays-bound (λ a. absurd (off (a .port) (a .deed) (a .below) (a .acts) (a .there))) (ap (λ (y : InputVc). y .binding) (others-stay s x off))
+          stays-bound (λ a. absurd (off (a .port) (a .deed) (a .below) (a .acts) (a .there)))
+          (ap (λ (y : InputVc). y .binding) (others-stay s x off))
 
   -- an output VC is freed by the flit that ends a packet, and stays held otherwise
   pub data Holds (x : ℕ) : Type 0 where
@@ -131,53 +136,56 @@ module _ (s : Router) (sound : Sound s) where
   -- an input VC that is bound is held by what it is bound to
   still-bound : (i v : ℕ) → i < c .ports → v < c .vcs → (b : OutVc) → inputAt c (leavingOf s .inputs) i v .binding ≡ Bound b
       → BoundTo c (leavingOf s .inputs) (leavingOf s .outputs) i v b
-  still-bound i v h g b q = go (binding-after (channel c i v))
+  still-bound i v h g b q = go (binding-after (channelNumber c i v))
     where
-      held : ((a : Leaves (channel c i v)) → ends (a .deed) ≡ false) → BoundTo c (s .inputs) (s .outputs) i v b
-          → Holds (channel c (b .output) (b .vc))
+      held : ((a : Leaves (channelNumber c i v)) → ends (a .deed) ≡ false) → BoundTo c (s .inputs) (s .outputs) i v b
+          → Holds (channelNumber c (b .output) (b .vc))
           → BoundTo c (leavingOf s .inputs) (leavingOf s .outputs) i v b
       held unended p (frees a e f) =
           let n = exit-named (a .port) (a .deed) (a .acts) in
           let by = channel-apart c (a .port) (a .deed .by) (b .output) (b .vc) (n .1) (p .1) (a .there) in
           let one = same-holder (outputAt c (s .outputs) (b .output) (b .vc) .holder) (record { input = a .deed .input; vc = a .deed .vc })
-          (record { input = i; vc = v }) (ap₂ (λ (x y : ℕ). outputAt c (s .outputs) x y .holder) (sym (by .0)) (sym (by .1)) ∙ n .2) (p .2) in
+          (record { input = i; vc = v }) (ap₂ (λ (x y : ℕ). outputAt c (s .outputs) x y .holder) (sym (by .0)) (sym (by .1)) ∙ n .2)
+          (p .2) in
           absurd (true≢false (sym e ∙ unended (record {
             port = a .port;
             deed = a .deed;
             below = a .below;
             acts = a .acts;
-            there = ap (λ (x : InVc). channel c (x .input) (x .vc)) one;
+            there = ap (λ (x : InVc). channelNumber c (x .input) (x .vc)) one;
           })))
       held unended p (stays-held d f) = (p .0, p .1, f ∙ p .2)
 
-      go : Binds (channel c i v) → BoundTo c (leavingOf s .inputs) (leavingOf s .outputs) i v b
+      go : Binds (channelNumber c i v) → BoundTo c (leavingOf s .inputs) (leavingOf s .outputs) i v b
       go (unbinds a e f) = absurd (unbound-not (inputAt c (leavingOf s .inputs) i v .binding) b f q)
-      go (stays-bound unended f) = held unended (agree .bound i v h g b (sym f ∙ q)) (holder-after (channel c (b .output) (b .vc)))
+      go (stays-bound unended f) = held unended (agree .bound i v h g b (sym f ∙ q)) (holder-after (channelNumber c (b .output) (b .vc)))
 
   -- who holds an output VC is bound to it
   still-held : (o w : ℕ) → o < c .ports → w < c .vcs → (h : InVc) → outputAt c (leavingOf s .outputs) o w .holder ≡ Held h
       → HeldBy c (leavingOf s .inputs) (leavingOf s .outputs) o w h
-  still-held o w l g h q = go (holder-after (channel c o w))
+  still-held o w l g h q = go (holder-after (channelNumber c o w))
     where
-      bound : ((a : Passes (channel c o w)) → ends (a .deed) ≡ false) → HeldBy c (s .inputs) (s .outputs) o w h → Binds (channel c (h .input) (h .vc))
+      bound : ((a : Passes (channelNumber c o w)) → ends (a .deed) ≡ false) → HeldBy c (s .inputs) (s .outputs) o w h
+          → Binds (channelNumber c (h .input) (h .vc))
           → HeldBy c (leavingOf s .inputs) (leavingOf s .outputs) o w h
       bound unended p (unbinds a e f) =
           let x = exit-is s (a .port) (a .deed) (a .acts) in
           let from = channel-apart c (a .deed .input) (a .deed .vc) (h .input) (h .vc) (x .wins .vc-below) (p .1) (a .there) in
           let one = same-binding (inputAt c (s .inputs) (h .input) (h .vc) .binding) (record { output = a .port; vc = a .deed .by })
-          (record { output = o; vc = w }) (ap₂ (λ (x y : ℕ). inputAt c (s .inputs) x y .binding) (sym (from .0)) (sym (from .1)) ∙ x .bound) (p .2) in
+          (record { output = o; vc = w }) (ap₂ (λ (x y : ℕ). inputAt c (s .inputs) x y .binding) (sym (from .0)) (sym (from .1))
+          ∙ x .bound) (p .2) in
           absurd (true≢false (sym e ∙ unended (record {
             port = a .port;
             deed = a .deed;
             below = a .below;
             acts = a .acts;
-            there = ap (λ (y : OutVc). channel c (y .output) (y .vc)) one;
+            there = ap (λ (y : OutVc). channelNumber c (y .output) (y .vc)) one;
           })))
       bound unended p (stays-bound d f) = (p .0, p .1, f ∙ p .2)
 
-      go : Holds (channel c o w) → HeldBy c (leavingOf s .inputs) (leavingOf s .outputs) o w h
+      go : Holds (channelNumber c o w) → HeldBy c (leavingOf s .inputs) (leavingOf s .outputs) o w h
       go (frees a e f) = absurd (nobody-not (outputAt c (leavingOf s .outputs) o w .holder) h f q)
-      go (stays-held unended f) = bound unended (agree .held o w l g h (sym f ∙ q)) (binding-after (channel c (h .input) (h .vc)))
+      go (stays-held unended f) = bound unended (agree .held o w l g h (sym f ∙ q)) (binding-after (channelNumber c (h .input) (h .vc)))
 
   pub left-names : namesAgree c (leavingOf s .inputs) (leavingOf s .outputs) ≡ true
   left-names = agree-names c (leavingOf s .inputs) (leavingOf s .outputs) (record { bound = still-bound; held = still-held })

@@ -12,7 +12,7 @@ use lib.ListN.{length, getD, drop}
 use borrow.Author.Tests.{ltb-true, ltb-false}
 use Rattle.state.specs.declared.Router.{Router}
 use Rattle.store.specs.Store.{slot, popped}
-use Rattle.state.specs.Views.{channel}
+use Rattle.state.specs.Views.{channelNumber}
 use Rattle.state.proofs.Queues.{queueIn, slots-apart, pop-drops, pop-keeps-others}
 use Rattle.store.proofs.Slots.{pop-length, pop-slot, pop-last-slot, pop-other-slot, pop-beyond}
 use Rattle.rules.specs.Ports.{overPorts}
@@ -38,7 +38,7 @@ slot-keeps store y x k d h = pop-other-slot store y (slot x k) (λ j g e. slots-
 module _ (s : Router) (whole : length (s .store) ≡ 512) where
   abbrev popFor : Option Exit → List ℕ → List ℕ
   popFor none store = store
-  popFor (some e) store = popped store (channel (s .config) (e .input) (e .vc))
+  popFor (some e) store = popped store (channelNumber (s .config) (e .input) (e .vc))
 
   abbrev pops : List ℕ → ℕ → List ℕ
   pops store o = popFor (exit s o) store
@@ -46,7 +46,8 @@ module _ (s : Router) (whole : length (s .store) ≡ 512) where
   store-fold : leavingOf s .store ≡ overPorts (s .config .ports) pops (s .store)
   store-fold =
       ap (λ (l : Leaving). l .store) (leaving-exits s)
-      ∙ over-seen (λ (l : Leaving). l .store) (s .config .ports) (λ l o. exits s o (exit s o) l) pops (atFirst s) (λ l o h. same l o (exit s o))
+      ∙ over-seen (λ (l : Leaving). l .store) (s .config .ports) (λ l o. exits s o (exit s o) l) pops (atFirst s)
+      (λ l o h. same l o (exit s o))
     where
       same : (l : Leaving) (o : ℕ) (m : Option Exit) → exits s o m l .store ≡ popFor m (l .store)
       same l o none = refl
@@ -61,7 +62,7 @@ module _ (s : Router) (whole : length (s .store) ≡ 512) where
     where
       go : (m : Option Exit) → Whole (popFor m store)
       go none = w
-      go (some e) = pop-length store (channel (s .config) (e .input) (e .vc)) ∙ w
+      go (some e) = pop-length store (channelNumber (s .config) (e .input) (e .vc)) ∙ w
 
   pub left-store-length : length (leavingOf s .store) ≡ 512
   left-store-length = ap length store-fold ∙ over-keeps Whole (s .config .ports) pops (s .store) keeps-whole whole
@@ -69,10 +70,11 @@ module _ (s : Router) (whole : length (s .store) ≡ 512) where
   -- what pops of other channels leave alone
   module _ {B : Type 0} (look : List ℕ → B) (x : ℕ)
       (alone : (store : List ℕ) (y : ℕ) → Whole store → y ≢ x → look (popped store y) ≡ look store) where
-    pop-elsewhere : (store : List ℕ) (m : Option Exit) → Whole store → ((e : Exit) → m ≡ some e → channel (s .config) (e .input) (e .vc) ≢ x)
+    pop-elsewhere : (store : List ℕ) (m : Option Exit) → Whole store
+        → ((e : Exit) → m ≡ some e → channelNumber (s .config) (e .input) (e .vc) ≢ x)
         → look (popFor m store) ≡ look store
     pop-elsewhere store none w off = refl
-    pop-elsewhere store (some e) w off = alone store (channel (s .config) (e .input) (e .vc)) w (off e refl)
+    pop-elsewhere store (some e) w off = alone store (channelNumber (s .config) (e .input) (e .vc)) w (off e refl)
 
     unpopped-stays : Untouched (exit s) (fromPlace s) (s .config .ports) x → look (leavingOf s .store) ≡ look (s .store)
     unpopped-stays off =
@@ -107,14 +109,16 @@ module _ (s : Router) (whole : length (s .store) ≡ 512) where
   -- all other queues stay
   pub other-queues-stay : (x : ℕ) → Untouched (exit s) (fromPlace s) (s .config .ports) x → (n : ℕ) → n ≤ 16 → x < 32
       → queueIn (leavingOf s .store) x n ≡ queueIn (s .store) x n
-  other-queues-stay x off n h g = unpopped-stays (λ (store : List ℕ). queueIn store x n) x (λ store y w d. pop-keeps store y x n w d g h) off
+  other-queues-stay x off n h g = unpopped-stays (λ (store : List ℕ). queueIn store x n) x
+      (λ store y w d. pop-keeps store y x n w d g h) off
 
   -- the slots of a channel that a flit leaves move up, the last is empty, and all other slots stay
   pub exit-slots : (o : ℕ) (e : Exit) → o < s .config .ports → exit s o ≡ some e → (k : ℕ) → k < 15 → fromPlace s o e < 32
       → getD (leavingOf s .store) (slot (fromPlace s o e) k) 0 ≡ getD (s .store) (slot (fromPlace s o e) (k + 1)) 0
   exit-slots o e l q k h g =
       let x = fromPlace s o e in
-      popped-becomes (λ (store : List ℕ). getD store (slot x (k + 1)) 0) (λ (store : List ℕ). getD store (slot x k) 0) (λ (n : ℕ). n) o e l q
+      popped-becomes (λ (store : List ℕ). getD store (slot x (k + 1)) 0) (λ (store : List ℕ). getD store (slot x k) 0)
+      (λ (n : ℕ). n) o e l q
       (λ store y w d. slot-keeps store y x (k + 1) d (omega arith)) (λ store y w d. slot-keeps store y x k d (omega arith))
       (λ store w. pop-slot store x g w k h)
 

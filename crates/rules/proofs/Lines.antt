@@ -3,7 +3,6 @@
 use mathlib.Core.Path.{_≡_, refl, sym, ap, ap₂, _∙_}
 use mathlib.Core.List.{List, [], _∷_, _++_, append-assoc, append-nil}
 use Prim.Native.Nat.{ℕ, zero, suc, _+_, _≤_, _<_}
-use native.Mathlib.Nat.{add-zero, zero-add, add-assoc}
 use native.Mathlib.Omega.{arith}
 use lib.ListN.{getD, drop}
 use Rattle.state.specs.Views.{places, flat, total}
@@ -59,14 +58,10 @@ module _ {A : Type 0} where
       ap₂ (λ (l : List (List A)) (x : List A). flat (l ++ (x ∷ []))) (places-ext n g f (λ k l. same k (omega arith))) (end n refl)
       ∙ flat-end (places n f) z
       ∙ ap (λ (l : List A). l ++ z)
-      (sym (append-nil (flat (places n f))) ∙ ap (λ (x : List A). flat (places n f) ++ x) (sym (empty n refl)) ∙ sym (flat-end (places n f) (f n)))
+      (sym (append-nil (flat (places n f))) ∙ ap (λ (x : List A). flat (places n f) ++ x) (sym (empty n refl))
+      ∙ sym (flat-end (places n f) (f n)))
 
 -- the same of credits
-pub total-end : (xs : List ℕ) (x : ℕ) → total (xs ++ (x ∷ [])) ≡ total xs + x
-unfolding total
-total-end [] x = add-zero x ∙ sym (zero-add x)
-total-end (y ∷ xs) x = ap (λ (n : ℕ). y + n) (total-end xs x) ∙ sym (add-assoc y (total xs) x)
-
 pub total-first : (n : ℕ) (f : ℕ → ℕ) → 1 ≤ n → total (places n f) ≡ f 0 + total (drop 1 (places n f))
 unfolding total
 total-first zero f h = absurd (omega arith)

@@ -31,11 +31,13 @@ nobody-not h by e f = let z : _≡_ {A = ℕ} 0 1 = cc in omega arith
 module _ (c : Config) (inputs : List InputVc) (outputs : List OutputVc) where
   -- what input VC (i, v) is bound to there is, and (i, v) holds it
   abbrev pub BoundTo : ℕ → ℕ → OutVc → Type 0
-  BoundTo i v b = (b .output < c .ports) × (b .vc < c .vcs) × (outputAt c outputs (b .output) (b .vc) .holder ≡ Held (record { input = i; vc = v }))
+  BoundTo i v b = (b .output < c .ports) × (b .vc < c .vcs) ×
+      (outputAt c outputs (b .output) (b .vc) .holder ≡ Held (record { input = i; vc = v }))
 
   -- who holds output VC (o, w) there is, and is bound to (o, w)
   abbrev pub HeldBy : ℕ → ℕ → InVc → Type 0
-  HeldBy o w h = (h .input < c .ports) × (h .vc < c .vcs) × (inputAt c inputs (h .input) (h .vc) .binding ≡ Bound (record { output = o; vc = w }))
+  HeldBy o w h = (h .input < c .ports) × (h .vc < c .vcs) × (inputAt c inputs (h .input) (h .vc) .binding
+      ≡ Bound (record { output = o; vc = w }))
 
   holder-is : (i v : ℕ) (h : Holder) → holderIs i v h ≡ true → h ≡ Held (record { input = i; vc = v })
   holder-is i v Nobody e = absurd (false≢true e)
@@ -62,8 +64,12 @@ module _ (c : Config) (inputs : List InputVc) (outputs : List OutputVc) where
   output-names : (o w : ℕ) (h : InVc) → outputNamed c inputs o w (Held h) ≡ true → HeldBy o w h
   output-names o w h e =
       let p = both _ (bindingIs o w (inputAt c inputs (h .input) (h .vc) .binding)) e in
-      let q = both (ltb (h .input) (c .ports)) (ltb (h .vc) (c .vcs)) (p .0) in
-      (ltb-true (h .input) (c .ports) (q .0), ltb-true (h .vc) (c .vcs) (q .1), binding-is o w (inputAt c inputs (h .input) (h .vc) .binding) (p .1))
+      let q = both (ltb (h .input) (c .ports)) (ltb (h .vc) (c .vcs)) (p .0) in (
+        ltb-true (h .input) (c .ports) (q .0),
+        ltb-true (h .vc) (c .vcs) (q .1),
+        binding-is o w
+            (inputAt c inputs (h .input) (h .vc) .binding) (p .1),
+      )
 
   names-input : (i v : ℕ) (b : Binding) → ((to : OutVc) → b ≡ Bound to → BoundTo i v to) → inputNamed c outputs i v b ≡ true
   names-input i v Unbound f = refl

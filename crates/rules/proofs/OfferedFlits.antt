@@ -56,10 +56,12 @@ module _ (c : Config) (legal : Legal c) (part : List ℕ) (bytes : AreBytes part
   pub offered-legal : legalFlit c (flitAt part i) ≡ true
   unfolding legalFlit
   offered-legal =
-      ap₂ (λ (k d : ℕ). leb head k && leb k single && cond (startsKind k) (ltb d (c .ports)) (eqb d 0) && ltb (flitAt part i .word) (2 ^ 38))
+      ap₂ (λ (k d : ℕ). leb head k && leb k single && cond (startsKind k) (ltb d (c .ports)) (eqb d 0)
+      && ltb (flitAt part i .word) (2 ^ 38))
       offered-kind offered-destination
       ∙ ap₂ _&&_
-      (ap₂ _&&_ (ap₂ _&&_ (le-leb head (kindAt part i) (offered .some)) (le-leb (kindAt part i) single (offered .kind))) (offered .destination))
+      (ap₂ _&&_ (ap₂ _&&_ (le-leb head (kindAt part i) (offered .some)) (le-leb (kindAt part i) single (offered .kind)))
+      (offered .destination))
       (lt-ltb (flitAt part i .word) (2 ^ 38) (word-range .1))
 
   -- a wire place gives back the flit and its VC
@@ -81,7 +83,8 @@ module _ (c : Config) (legal : Legal c) (part : List ℕ) (bytes : AreBytes part
   offered-place-legal =
       ap₂ _||_ (ne-eqb (onWire (vcAt part i) (flitAt part i)) 0 (place-some (vcAt part i)))
       (ap₂ _&&_ (ap (legalFlit c) (place-flit (vcAt part i)) ∙ offered-legal)
-      (lt-ltb (wireVc (onWire (vcAt part i) (flitAt part i))) (c .vcs) (let e = place-vc (vcAt part i) in let l = offered .vc in omega arith)))
+      (lt-ltb (wireVc (onWire (vcAt part i) (flitAt part i))) (c .vcs)
+      (let e = place-vc (vcAt part i) in let l = offered .vc in omega arith)))
 
   pub offered-on : (v : ℕ) → onVc v (onWire (vcAt part i) (flitAt part i)) ≡ cond (eqb (vcAt part i) v) (flitAt part i ∷ []) []
   offered-on v =

@@ -14,7 +14,7 @@ use Rattle.base.specs.declared.config.Config.{Config}
 use Rattle.base.specs.declared.flit.Flit.{Flit}
 use Rattle.state.specs.declared.InputVc.{InputVc}
 use Rattle.state.specs.Fresh.{freshInput}
-use Rattle.state.specs.Views.{channel, inputAt, wirePlace}
+use Rattle.state.specs.Views.{channelNumber, inputAt, wirePlace}
 use Rattle.rules.specs.Ports.{overPorts}
 use Rattle.rules.specs.Rows.{brings, kindAt, vcAt, flitAt}
 use Rattle.rules.specs.Intake.{Senders, offerTaken, newest, onWire, takenAt, offers}
@@ -47,7 +47,7 @@ module _ (c : Config) (part : List ℕ) (s : Senders) where
       go : (t : Senders) (i : ℕ) (b : Bool)
           → cond b
           (record {
-            inputs = set (t .inputs) (channel c i (vcAt part i)) (offerTaken (kindAt part i) (inputAt c (t .inputs) i (vcAt part i)));
+            inputs = set (t .inputs) (channelNumber c i (vcAt part i)) (offerTaken (kindAt part i) (inputAt c (t .inputs) i (vcAt part i)));
             wire = set (t .wire) (newest (c .forward) i) (onWire (vcAt part i) (flitAt part i));
           }) t .inputs
           ≡ changed (freshInput 0) (offerTaken (kindAt part i)) (onChannel c i (cond b (some (vcAt part i)) none)) (t .inputs)
@@ -61,7 +61,7 @@ module _ (c : Config) (part : List ℕ) (s : Senders) where
       go : (t : Senders) (i : ℕ) (b : Bool)
           → cond b
           (record {
-            inputs = set (t .inputs) (channel c i (vcAt part i)) (offerTaken (kindAt part i) (inputAt c (t .inputs) i (vcAt part i)));
+            inputs = set (t .inputs) (channelNumber c i (vcAt part i)) (offerTaken (kindAt part i) (inputAt c (t .inputs) i (vcAt part i)));
             wire = set (t .wire) (newest (c .forward) i) (onWire (vcAt part i) (flitAt part i));
           }) t .wire
           ≡ changed 0 (placed i) (cond b (some (newest (c .forward) i)) none) (t .wire)

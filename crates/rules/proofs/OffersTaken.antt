@@ -78,14 +78,16 @@ module _ (s : Router) (part : List ℕ) (ready : Ready s part) where
       go true q = offered-on c (sound-legal s (ready .sound)) part (ready .bytes) i (ready .legal i h q) v
       go false q = refl
 
-  pub older-stays : (k i v : ℕ) → i < c .ports → suc k < c .forward → onVc v (wirePlace (after .wire) k i) ≡ onVc v (wirePlace (s .wire) k i)
+  pub older-stays : (k i v : ℕ) → i < c .ports → suc k < c .forward → onVc v (wirePlace (after .wire) k i)
+      ≡ onVc v (wirePlace (s .wire) k i)
   older-stays k i v h l = let p = few in ap (onVc v) (stays k i (omega arith) (λ e g. absurd (omega arith)))
 
   -- what is brought joins the wire's end
   pub flits-enter : (i v : ℕ) → i < c .ports → flat (wireOf c (after .wire) i v) ≡ flat (wireOf c (s .wire) i v) ++ offered part i v
   unfolding wireOf
   flits-enter i v h =
-      flat-newest (c .forward) (λ (k : ℕ). onVc v (wirePlace (s .wire) k i)) (λ (k : ℕ). onVc v (wirePlace (after .wire) k i)) (offered part i v)
+      flat-newest (c .forward) (λ (k : ℕ). onVc v (wirePlace (s .wire) k i)) (λ (k : ℕ). onVc v (wirePlace (after .wire) k i))
+      (offered part i v)
       (sound-legal s (ready .sound) .forward .0)
       (λ k l. older-stays k i v h l) (λ k e. ap (onVc v) (ready .empty k i h e)) (λ k e. newest-holds k i v h e)
 
@@ -113,7 +115,7 @@ module _ (s : Router) (part : List ℕ) (ready : Ready s part) where
   credits =
       sum-credits c (after .inputs) (after .wire) (s .home) (λ i v h g.
       ap₂ (sum i v) (input-after i v h g) (flits-enter i v h)
-      ∙ go i v h (credits-sum c (s .inputs) (s .wire) (s .home) (ready .sound .credits) i v h g) (bringsOn part i v) refl)
+      ∙ go i v h (credits-sum c (s .inputs) (s .wire) (s .home) (ready .sound .flow .credits) i v h g) (bringsOn part i v) refl)
     where
       go : (i v : ℕ) → i < c .ports → sum i v (input i v) (wired i v) ≡ c .depth → (b : Bool) → bringsOn part i v ≡ b
           → sum i v (cond b (offerTaken (kindAt part i) (input i v)) (input i v)) (wired i v ++ cond b (flitAt part i ∷ []) []) ≡ c .depth
@@ -148,7 +150,7 @@ module _ (s : Router) (part : List ℕ) (ready : Ready s part) where
   wire-rest =
       at-rest (c .forward) (c .ports) (after .wire) (λ k i l h out.
       stays k i h (λ e g. unused k i e g out)
-      ∙ rest-at (c .forward) (c .ports) (s .wire) (ready .sound .wireRest) (sound-lengths s (ready .sound) .wire) k i h out)
+      ∙ rest-at (c .forward) (c .ports) (s .wire) (ready .sound .sizes .wireRest) (sound-lengths s (ready .sound) .wire) k i h out)
     where
       unused : (k i : ℕ) → suc k ≡ c .forward → i < c .ports → (c .forward ≤ k) ⊎ (c .ports ≤ i) → ⊥
       unused k i e g (inl p) = omega arith
@@ -156,14 +158,14 @@ module _ (s : Router) (part : List ℕ) (ready : Ready s part) where
 
   -- the flit may come next, so the reading goes on
   abbrev read : ℕ → ℕ → InputVc → List Flit → Bool
-  read i v x fs = reads (queueOf c (s .store) i v (x .queued)) fs (x .binding) (x .inside)
+  read i v x fs = reads (queueOf c (s .store) i v (x .queued)) fs (x .binding) (x .opened)
 
   packets : packetsRead c (after .inputs) (s .store) (after .wire) ≡ true
   unfolding packetsRead
   packets =
       all-channels c (λ i v. read i v (inputAt c (after .inputs) i v) (flat (wireOf c (after .wire) i v))) (λ i v h g.
       ap₂ (read i v) (input-after i v h g) (flits-enter i v h)
-      ∙ go i v h (channel-at c (λ i v. read i v (input i v) (wired i v)) (ready .sound .packets) i v h g) (bringsOn part i v) refl)
+      ∙ go i v h (channel-at c (λ i v. read i v (input i v) (wired i v)) (ready .sound .naming .packets) i v h g) (bringsOn part i v) refl)
     where
       go : (i v : ℕ) → i < c .ports → read i v (input i v) (wired i v) ≡ true → (b : Bool) → bringsOn part i v ≡ b
           → read i v (cond b (offerTaken (kindAt part i) (input i v)) (input i v)) (wired i v ++ cond b (flitAt part i ∷ []) []) ≡ true
@@ -171,9 +173,9 @@ module _ (s : Router) (part : List ℕ) (ready : Ready s part) where
           let on = on-vc i v e in
           let queue = queueOf c (s .store) i v (input i v .queued) in
           let kind = offered-kind c (sound-legal s (ready .sound)) part (ready .bytes) i (ready .legal i h (on .0)) in
-          let turn = ap₂ (λ (u k : ℕ). xor (input i u .inside) (startsKind k)) (sym (on .1)) kind ∙ ready .turn i h (on .0) in
+          let turn = ap₂ (λ (u k : ℕ). xor (input i u .opened) (startsKind k)) (sym (on .1)) kind ∙ ready .turn i h (on .0) in
           ap (λ (k : ℕ). reads queue (wired i v ++ (flitAt part i ∷ [])) (input i v .binding) (not (endsKind k))) (sym kind)
-          ∙ reads-on queue (wired i v) (input i v .binding) (input i v .inside) (flitAt part i) was turn
+          ∙ reads-on queue (wired i v) (input i v .binding) (input i v .opened) (flitAt part i) was turn
       go i v h was false e = ap (read i v (input i v)) (append-nil (wired i v)) ∙ was
 
   pub offersTaken-sound : Sound (offersTaken part s)
@@ -185,22 +187,35 @@ module _ (s : Router) (part : List ℕ) (ready : Ready s part) where
       let queued = offers-keep c part before queuedOf (λ k x. refl) in
       let bound = offers-keep c part before bindingOf (λ k x. refl) in
       record {
-        configuration = sound .configuration;
-        cycles = sound .cycles;
-        credits = credits;
-        wire = wire;
-        home = sound .home;
-        queues = queues-kept c (after .inputs) (s .inputs) (s .store) queued ∙ sound .queues;
-        outputCredits = sound .outputCredits;
-        names = names-kept c (after .inputs) (s .inputs) (s .outputs) (s .outputs) bound (λ x. refl) ∙ sound .names;
-        arbiters = sound .arbiters;
-        packets = packets;
-        channels =
-            unused-kept c (after .inputs) (s .inputs) (s .outputs) (s .outputs) (offers-past c part before (ready .legal)) (λ x h. refl)
-            ∙ sound .channels;
-        slots = slots-kept c (after .inputs) (s .inputs) (s .store) queued ∙ sound .slots;
-        wireRest = wire-rest;
-        homeRest = sound .homeRest;
-        others = sound .others;
-        shape = shape-is _ (m .0 ∙ l .inputs) (l .outputs) (l .store) (m .1 ∙ l .wire) (l .home);
+        sizes =
+            record {
+              configuration = sound .sizes .configuration;
+              cycles = sound .sizes .cycles;
+              wire = wire;
+              home = sound .sizes .home;
+              wireRest = wire-rest;
+              homeRest = sound .sizes .homeRest;
+              shape = shape-is _ (m .0 ∙ l .inputs) (l .outputs) (l .store) (m .1 ∙ l .wire) (l .home);
+            };
+        flow =
+            record {
+              credits = credits;
+              queues = queues-kept c (after .inputs) (s .inputs) (s .store) queued ∙ sound .flow .queues;
+              outputCredits = sound .flow .outputCredits;
+              channels =
+                  unused-kept c (after .inputs) (s .inputs) (s .outputs) (s .outputs) (offers-past c part before (ready .legal))
+                  (λ x h. refl)
+                  ∙ sound .flow .channels;
+              slots = slots-kept c (after .inputs) (s .inputs) (s .store) queued ∙ sound .flow .slots;
+            };
+        naming =
+            record {
+              names = names-kept c (after .inputs) (s .inputs) (s .outputs) (s .outputs) bound (λ x. refl) ∙ sound .naming .names;
+              packets = packets;
+            };
+        arbitration =
+            record {
+              arbiters = sound .arbitration .arbiters;
+              others = sound .arbitration .others;
+            };
       }

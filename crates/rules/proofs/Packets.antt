@@ -7,7 +7,7 @@ use mathlib.Core.Option.{some, none}
 use lib.Dec.{eqb}
 use Rattle.base.specs.declared.flit.Flit.{Flit}
 use Rattle.base.specs.Flit.{kindOf, destinationOf, startsKind, endsKind}
-use Rattle.base.proofs.Search.{both}
+use Rattle.base.proofs.Search.{both, beq-same}
 use Rattle.state.specs.declared.Binding.{Binding}
 use Rattle.state.specs.declared.Binding.the-variants.{Unbound, Bound}
 use Rattle.state.specs.Sound.{all, reading, endsAs, startsInside, reads}
@@ -38,27 +38,24 @@ pub reads-lands : (queue more rest : List Flit) (b : Binding) (inside : Bool) �
     → reads (queue ++ more) rest b inside ≡ true
 unfolding reads
 reads-lands queue more rest b inside e =
-    ap₂ (λ (start : Bool) (fs : List Flit). endsAs inside (reading start fs)) (start-stays queue more rest b inside e) (append-assoc queue more rest)
+    ap₂ (λ (start : Bool) (fs : List Flit). endsAs inside (reading start fs)) (start-stays queue more rest b inside e)
+    (append-assoc queue more rest)
     ∙ e
 
 same-beq : (a : Bool) → Bool·beq a a ≡ true
 same-beq true = refl
 same-beq false = refl
 
-beq-same : (a b : Bool) → Bool·beq a b ≡ true → a ≡ b
-beq-same true true e = refl
-beq-same true false e = absurd (false≢true e)
-beq-same false true e = absurd (false≢true e)
-beq-same false false e = refl
-
 -- a reading goes on with one flit more
-reading-on : (start inside : Bool) (fs : List Flit) (f : Flit) → endsAs inside (reading start fs) ≡ true → xor inside (startsKind (kindOf f)) ≡ true
+reading-on : (start inside : Bool) (fs : List Flit) (f : Flit) → endsAs inside (reading start fs) ≡ true
+    → xor inside (startsKind (kindOf f)) ≡ true
     → reading start (fs ++ (f ∷ [])) ≡ some (not (endsKind (kindOf f)))
 unfolding reading
 reading-on start inside [] f e turn =
     ap (λ (b : Bool). cond (xor b (startsKind (kindOf f))) (some (not (endsKind (kindOf f)))) none) (beq-same start inside e)
     ∙ ap (λ (b : Bool). cond b (some (not (endsKind (kindOf f)))) none) turn
-reading-on start inside (g ∷ fs) f e turn = go (xor start (startsKind (kindOf g))) e (λ q. reading-on (not (endsKind (kindOf g))) inside fs f q turn)
+reading-on start inside (g ∷ fs) f e turn = go (xor start (startsKind (kindOf g))) e
+    (λ q. reading-on (not (endsKind (kindOf g))) inside fs f q turn)
   where
     go : (b : Bool) → endsAs inside (cond b (reading (not (endsKind (kindOf g))) fs) none) ≡ true
         → (endsAs inside (reading (not (endsKind (kindOf g))) fs) ≡ true

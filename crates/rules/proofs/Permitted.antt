@@ -12,7 +12,7 @@ use borrow.Author.Tests.{not-true, not-false, lt-ltb, ltb-true, leb-true, eqb-fa
 use Rattle.base.specs.declared.config.Config.{Config}
 use Rattle.base.specs.Flit.{startsKind, single}
 use Rattle.base.proofs.Configurations.{Legal}
-use Rattle.base.proofs.Search.{both, neither}
+use Rattle.base.proofs.Search.{both, neither, some-number}
 use Rattle.state.specs.declared.InputVc.{InputVc}
 use Rattle.state.specs.declared.OutputVc.{OutputVc}
 use Rattle.state.specs.declared.Router.{Router}
@@ -42,7 +42,7 @@ pub record CreditFits (c : Config) (outputs : List OutputVc) (part : List ℕ) (
 
 -- the flit may come next at its sender VC
 abbrev pub InTurn : Config → List InputVc → List ℕ → ℕ → Type 0
-InTurn c inputs part i = xor (inputAt c inputs i (vcAt part i) .inside) (startsKind (kindAt part i)) ≡ true
+InTurn c inputs part i = xor (inputAt c inputs i (vcAt part i) .opened) (startsKind (kindAt part i)) ≡ true
 
 -- its sender VC has a credit for it
 abbrev pub PaidFor : Config → List InputVc → List ℕ → ℕ → Type 0
@@ -53,7 +53,8 @@ pub record Permitted (s : Router) (part : List ℕ) : Type 0 where
   pub credits : (o : ℕ) → o < s .config .ports → CreditFits (s .config) (s .outputs) part o
   pub offers : (i : ℕ) → i < s .config .ports → brings part i ≡ true → Offered (s .config) part i
   pub turns : (i : ℕ) → i < s .config .ports → brings part i ≡ true → InTurn (s .config) (s .inputs) part i
-  pub paid : (i : ℕ) → i < s .config .ports → brings part i ≡ true → PaidFor (s .config) (sendersPaid (s .config) (s .home) (s .inputs)) part i
+  pub paid : (i : ℕ) → i < s .config .ports → brings part i ≡ true
+      → PaidFor (s .config) (sendersPaid (s .config) (s .home) (s .inputs)) part i
 
 module _ (s : Router) (part : List ℕ) where
   abbrev c : Config
@@ -74,15 +75,11 @@ module _ (s : Router) (part : List ℕ) where
       let r = both _ (cond (startsKind (kindAt part i)) (ltb (destinationAt part i) (c .ports)) (eqb (destinationAt part i) 0)) q in
       let t = both (leb (kindAt part i) single) (ltb (vcAt part i) (c .vcs)) (r .0) in
       record {
-        some = pos (kindAt part i) (eqb-false (kindAt part i) 0 (not-true (eqb (kindAt part i) 0) b));
+        some = some-number (kindAt part i) (eqb-false (kindAt part i) 0 (not-true (eqb (kindAt part i) 0) b));
         kind = leb-true (kindAt part i) single (t .0);
         vc = ltb-true (vcAt part i) (c .vcs) (t .1);
         destination = r .1;
       }
-    where
-      pos : (n : ℕ) → (n ≡ 0 → ⊥) → 1 ≤ n
-      pos zero f = absurd (f refl)
-      pos (suc n) f = omega arith
 
   row-credit : (o : ℕ) → rowLegal c part o ≡ true → creditPastRoom c (s .outputs) part o ≡ false → CreditFits c (s .outputs) part o
   unfolding rowLegal creditPastRoom
@@ -104,8 +101,8 @@ module _ (s : Router) (part : List ℕ) where
       → InTurn c (s .inputs) part i
   unfolding outOfTurn xor
   turn-comes i e b =
-      go (startsKind (kindAt part i)) (inputAt c (s .inputs) i (vcAt part i) .inside)
-      (second-fails (brings part i) (Bool·beq (startsKind (kindAt part i)) (inputAt c (s .inputs) i (vcAt part i) .inside)) e b)
+      go (startsKind (kindAt part i)) (inputAt c (s .inputs) i (vcAt part i) .opened)
+      (second-fails (brings part i) (Bool·beq (startsKind (kindAt part i)) (inputAt c (s .inputs) i (vcAt part i) .opened)) e b)
     where
       go : (starts inside : Bool) → Bool·beq starts inside ≡ false → xor inside starts ≡ true
       go true true q = sym q

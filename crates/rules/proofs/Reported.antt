@@ -33,7 +33,8 @@ module _ (c : Config) (home : List ℕ) where
   unfolding reported
   reported-at i h few =
       let l = length-replicate 8 (reaching none) in
-      turns-at (reaching none) here says (c .ports) (replicate 8 (reaching none)) i i h (omega arith) (λ j k n e. n (Option·some-injective j i e))
+      turns-at (reaching none) here says (c .ports) (replicate 8 (reaching none)) i i h (omega arith)
+      (λ j k n e. n (Option·some-injective j i e))
       ∙ ap (λ b. cond b (reaching (named (homePlace home 0 i))) (getD (replicate 8 (reaching none)) i (reaching none))) (eq-eqb i i refl)
 
   -- any other reports none

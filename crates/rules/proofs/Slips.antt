@@ -23,7 +23,7 @@ use Rattle.state.specs.declared.Router.{Router}
 use Rattle.state.specs.Fresh.{freshInput, freshOutput}
 use Rattle.state.specs.Sound.{Sound, frontIsFor}
 use Rattle.store.specs.Store.{firstSlot}
-use Rattle.state.specs.Views.{channel, inputAt, outputAt, homePlace, queueAt, queueOf}
+use Rattle.state.specs.Views.{channelNumber, inputAt, outputAt, homePlace, queueAt, queueOf}
 use Rattle.trace.specs.Bytes.{AreBytes}
 use Rattle.rules.specs.declared.Verdict.the-variants.{Accepted}
 use Rattle.rules.specs.declared.Stepped.{Stepped}
@@ -130,26 +130,28 @@ module _ (s : Router) (part : List ℕ) (bytes : AreBytes part) (accepted : step
   -- "An output VC freed by the tail and given out in the same cycle": what output o grants in a cycle was free before it
   pub granted-was-free : (o : ℕ) (g : Grant) → grantOf (takenIn part s) o ≡ some g → outputAt c (s .outputs) o (g .vc) .holder ≡ Nobody
   unfolding takenIn offersTaken landed creditsReturned creditsReached
-  granted-was-free o g q = sym (holder-before (channel c o (g .vc))) ∙ grant-is (takenIn part s) o g q .free
+  granted-was-free o g q = sym (holder-before (channelNumber c o (g .vc))) ∙ grant-is (takenIn part s) o g q .free
 
   -- so an output VC that is held after a cycle was held by the same input VC before it, or free
   pub given-out-was-free : (o w : ℕ) (h : InVc) → outputAt c (stepOf s part .router .outputs) o w .holder ≡ Held h
       → (outputAt c (s .outputs) o w .holder ≡ Held h) ⊎ (outputAt c (s .outputs) o w .holder ≡ Nobody)
   unfolding routerAfter sentOut allocated takenIn offersTaken landed creditsReturned creditsReached
-  given-out-was-free o w h q = go (holder-after mid sound (channel c o w)) (given-or-not (takenIn part s) (channel c o w))
+  given-out-was-free o w h q = go (holder-after mid sound (channelNumber c o w)) (given-or-not (takenIn part s) (channelNumber c o w))
     where
       later : outputAt c (leavingOf mid .outputs) o w .holder ≡ Held h
       later = sym (seen (λ (x : Stepped). outputAt c (x .router .outputs) o w .holder)) ∙ q
 
-      go : Holds mid sound (channel c o w)
-          → Actor (grantOf (takenIn part s)) (giving (takenIn part s)) (c .ports) (channel c o w)
-          ⊎ Untouched (grantOf (takenIn part s)) (giving (takenIn part s)) (c .ports) (channel c o w)
+      go : Holds mid sound (channelNumber c o w)
+          → Actor (grantOf (takenIn part s)) (giving (takenIn part s)) (c .ports) (channelNumber c o w)
+          ⊎ Untouched (grantOf (takenIn part s)) (giving (takenIn part s)) (c .ports) (channelNumber c o w)
           → (outputAt c (s .outputs) o w .holder ≡ Held h) ⊎ (outputAt c (s .outputs) o w .holder ≡ Nobody)
       go (frees a e f) m = absurd (nobody-not (outputAt c (leavingOf mid .outputs) o w .holder) h f later)
       go (stays-held e f) (inl a) =
-          inr (ap (λ (x : ℕ). getD (s .outputs) x (freshOutput 0) .holder) (sym (a .there)) ∙ granted-was-free (a .port) (a .deed) (a .acts))
+          inr (ap (λ (x : ℕ). getD (s .outputs) x (freshOutput 0) .holder) (sym (a .there))
+          ∙ granted-was-free (a .port) (a .deed) (a .acts))
       go (stays-held e f) (inr off) =
-          inl (sym (holder-before (channel c o w)) ∙ sym (ap (λ (y : OutputVc). y .holder) (ungiven-stays (takenIn part s) (channel c o w) off))
+          inl (sym (holder-before (channelNumber c o w)) ∙ sym (ap (λ (y : OutputVc). y .holder)
+          (ungiven-stays (takenIn part s) (channelNumber c o w) off))
           ∙ sym f ∙ later)
 
   -- and what T or S leaves by is free after it
@@ -160,10 +162,11 @@ module _ (s : Router) (part : List ℕ) (bytes : AreBytes part) (accepted : step
       let a = reported-exits s part bytes accepted o d l in
       let below = exit-named mid sound o (a .0) (a .1) .0 in
       let over : ends (a .0) ≡ true = ap (λ (x : Departure). endsKind (x .kind)) (a .2) ∙ e in
-      let actor : Passes mid sound (channel c o (a .0 .by)) = record { port = o; deed = a .0; below = below; acts = a .1; there = refl } in
+      let actor : Passes mid sound (channelNumber c o (a .0 .by)) = record
+      { port = o; deed = a .0; below = below; acts = a .1; there = refl } in
       seen (λ (x : Stepped). outputAt c (x .router .outputs) o (d .«out_vc») .holder)
       ∙ ap (λ (x : Departure). outputAt c (leavingOf mid .outputs) o (x .«out_vc») .holder) (sym (a .2))
-      ∙ go actor over (holder-after mid sound (channel c o (a .0 .by)))
+      ∙ go actor over (holder-after mid sound (channelNumber c o (a .0 .by)))
     where
       go : {x : ℕ} (a : Passes mid sound x) → ends (a .deed) ≡ true → Holds mid sound x
           → getD (leavingOf mid .outputs) x (freshOutput 0) .holder ≡ Nobody
@@ -179,31 +182,33 @@ module _ (s : Router) (part : List ℕ) (bytes : AreBytes part) (accepted : step
       let a = reported-exits s part bytes accepted o d l in
       ap (λ (x : Departure). inputAt c (s .inputs) (x .input) (x .vc) .binding) (sym (a .2))
       ∙ go (a .0) (a .1) (ap (λ (x : Departure). startsKind (x .kind)) (a .2) ∙ e)
-      (granted-or-not (takenIn part s) (channel c (a .0 .input) (a .0 .vc)))
+      (granted-or-not (takenIn part s) (channelNumber c (a .0 .input) (a .0 .vc)))
       ∙ ap (λ (x : Departure). Bound (record { output = o; vc = x .«out_vc» })) (a .2)
     where
       go : (x : Exit) → exit mid o ≡ some x → startsKind (kindOf (x .flit)) ≡ false
-          → Actor (grantOf (takenIn part s)) (asking (takenIn part s)) (c .ports) (channel c (x .input) (x .vc))
-          ⊎ Untouched (grantOf (takenIn part s)) (asking (takenIn part s)) (c .ports) (channel c (x .input) (x .vc))
+          → Actor (grantOf (takenIn part s)) (asking (takenIn part s)) (c .ports) (channelNumber c (x .input) (x .vc))
+          ⊎ Untouched (grantOf (takenIn part s)) (asking (takenIn part s)) (c .ports) (channelNumber c (x .input) (x .vc))
           → inputAt c (s .inputs) (x .input) (x .vc) .binding ≡ Bound (record { output = o; vc = x .by })
       go x q starts (inl b) =
           let t = takenIn part s in
           let w = exit-is mid o x q .wins in
           let below = exit-named mid sound o x q .0 in
-          let own : Leaves mid sound (channel c (x .input) (x .vc)) = record { port = o; deed = x; below = below; acts = q; there = refl } in
+          let own : Leaves mid sound (channelNumber c (x .input) (x .vc)) = record
+          { port = o; deed = x; below = below; acts = q; there = refl } in
           let queue = queueOf c (t .store) (x .input) (x .vc) (inputAt c (t .inputs) (x .input) (x .vc) .queued) in
           let asked : frontIsFor (b .port) queue ≡ true =
-          ap (λ (n : ℕ). frontIsFor (b .port) (queueAt (t .store) (firstSlot n) (getD (t .inputs) n (freshInput 0) .queued))) (sym (b .there))
+          ap (λ (n : ℕ). frontIsFor (b .port) (queueAt (t .store) (firstSlot n) (getD (t .inputs) n (freshInput 0) .queued)))
+          (sym (b .there))
           ∙ grant-is t (b .port) (b .deed) (b .acts) .front in
           let same = ap (λ (y : InputVc). queueOf c (t .store) (x .input) (x .vc) (y .queued))
-          (bound-at t (taken-sound s part bytes accepted) (channel c (x .input) (x .vc)) b) in
+          (bound-at t (taken-sound s part bytes accepted) (channelNumber c (x .input) (x .vc)) b) in
           let front = exit-front mid sound (x .input) (x .vc) (w .input-below) (w .vc-below) own in
           absurd (true≢false (sym (both (startsKind (kindOf (x .flit))) (eqb (destinationOf (x .flit)) (b .port))
           (ap (frontIsFor (b .port)) (sym front ∙ same) ∙ asked) .0)
           ∙ starts))
       go x q starts (inr off) =
-          sym (binding-before (channel c (x .input) (x .vc)))
-          ∙ sym (ap (λ (y : InputVc). y .binding) (ungranted-stays (takenIn part s) (channel c (x .input)
+          sym (binding-before (channelNumber c (x .input) (x .vc)))
+          ∙ sym (ap (λ (y : InputVc). y .binding) (ungranted-stays (takenIn part s) (channelNumber c (x .input)
           (x .vc)) off))
           ∙ exit-is mid o x q .bound
 

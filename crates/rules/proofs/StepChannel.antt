@@ -17,7 +17,7 @@ use Rattle.state.specs.declared.OutputVc.{OutputVc}
 use Rattle.state.specs.declared.Router.{Router}
 use Rattle.state.specs.Channels.{ChannelView, boundTo, channelView}
 use Rattle.state.specs.Sound.{Sound}
-use Rattle.state.specs.Views.{channel, inputAt, outputAt, queueOf, homeOf, toVc}
+use Rattle.state.specs.Views.{channelNumber, inputAt, outputAt, queueOf, homeOf, toVc}
 use Rattle.trace.specs.Bytes.{AreBytes}
 use Rattle.rules.specs.declared.Verdict.the-variants.{Accepted}
 use Rattle.rules.specs.declared.Stepped.{Stepped}
@@ -26,13 +26,15 @@ use Rattle.rules.specs.Allocation.{allocated}
 use Rattle.rules.specs.Intake.{creditsReached, creditsReturned, landed, offersTaken}
 use Rattle.rules.specs.Rows.{kindAt, creditAt}
 use Rattle.rules.specs.Step.{takenIn, sentOut, routerAfter, stepOf}
-use Rattle.rules.proofs.Accepted.{readied, accepted-none, accepted-before, accepted-steps, taken-sound, readied-sound, readied-newest}
+use Rattle.rules.proofs.Accepted.{readied, accepted-none, accepted-before, accepted-steps, taken-sound, readied-sound}
+use Rattle.rules.proofs.Accepted.{readied-newest}
 use Rattle.rules.proofs.AllocatedSound.{inputs-alike, outputs-alike}
 use Rattle.rules.proofs.Choices.{grantTo, leavesFrom, passesBy}
 use Rattle.rules.proofs.Facts.{sound-legal}
 use Rattle.rules.proofs.IntakeChannel.{taken-after, wire-out}
 use Rattle.rules.proofs.IntakeViews.{home-after, wire-after, queue-after, inside-after, binding-after, output-credit-after}
-use Rattle.rules.proofs.LeavingViews.{nowBound, one, frontEnds, bound-now, queue-left, bound-left, input-left, home-left, output-credit-left}
+use Rattle.rules.proofs.LeavingViews.{nowBound, one, frontEnds, bound-now, queue-left, bound-left, input-left, home-left}
+use Rattle.rules.proofs.LeavingViews.{output-credit-left}
 use Rattle.rules.proofs.Offers.{bringsOn, offered}
 
 -- a channel after a cycle that offers such flits on it, grants it so, and lets its front leave or not
@@ -63,10 +65,10 @@ module _ (s : Router) (part : List ℕ) (bytes : AreBytes part) (accepted : step
 
   module _ (i v : ℕ) (port : i < c .ports) (vc : v < c .vcs) where
     abbrev x : ℕ
-    x = channel c i v
+    x = channelNumber c i v
 
     -- phase 5 changes the binding alone
-    alike : {B : Type 0} (see : InputVc → B) → ((o w : ℕ) (y : InputVc) → see (allocation.boundTo o w y) ≡ see y)
+    alike : {B : Type 0} (see : InputVc → B) → ((o w : ℕ) (y : InputVc) → see (allocation.bindTo o w y) ≡ see y)
         → see (inputAt c (mid .inputs) i v) ≡ see (inputAt c (came .inputs) i v)
     alike see same = inputs-alike came (taken-sound s part bytes accepted) see same x
 
@@ -102,7 +104,7 @@ module _ (s : Router) (part : List ℕ) (bytes : AreBytes part) (accepted : step
         let home = home-left mid sound i v port vc (readied-newest s part bytes accepted) (drop 1 (homeOf c (s .home) i v))
         (home-after s part before free bytes i v port) in
         let opened =
-        input-left mid sound i v port vc (λ (y : InputVc). y .inside) (λ b q y. refl) ∙ alike (λ (y : InputVc). y .inside) (λ o w y. refl)
+        input-left mid sound i v port vc (λ (y : InputVc). y .opened) (λ b q y. refl) ∙ alike (λ (y : InputVc). y .opened) (λ o w y. refl)
         ∙ inside-after s part before free bytes i v port vc in
         let bound =
         bound-left mid sound i v port vc
@@ -113,11 +115,11 @@ module _ (s : Router) (part : List ℕ) (bytes : AreBytes part) (accepted : step
   -- an output VC's credit: one more where a credit comes from downstream, one less where a flit leaves by it
   pub output-credit-steps : (o w : ℕ) → o < c .ports → w < c .vcs
       → outputAt c (stepOf s part .router .outputs) o w .credit
-      ≡ outputAt c (s .outputs) o w .credit + toVc w (creditAt part o) - one (passesBy mid (channel c o w))
+      ≡ outputAt c (s .outputs) o w .credit + toVc w (creditAt part o) - one (passesBy mid (channelNumber c o w))
   unfolding routerAfter sentOut allocated takenIn offersTaken landed creditsReturned creditsReached
   output-credit-steps o w port vc =
       ap (λ (y : Stepped). outputAt c (y .router .outputs) o w .credit) (accepted-steps s part bytes accepted)
       ∙ output-credit-left mid (readied-sound s part bytes accepted) o w
-      ∙ ap (λ (n : ℕ). n - one (passesBy mid (channel c o w)))
-      (outputs-alike came (taken-sound s part bytes accepted) (λ (y : OutputVc). y .credit) (λ i v y. refl) (channel c o w)
+      ∙ ap (λ (n : ℕ). n - one (passesBy mid (channelNumber c o w)))
+      (outputs-alike came (taken-sound s part bytes accepted) (λ (y : OutputVc). y .credit) (λ i v y. refl) (channelNumber c o w)
       ∙ output-credit-after s part before (accepted-none s part bytes accepted) bytes o w port vc)

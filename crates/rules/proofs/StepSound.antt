@@ -19,7 +19,8 @@ use Rattle.rules.proofs.SentSound.{sentOut-sound}
 module _ (s : Router) (part : List ℕ) (bytes : AreBytes part) (accepted : stepOf s part .verdict ≡ Accepted) where
   after-sound : Sound (routerAfter part s)
   unfolding routerAfter allocated takenIn offersTaken landed creditsReturned creditsReached
-  after-sound = sentOut-sound (readied part s) (readied-sound s part bytes accepted) (none-early s part (accepted-none s part bytes accepted))
+  after-sound = sentOut-sound (readied part s) (readied-sound s part bytes accepted)
+      (none-early s part (accepted-none s part bytes accepted))
       (readied-newest s part bytes accepted)
 
   pub accepted-after : Sound (stepOf s part .router)

@@ -15,7 +15,7 @@ use lib.ListN.{length, getD, set}
 use lib.Seq.{getD-set-same, getD-set-other, set-out}
 use borrow.Author.Tests.{eqb-true, eqb-false, ltb-true, ltb-false}
 use Rattle.base.specs.declared.config.Config.{Config}
-use Rattle.state.specs.Views.{channel}
+use Rattle.state.specs.Views.{channelNumber}
 use Rattle.rules.specs.Ports.{overPorts}
 use Rattle.rules.proofs.Channels.{channel-below, channel-apart, channel-same}
 use Rattle.rules.proofs.Folds.{changed, changedAt, turns, turns-length, turns-at, turns-elsewhere, over-keeps}
@@ -48,7 +48,8 @@ module _ {A B : Type 0} where
   unfolding overPorts
   over-once Keeps see zero f s i after l keeps h others own = absurd (omega arith)
   over-once Keeps see (suc n) f s i after l keeps h others own =
-      go (eqb n i) refl (λ k. over-once Keeps see n f s i after k (λ t j m. keeps t j (omega arith)) h (λ t j m. others t j (omega arith)) own)
+      go (eqb n i) refl (λ k. over-once Keeps see n f s i after k (λ t j m. keeps t j (omega arith)) h
+      (λ t j m. others t j (omega arith)) own)
     where
       kept : Keeps (overPorts n f s)
       kept = over-keeps Keeps n f s (λ t j m. keeps t j (omega arith)) h
@@ -87,7 +88,7 @@ module _ {A B : Type 0} (d : A) (see : A → B) where
 -- the number of the VC that a port names, if it names one
 abbrev pub onChannel : Config → ℕ → Option ℕ → Option ℕ
 onChannel c i none = none
-onChannel c i (some v) = some (channel c i v)
+onChannel c i (some v) = some (channelNumber c i v)
 
 -- a list with an element for each channel, of which port i has changed the one of the VC that it names
 abbrev pub byPort : {A : Type 0} → Config → A → (ℕ → Option ℕ) → (ℕ → A → A) → List A → ℕ → List A
@@ -96,37 +97,41 @@ byPort c d vc g = turns d (λ (i : ℕ). onChannel c i (vc i)) g
 pub record Made {A : Type 0} (c : Config) (d : A) (vc : ℕ → Option ℕ) (g : ℕ → A → A) (before later : List A) : Type 0 where
   pub is : later ≡ overPorts (c .ports) (byPort c d vc g) before
 
-module _ {A : Type 0} {c : Config} {d : A} {vc : ℕ → Option ℕ} {g : ℕ → A → A} {before later : List A} (made : Made c d vc g before later) where
+module _ {A : Type 0} {c : Config} {d : A} {vc : ℕ → Option ℕ} {g : ℕ → A → A} {before later : List A}
+    (made : Made c d vc g before later) where
   pub made-length : length later ≡ length before
   made-length = ap length (made .is) ∙ turns-length d (λ (i : ℕ). onChannel c i (vc i)) g (c .ports) before
 
   -- what each change keeps of an element is kept of all
-  pub made-keeps : {B : Type 0} (see : A → B) → ((i : ℕ) (a : A) → see (g i a) ≡ see a) → (y : ℕ) → see (getD later y d) ≡ see (getD before y d)
+  pub made-keeps : {B : Type 0} (see : A → B) → ((i : ℕ) (a : A) → see (g i a) ≡ see a) → (y : ℕ) → see (getD later y d)
+      ≡ see (getD before y d)
   made-keeps see same y =
       ap (λ (l : List A). see (getD l y d)) (made .is)
       ∙ turns-keep d see (λ (i : ℕ). onChannel c i (vc i)) g (c .ports) before y same
 
   module _ (there : (i v : ℕ) → i < c .ports → vc i ≡ some v → v < c .vcs) where
-    elsewhere : (y j : ℕ) → j < c .ports → ((u : ℕ) → u < c .vcs → channel c j u ≢ y) → onChannel c j (vc j) ≢ some y
+    elsewhere : (y j : ℕ) → j < c .ports → ((u : ℕ) → u < c .vcs → channelNumber c j u ≢ y) → onChannel c j (vc j) ≢ some y
     elsewhere y j l n e = go (vc j) refl e
       where
         go : (o : Option ℕ) → vc j ≡ o → onChannel c j o ≡ some y → ⊥
         go none q r = Option·none-ne-some y r
-        go (some u) q r = n u (there j u l q) (Option·some-injective (channel c j u) y r)
+        go (some u) q r = n u (there j u l q) (Option·some-injective (channelNumber c j u) y r)
 
     -- VC v of port i is changed by port i alone, if it names v
     pub made-at : (i v : ℕ) → i < c .ports → v < c .vcs → c .ports * c .vcs ≤ length before
-        → getD later (channel c i v) d ≡ changedAt v (g i) (vc i) (getD before (channel c i v) d)
+        → getD later (channelNumber c i v) d ≡ changedAt v (g i) (vc i) (getD before (channelNumber c i v) d)
     made-at i v h k room =
-        ap (λ (l : List A). getD l (channel c i v) d) (made .is)
-        ∙ turns-at d (λ (i : ℕ). onChannel c i (vc i)) g (c .ports) before (channel c i v) i h (lt-of-lt-of-le (channel-below c i v h k) room)
-        (λ j l n. elsewhere (channel c i v) j l (λ u m e. n (channel-apart c j u i v m k e .0)))
+        ap (λ (l : List A). getD l (channelNumber c i v) d) (made .is)
+        ∙ turns-at d (λ (i : ℕ). onChannel c i (vc i)) g (c .ports) before (channelNumber c i v) i h
+        (lt-of-lt-of-le (channel-below c i v h k) room)
+        (λ j l n. elsewhere (channelNumber c i v) j l (λ u m e. n (channel-apart c j u i v m k e .0)))
         ∙ go (vc i)
       where
-        go : (o : Option ℕ) → changedAt (channel c i v) (g i) (onChannel c i o) (getD before (channel c i v) d)
-            ≡ changedAt v (g i) o (getD before (channel c i v) d)
+        go : (o : Option ℕ) → changedAt (channelNumber c i v) (g i) (onChannel c i o) (getD before (channelNumber c i v) d)
+            ≡ changedAt v (g i) o (getD before (channelNumber c i v) d)
         go none = refl
-        go (some u) = ap (λ (b : Bool). cond b (g i (getD before (channel c i v) d)) (getD before (channel c i v) d)) (channel-same c i v u)
+        go (some u) = ap (λ (b : Bool). cond b (g i (getD before (channelNumber c i v) d)) (getD before (channelNumber c i v) d))
+            (channel-same c i v u)
 
     -- what is no channel's stays
     pub made-past : (y : ℕ) → c .ports * c .vcs ≤ y → getD later y d ≡ getD before y d

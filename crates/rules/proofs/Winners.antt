@@ -23,7 +23,8 @@ pub pick-ready : (s : Router) (i v : ℕ) → inputPick s i ≡ some v
     → (v < s .config .vcs) × (ready (s .config) (s .inputs) (s .outputs) i v ≡ true)
 unfolding inputPick
 pick-ready s i v e =
-    winner-asks 8 (s .config .arbiter) (s .config .vcs) (ready (s .config) (s .inputs) (s .outputs) i) (ofNarrow (inputArbiter (s .arbiters) i)) v e
+    winner-asks 8 (s .config .arbiter) (s .config .vcs) (ready (s .config) (s .inputs) (s .outputs) i)
+    (ofNarrow (inputArbiter (s .arbiters) i)) v e
 
 -- the winner x of output o: its input's pick, bound to a VC of o that has credit, and with a flit to send
 pub record Wins (s : Router) (o : ℕ) (x : InVc) : Type 0 where
@@ -42,7 +43,8 @@ for-is o Unbound e = absurd (false≢true e)
 for-is o (Bound to) e = (to, refl, eqb-true (to .output) o e)
 
 -- the pick of the row that an output picks
-winner-from : (pick : ℕ → Option ℕ) (row : Option ℕ) (x : InVc) → vcOf pick row ≡ some x → (row ≡ some (x .input)) × (pick (x .input) ≡ some (x .vc))
+winner-from : (pick : ℕ → Option ℕ) (row : Option ℕ) (x : InVc) → vcOf pick row ≡ some x → (row ≡ some (x .input))
+    × (pick (x .input) ≡ some (x .vc))
 winner-from pick none x e = absurd (Option·none-ne-some x e)
 winner-from pick (some i) x e = go (pick i) refl e
   where
@@ -76,7 +78,8 @@ module _ (s : Router) (o : ℕ) (x : InVc) (won : winner s o ≡ some x) where
       let r = both (hasCredit c (s .outputs) (inputAt c (s .inputs) (x .input) (x .vc) .binding))
       (not (eqb (inputAt c (s .inputs) (x .input) (x .vc) .queued) 0)) (p .1) in
       let paid : not (eqb (outputAt c (s .outputs) o (b .0 .vc) .credit) 0) ≡ true =
-      ap (λ (n : ℕ). not (eqb (outputAt c (s .outputs) n (b .0 .vc) .credit) 0)) (sym (b .2)) ∙ ap (hasCredit c (s .outputs)) (sym (b .1)) ∙ r .0 in
+      ap (λ (n : ℕ). not (eqb (outputAt c (s .outputs) n (b .0 .vc) .credit) 0)) (sym (b .2))
+      ∙ ap (hasCredit c (s .outputs)) (sym (b .1)) ∙ r .0 in
       record {
         input-below = winner-bound-here .0;
         picks = winner-picked .1;
@@ -89,7 +92,8 @@ module _ (s : Router) (o : ℕ) (x : InVc) (won : winner s o ≡ some x) where
       }
 
 -- two outputs with winners of the same input are the same output: an input has one pick, and that is bound to one output
-pub winners-differ : (s : Router) (o p : ℕ) (x y : InVc) → winner s o ≡ some x → winner s p ≡ some y → x .input ≡ y .input → (o ≡ p) × (x .vc ≡ y .vc)
+pub winners-differ : (s : Router) (o p : ℕ) (x y : InVc) → winner s o ≡ some x → winner s p ≡ some y → x .input ≡ y .input → (o ≡ p)
+    × (x .vc ≡ y .vc)
 winners-differ s o p x y e f same =
     let a = winner-is s o x e in
     let b = winner-is s p y f in

@@ -10,7 +10,7 @@ use Rattle.base.specs.declared.config.Config.{Config}
 use Rattle.base.specs.Search.{firstFrom}
 use Rattle.arbiter.specs.declared.Narrow.{Narrow}
 use Rattle.arbiter.specs.declared.Wide.{Wide}
-use Rattle.arbiter.specs.Arbiter.{ofNarrow, ofWide, choice, after}
+use Rattle.arbiter.specs.Arbiter.{ofNarrow, ofWide, choice, after, asNarrow, asWide}
 use Rattle.state.specs.declared.InVc.{InVc}
 use Rattle.state.specs.declared.Binding.{Binding}
 use Rattle.state.specs.declared.Binding.the-variants.{Unbound, Bound}
@@ -19,10 +19,12 @@ use Rattle.state.specs.declared.InputVc.{InputVc}
 use Rattle.state.specs.declared.OutputVc.{OutputVc}
 use Rattle.state.specs.declared.Arbiters.{Arbiters}
 use Rattle.state.specs.declared.Router.{Router}
-use Rattle.state.specs.Fresh.{freshInput, asNarrow, asWide, pastNarrow, pastWide}
+use Rattle.state.specs.Fresh.{freshInput, pastNarrow, pastWide}
 use Rattle.state.specs.Sound.{isUnbound, isFree, frontIsFor}
 use Rattle.store.specs.Store.{firstSlot}
-use Rattle.state.specs.Views.{channel, inputAt, outputAt, queueAt, vcArbiter, inputArbiter, outputArbiter}
+use Rattle.state.specs.Views.{channelNumber, inputAt, outputAt, queueAt, vcArbiter, inputArbiter, outputArbiter}
+use Rattle.state.specs.Setters.{withBinding, withHolder, withInputs, withOutputs, withArbiters, withVcArbiters, withInputArbiters}
+use Rattle.state.specs.Setters.{withOutputArbiters}
 use Rattle.rules.specs.Ports.{overPorts}
 
 -- Phase 5. "An unbound one whose front flit is H or S asks at its destination", here output o; "requester number i·V+v" is its place.
@@ -48,32 +50,34 @@ granted (some w) (some x) = some (record { requester = x; vc = w })
 unfoldable pub grantOf : Router → ℕ → Option Grant
 grantOf s o =
     granted (freeVc (s .config) (s .outputs) o)
-    (choice 32 (s .config .arbiter) (s .config .ports * s .config .vcs) (asks (s .inputs) (s .store) o) (ofWide (vcArbiter (s .arbiters) o)))
+    (choice 32 (s .config .arbiter) (s .config .ports * s .config .vcs) (asks (s .inputs) (s .store) o)
+    (ofWide (vcArbiter (s .arbiters) o)))
 
 abbrev pub requesterOf : Option Grant → Option ℕ
 requesterOf none = none
 requesterOf (some g) = some (g .requester)
 
-abbrev pub boundTo : ℕ → ℕ → InputVc → InputVc
-boundTo o w x = record { binding = Bound (record { output = o; vc = w }); credit = x .credit; inside = x .inside; queued = x .queued }
+abbrev pub bindTo : ℕ → ℕ → InputVc → InputVc
+bindTo o w x = withBinding (Bound (record { output = o; vc = w })) x
 
 abbrev pub heldBy : ℕ → ℕ → OutputVc → OutputVc
-heldBy i v y = record { holder = Held (record { input = i; vc = v }); credit = y .credit }
+heldBy i v y = withHolder (Held (record { input = i; vc = v })) y
 
-pub record Names : Type 0 where
+pub record Vcs : Type 0 where
   pub inputs : List InputVc
   pub outputs : List OutputVc
 
 -- input VC and output VC name each other; requester i·V+v is VC v of input i
-abbrev pub boundBy : Config → ℕ → Option Grant → Names → Names
+abbrev pub boundBy : Config → ℕ → Option Grant → Vcs → Vcs
 boundBy c o none n = n
 boundBy c o (some g) n =
     record {
-      inputs = set (n .inputs) (g .requester) (boundTo o (g .vc) (getD (n .inputs) (g .requester) (freshInput 0)));
-      outputs = set (n .outputs) (channel c o (g .vc)) (heldBy (g .requester / c .vcs) (g .requester % c .vcs) (outputAt c (n .outputs) o (g .vc)));
+      inputs = set (n .inputs) (g .requester) (bindTo o (g .vc) (getD (n .inputs) (g .requester) (freshInput 0)));
+      outputs = set (n .outputs) (channelNumber c o (g .vc)) (heldBy (g .requester / c .vcs) (g .requester % c .vcs)
+          (outputAt c (n .outputs) o (g .vc)));
     }
 
-unfoldable pub bindings : Config → (ℕ → Option Grant) → Names → Names
+unfoldable pub bindings : Config → (ℕ → Option Grant) → Vcs → Vcs
 bindings c grant = overPorts (c .ports) (λ n o. boundBy c o (grant o) n)
 
 -- each arbiter of the ports that there are after its own pick, n wide
@@ -87,21 +91,11 @@ narrowMoved c n pick =
 
 unfoldable pub allocated : Router → Router
 allocated s =
-    record {
-      config = s .config;
-      cycle = s .cycle;
-      inputs = bindings (s .config) (grantOf s) (record { inputs = s .inputs; outputs = s .outputs }) .inputs;
-      outputs = bindings (s .config) (grantOf s) (record { inputs = s .inputs; outputs = s .outputs }) .outputs;
-      store = s .store;
-      wire = s .wire;
-      home = s .home;
-      arbiters =
-          record {
-            vcs = wideMoved (s .config) (s .config .ports * s .config .vcs) (λ (o : ℕ). requesterOf (grantOf s o)) (s .arbiters .vcs);
-            inputs = s .arbiters .inputs;
-            outputs = s .arbiters .outputs;
-          };
-    }
+    withArbiters
+    (withVcArbiters
+    (wideMoved (s .config) (s .config .ports * s .config .vcs) (λ (o : ℕ). requesterOf (grantOf s o)) (s .arbiters .vcs)) (s .arbiters))
+    (withInputs (bindings (s .config) (grantOf s) (record { inputs = s .inputs; outputs = s .outputs }) .inputs)
+    (withOutputs (bindings (s .config) (grantOf s) (record { inputs = s .inputs; outputs = s .outputs }) .outputs) s))
 
 -- Phase 6. "A bound input VC (also one bound just now) is ready when its queue is not empty and its output VC has credit."
 abbrev pub hasCredit : Config → List OutputVc → Binding → Bool
@@ -138,11 +132,8 @@ outputPick s o = choice 8 (s .config .arbiter) (s .config .ports) (λ (i : ℕ).
 -- "Both arbiters move on after their own pick."
 unfoldable pub switched : Router → Arbiters
 switched s =
-    record {
-      vcs = s .arbiters .vcs;
-      inputs = narrowMoved (s .config) (s .config .vcs) (inputPick s) (s .arbiters .inputs);
-      outputs = narrowMoved (s .config) (s .config .ports) (outputPick s) (s .arbiters .outputs);
-    }
+    withInputArbiters (narrowMoved (s .config) (s .config .vcs) (inputPick s) (s .arbiters .inputs))
+    (withOutputArbiters (narrowMoved (s .config) (s .config .ports) (outputPick s) (s .arbiters .outputs)) (s .arbiters))
 
 abbrev pub winning : ℕ → Option ℕ → Option InVc
 winning i none = none

@@ -1,10 +1,10 @@
--- Phases 5 and 6 a second time (01): who is bound and who leaves, of the router in crates/model's words, VC by VC. An output VC is free when
--- no input VC is bound to it; no holder, no set and no table occurs here.
+-- Phases 5 and 6 a second time (01): who is bound and who leaves, of the router in crates/model's words, VC by VC. An output VC is free
+-- when no input VC is bound to it; no holder, no set and no table occurs here.
 -- Assumes nothing.
 use mathlib.Core.Bool.{Bool, true, false, cond, not, _&&_}
 use mathlib.Core.List.{List, [], _∷_}
 use mathlib.Core.Option.{Option, some, none}
-use Prim.Native.Nat.{ℕ, _+_, _*_, _/_, _%_}
+use Prim.Native.Nat.{ℕ, _*_, _/_, _%_}
 use lib.Dec.{eqb, ltb}
 use Rattle.base.specs.declared.config.Config.{Config}
 use Rattle.base.specs.declared.flit.Flit.{Flit}
@@ -17,7 +17,7 @@ use Rattle.model.specs.Cycle.{Event, Choice}
 use Rattle.model.specs.Phases.{outCreditNow, granted}
 use Rattle.state.specs.declared.Arbiters.{Arbiters}
 use Rattle.state.specs.Sound.{frontIsFor}
-use Rattle.state.specs.Views.{channel, vcArbiter, inputArbiter, outputArbiter}
+use Rattle.state.specs.Views.{channelNumber, vcArbiter, inputArbiter, outputArbiter}
 
 abbrev pub isBoundTo : ℕ → ℕ → Option OutVc → Bool
 isBoundTo o w none = false
@@ -66,7 +66,8 @@ module _ (c : Config) (a : Arbiters) (s : Router Flit) (e : Event Flit) where
   -- what VC v of input i is bound to in this cycle: by the output that its front names, if that output picks it
   abbrev pub grantBy : ℕ → ℕ → List Flit → Option OutVc
   grantBy i v [] = none
-  grantBy i v (f ∷ q) = cond (names (channel c i v) (bindsAt (destinationOf f))) (toVc (destinationOf f) (leastFree (destinationOf f))) none
+  grantBy i v (f ∷ q) = cond (names (channelNumber c i v) (bindsAt (destinationOf f)))
+      (toVc (destinationOf f) (leastFree (destinationOf f))) none
 
   unfoldable pub grant : ℕ → ℕ → Option OutVc
   grant i v = cond (ltb i (c .ports) && ltb v (c .vcs)) (grantBy i v (queueNow (s .channel i v))) none

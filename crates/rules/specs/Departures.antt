@@ -11,19 +11,18 @@ use Rattle.base.specs.declared.reply.Left.the-variants as left
 use Rattle.base.specs.declared.reply.Output.{Output}
 use Rattle.base.specs.Flit.{kindOf, payloadOf, endsKind}
 use Rattle.state.specs.declared.InVc.{InVc}
-use Rattle.state.specs.declared.OutVc.{OutVc}
 use Rattle.state.specs.declared.Binding.{Binding}
 use Rattle.state.specs.declared.Binding.the-variants.{Unbound, Bound}
-use Rattle.state.specs.declared.Holder.{Holder}
 use Rattle.state.specs.declared.Holder.the-variants.{Nobody}
 use Rattle.state.specs.declared.InputVc.{InputVc}
 use Rattle.state.specs.declared.OutputVc.{OutputVc}
 use Rattle.state.specs.declared.Router.{Router}
 use Rattle.store.specs.Store.{frontOf, popped}
-use Rattle.state.specs.Views.{channel, inputAt, outputAt}
+use Rattle.state.specs.Views.{channelNumber, inputAt, outputAt}
+use Rattle.state.specs.Setters.{withBinding, withQueued, withHolder, withOutputCredit}
 use Rattle.rules.specs.Ports.{overPorts}
 use Rattle.rules.specs.Intake.{newest}
-use Rattle.rules.specs.Allocation.{switched, winner}
+use Rattle.rules.specs.Allocation.{winner}
 
 -- what departures change, and what they report
 pub record Leaving : Type 0 where
@@ -35,11 +34,11 @@ pub record Leaving : Type 0 where
 
 -- "leaves its queue", "T or S unbinds"
 abbrev pub inputLeft : Bool → InputVc → InputVc
-inputLeft ends x = record { binding = cond ends Unbound (x .binding); credit = x .credit; inside = x .inside; queued = x .queued - 1 }
+inputLeft ends x = withBinding (cond ends Unbound (x .binding)) (withQueued (x .queued - 1) x)
 
 -- "costs one output credit", "and frees the output VC"
 abbrev pub outputLeft : Bool → OutputVc → OutputVc
-outputLeft ends y = record { holder = cond ends Nobody (y .holder); credit = y .credit - 1 }
+outputLeft ends y = withHolder (cond ends Nobody (y .holder)) (withOutputCredit (y .credit - 1) y)
 
 -- "takes the output VC's number"
 abbrev pub departure : ℕ → ℕ → ℕ → Flit → Output
@@ -50,22 +49,22 @@ departure w i v f =
 abbrev pub departed : Config → ℕ → ℕ → ℕ → ℕ → Flit → Leaving → Leaving
 departed c o w i v f l =
     record {
-      inputs = set (l .inputs) (channel c i v) (inputLeft (endsKind (kindOf f)) (inputAt c (l .inputs) i v));
-      outputs = set (l .outputs) (channel c o w) (outputLeft (endsKind (kindOf f)) (outputAt c (l .outputs) o w));
-      store = popped (l .store) (channel c i v);
+      inputs = set (l .inputs) (channelNumber c i v) (inputLeft (endsKind (kindOf f)) (inputAt c (l .inputs) i v));
+      outputs = set (l .outputs) (channelNumber c o w) (outputLeft (endsKind (kindOf f)) (outputAt c (l .outputs) o w));
+      store = popped (l .store) (channelNumber c i v);
       home = set (l .home) (newest (c .back) i) (v + 1);  -- "puts a credit on the way home"
       left = set (l .left) o (departure w i v f);
     }
 
 -- by the VC of output o that it is bound to; a winner is always bound
-abbrev pub leaves : Config → ℕ → ℕ → ℕ → Binding → Leaving → Leaving
-leaves c o i v Unbound l = l
-leaves c o i v (Bound b) l = departed c o (b .vc) i v (frontOf (l .store) (channel c i v)) l
+abbrev pub goesOut : Config → ℕ → ℕ → ℕ → Binding → Leaving → Leaving
+goesOut c o i v Unbound l = l
+goesOut c o i v (Bound b) l = departed c o (b .vc) i v (frontOf (l .store) (channelNumber c i v)) l
 
 -- "Each winner leaves": at output o
 abbrev pub leavesBy : Config → ℕ → Option InVc → Leaving → Leaving
 leavesBy c o none l = l
-leavesBy c o (some x) l = leaves c o (x .input) (x .vc) (inputAt c (l .inputs) (x .input) (x .vc) .binding) l
+leavesBy c o (some x) l = goesOut c o (x .input) (x .vc) (inputAt c (l .inputs) (x .input) (x .vc) .binding) l
 
 unfoldable pub departures : Config → (ℕ → Option InVc) → Leaving → Leaving
 departures c win = overPorts (c .ports) (λ l o. leavesBy c o (win o) l)
@@ -74,4 +73,10 @@ departures c win = overPorts (c .ports) (λ l o. leavesBy c o (win o) l)
 unfoldable pub leavingOf : Router → Leaving
 leavingOf s =
     departures (s .config) (winner s)
-    (record { inputs = s .inputs; outputs = s .outputs; store = s .store; home = s .home; left = replicate 8 (record { left = left.Nothing }) })
+    (record {
+      inputs = s .inputs;
+      outputs = s .outputs;
+      store = s .store;
+      home = s .home;
+      left = replicate 8 (record { left = left.Nothing });
+    })

@@ -1,6 +1,6 @@
 -- The router in the words of crates/model, where choices are free.
 -- Assumes nothing.
-use mathlib.Core.Bool.{Bool, cond, _&&_}
+use mathlib.Core.Bool.{cond, _&&_}
 use mathlib.Core.List.{List}
 use mathlib.Core.Option.{Option, some, none}
 use Prim.Native.Nat.{ℕ}
@@ -12,7 +12,7 @@ use Rattle.model.specs.Sizes as model
 use Rattle.model.specs.Flit.{Look}
 use Rattle.model.specs.Channel.{Channel}
 use Rattle.model.specs.Router as free
-use Rattle.model.specs.Cycle.{Brought, Event}
+use Rattle.model.specs.Cycle.{Event}
 use Rattle.state.specs.declared.OutVc.{OutVc}
 use Rattle.state.specs.declared.Router.{Router}
 use Rattle.state.specs.Channels.{ChannelView, viewOf, outCreditOf}

@@ -1,22 +1,23 @@
 -- Phases 1 to 4 (01, "One cycle, in this order"): what comes in.
 -- Assumes nothing.
-use mathlib.Core.Bool.{Bool, cond, not}
+use mathlib.Core.Bool.{cond, not}
 use mathlib.Core.List.{List, _++_}
 use mathlib.Core.Option.{Option, some, none}
 use Prim.Native.Nat.{ℕ, _+_, _-_, _*_, _^_}
 use lib.Dec.{eqb}
-use lib.ListN.{getD, set, drop, replicate}
+use lib.ListN.{set, drop, replicate}
 use Rattle.base.specs.declared.config.Config.{Config}
 use Rattle.base.specs.declared.flit.Flit.{Flit}
 use Rattle.base.specs.declared.reply.Sender.{Sender}
-use Rattle.base.specs.declared.reply.Reached.{Reached}
 use Rattle.base.specs.declared.reply.Reached.the-variants as reached
 use Rattle.base.specs.Flit.{endsKind}
 use Rattle.state.specs.declared.InputVc.{InputVc}
 use Rattle.state.specs.declared.OutputVc.{OutputVc}
 use Rattle.state.specs.declared.Router.{Router}
 use Rattle.store.specs.Store.{pushed}
-use Rattle.state.specs.Views.{channel, inputAt, outputAt, homePlace, wirePlace, wireVc, wireFlit}
+use Rattle.state.specs.Views.{channelNumber, inputAt, outputAt, homePlace, wirePlace, wireVc, wireFlit}
+use Rattle.state.specs.Setters.{withSenderCredit, withOpened, withQueued, withOutputCredit, withInputs, withOutputs, withStore}
+use Rattle.state.specs.Setters.{withWire, withHome}
 use Rattle.rules.specs.Ports.{overPorts, named}
 use Rattle.rules.specs.Rows.{creditAt, brings, kindAt, vcAt, flitAt}
 
@@ -26,11 +27,11 @@ advanced line = drop 8 line ++ replicate 8 0
 
 -- Phase 1. "each raises that VC's sender credit by one"
 abbrev pub senderPaid : InputVc → InputVc
-senderPaid x = record { binding = x .binding; credit = x .credit + 1; inside = x .inside; queued = x .queued }
+senderPaid x = withSenderCredit (x .credit + 1) x
 
 abbrev pub creditTo : Config → ℕ → Option ℕ → List InputVc → List InputVc
 creditTo c i none inputs = inputs
-creditTo c i (some v) inputs = set inputs (channel c i v) (senderPaid (inputAt c inputs i v))
+creditTo c i (some v) inputs = set inputs (channelNumber c i v) (senderPaid (inputAt c inputs i v))
 
 -- "Credits that left an input B cycles ago reach its sender"
 unfoldable pub sendersPaid : Config → List ℕ → List InputVc → List InputVc
@@ -45,41 +46,21 @@ unfoldable pub reported : Config → List ℕ → List Sender
 reported c home = overPorts (c .ports) (λ senders i. set senders i (reaching (named (homePlace home 0 i)))) (replicate 8 (reaching none))
 
 unfoldable pub creditsReached : Router → Router
-creditsReached s =
-    record {
-      config = s .config;
-      cycle = s .cycle;
-      inputs = sendersPaid (s .config) (s .home) (s .inputs);
-      outputs = s .outputs;
-      store = s .store;
-      wire = s .wire;
-      home = advanced (s .home);
-      arbiters = s .arbiters;
-    }
+creditsReached s = withHome (advanced (s .home)) (withInputs (sendersPaid (s .config) (s .home) (s .inputs)) s)
 
 -- Phase 2. "Each credit from downstream raises the named output VC's credit by one."
 abbrev pub outputPaid : OutputVc → OutputVc
-outputPaid y = record { holder = y .holder; credit = y .credit + 1 }
+outputPaid y = withOutputCredit (y .credit + 1) y
 
 abbrev pub creditFrom : Config → ℕ → Option ℕ → List OutputVc → List OutputVc
 creditFrom c o none outputs = outputs
-creditFrom c o (some w) outputs = set outputs (channel c o w) (outputPaid (outputAt c outputs o w))
+creditFrom c o (some w) outputs = set outputs (channelNumber c o w) (outputPaid (outputAt c outputs o w))
 
 unfoldable pub outputsPaid : Config → List ℕ → List OutputVc → List OutputVc
 outputsPaid c part = overPorts (c .ports) (λ outputs o. creditFrom c o (named (creditAt part o)) outputs)
 
 unfoldable pub creditsReturned : List ℕ → Router → Router
-creditsReturned part s =
-    record {
-      config = s .config;
-      cycle = s .cycle;
-      inputs = s .inputs;
-      outputs = outputsPaid (s .config) part (s .outputs);
-      store = s .store;
-      wire = s .wire;
-      home = s .home;
-      arbiters = s .arbiters;
-    }
+creditsReturned part s = withOutputs (outputsPaid (s .config) part (s .outputs)) s
 
 -- Phase 3. "A flit accepted F cycles ago joins the end of its VC queue."
 pub record Queues : Type 0 where
@@ -87,14 +68,14 @@ pub record Queues : Type 0 where
   pub store : List ℕ
 
 abbrev pub oneMoreQueued : InputVc → InputVc
-oneMoreQueued x = record { binding = x .binding; credit = x .credit; inside = x .inside; queued = x .queued + 1 }
+oneMoreQueued x = withQueued (x .queued + 1) x
 
 -- a flit joins the queue of VC v of input i
 abbrev pub joined : Config → ℕ → ℕ → Flit → Queues → Queues
 joined c i v f q =
     record {
-      inputs = set (q .inputs) (channel c i v) (oneMoreQueued (inputAt c (q .inputs) i v));
-      store = pushed (q .store) (channel c i v) (inputAt c (q .inputs) i v .queued) f;
+      inputs = set (q .inputs) (channelNumber c i v) (oneMoreQueued (inputAt c (q .inputs) i v));
+      store = pushed (q .store) (channelNumber c i v) (inputAt c (q .inputs) i v .queued) f;
     }
 
 abbrev pub landedAt : Config → ℕ → ℕ → Queues → Queues
@@ -105,16 +86,9 @@ landings c wire = overPorts (c .ports) (λ q i. landedAt c (wirePlace wire 0 i) 
 
 unfoldable pub landed : Router → Router
 landed s =
-    record {
-      config = s .config;
-      cycle = s .cycle;
-      inputs = landings (s .config) (s .wire) (record { inputs = s .inputs; store = s .store }) .inputs;
-      outputs = s .outputs;
-      store = landings (s .config) (s .wire) (record { inputs = s .inputs; store = s .store }) .store;
-      wire = advanced (s .wire);
-      home = s .home;
-      arbiters = s .arbiters;
-    }
+    withWire (advanced (s .wire))
+    (withInputs (landings (s .config) (s .wire) (record { inputs = s .inputs; store = s .store }) .inputs)
+    (withStore (landings (s .config) (s .wire) (record { inputs = s .inputs; store = s .store }) .store) s))
 
 -- Phase 4. "Offers. The step acts on ports that bring a flit and passes over the rest."
 pub record Senders : Type 0 where
@@ -123,7 +97,7 @@ pub record Senders : Type 0 where
 
 -- "A taken flit costs one sender credit"; after it a packet is open, unless it ends one
 abbrev pub offerTaken : ℕ → InputVc → InputVc
-offerTaken kind x = record { binding = x .binding; credit = x .credit - 1; inside = not (endsKind kind); queued = x .queued }
+offerTaken kind x = withSenderCredit (x .credit - 1) (withOpened (not (endsKind kind)) x)
 
 -- the newest place of port i in a line of so many cycles
 abbrev pub newest : ℕ → ℕ → ℕ
@@ -138,7 +112,7 @@ abbrev pub takenAt : Config → List ℕ → Senders → ℕ → Senders
 takenAt c part s i =
     cond (brings part i)
     (record {
-      inputs = set (s .inputs) (channel c i (vcAt part i)) (offerTaken (kindAt part i) (inputAt c (s .inputs) i (vcAt part i)));
+      inputs = set (s .inputs) (channelNumber c i (vcAt part i)) (offerTaken (kindAt part i) (inputAt c (s .inputs) i (vcAt part i)));
       wire = set (s .wire) (newest (c .forward) i) (onWire (vcAt part i) (flitAt part i));
     }) s
 
@@ -147,13 +121,5 @@ offers c part = overPorts (c .ports) (takenAt c part)
 
 unfoldable pub offersTaken : List ℕ → Router → Router
 offersTaken part s =
-    record {
-      config = s .config;
-      cycle = s .cycle;
-      inputs = offers (s .config) part (record { inputs = s .inputs; wire = s .wire }) .inputs;
-      outputs = s .outputs;
-      store = s .store;
-      wire = offers (s .config) part (record { inputs = s .inputs; wire = s .wire }) .wire;
-      home = s .home;
-      arbiters = s .arbiters;
-    }
+    withInputs (offers (s .config) part (record { inputs = s .inputs; wire = s .wire }) .inputs)
+    (withWire (offers (s .config) part (record { inputs = s .inputs; wire = s .wire }) .wire) s)

@@ -17,7 +17,6 @@ use Rattle.state.specs.declared.Router.{Router}
 use Rattle.state.specs.Sound.{sound}
 use Rattle.state.specs.Views.{inputAt, outputAt}
 use Rattle.trace.specs.Blocks.{cycleLength}
-use Rattle.rules.specs.declared.Refusal.{Refusal}
 use Rattle.rules.specs.declared.Verdict.{Verdict}
 use Rattle.rules.specs.declared.Verdict.the-variants.{Accepted, Refused}
 use Rattle.rules.specs.Rows.{rowZero, rowLegal, kindAt, vcAt, creditAt, brings}
@@ -38,7 +37,7 @@ creditPastRoom c outputs part o = not (eqb (creditAt part o) 0) && eqb (outputAt
 
 -- 4, "B or T with no packet open at that sender VC, or H or S with one open"
 unfoldable pub outOfTurn : Config → List InputVc → List ℕ → ℕ → Bool
-outOfTurn c inputs part i = brings part i && Bool·beq (startsKind (kindAt part i)) (inputAt c inputs i (vcAt part i) .inside)
+outOfTurn c inputs part i = brings part i && Bool·beq (startsKind (kindAt part i)) (inputAt c inputs i (vcAt part i) .opened)
 
 -- 5, "no sender credit, after phase 1": the input VCs are those after phase 1
 unfoldable pub noSenderCredit : Config → List InputVc → List ℕ → ℕ → Bool
@@ -73,7 +72,8 @@ rule5 c paid part = rule numbers.noSenderCredit (c .ports) (noSenderCredit c pai
 
 -- "10, then 3, 6, 4, 5"
 abbrev pub rulesFor : Config → ℕ → List InputVc → List InputVc → List OutputVc → List ℕ → List Rule
-rulesFor c cycle inputs paid outputs part = rule10 cycle ∷ rule3 c part ∷ rule6 c outputs part ∷ rule4 c inputs part ∷ rule5 c paid part ∷ []
+rulesFor c cycle inputs paid outputs part = rule10 cycle ∷ rule3 c part ∷ rule6 c outputs part ∷ rule4 c inputs part ∷ rule5 c paid part
+    ∷ []
 
 -- "Cycle: 2, 10, then 3, 6, 4, 5"
 abbrev pub rulesOf : Router → List ℕ → List Rule

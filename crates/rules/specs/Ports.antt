@@ -1,6 +1,5 @@
 -- What happens port by port.
 -- Assumes nothing.
-use mathlib.Core.List.{List}
 use mathlib.Core.Option.{Option, some, none}
 use Prim.Native.Nat.{ℕ, zero, suc}
 

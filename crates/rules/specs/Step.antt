@@ -5,7 +5,7 @@ use Prim.Native.Nat.{ℕ, _+_}
 use Rattle.base.specs.declared.reply.Reply.{Reply}
 use Rattle.base.specs.Reply.{emptyReply}
 use Rattle.state.specs.declared.Router.{Router}
-use Rattle.rules.specs.declared.Refusal.{Refusal}
+use Rattle.state.specs.Setters.{withCycle, withInputs, withOutputs, withStore, withHome, withArbiters}
 use Rattle.rules.specs.declared.Verdict.{Verdict}
 use Rattle.rules.specs.declared.Verdict.the-variants.{Accepted, Refused}
 use Rattle.rules.specs.declared.Stepped.{Stepped}
@@ -21,16 +21,9 @@ takenIn part s = offersTaken part (landed (creditsReturned part (creditsReached 
 -- phases 6 and 7, and one cycle more
 unfoldable pub sentOut : Router → Router
 sentOut s =
-    record {
-      config = s .config;
-      cycle = s .cycle + 1;
-      inputs = leavingOf s .inputs;
-      outputs = leavingOf s .outputs;
-      store = leavingOf s .store;
-      wire = s .wire;
-      home = leavingOf s .home;
-      arbiters = switched s;
-    }
+    withCycle (s .cycle + 1) (withArbiters (switched s)
+    (withInputs (leavingOf s .inputs) (withOutputs (leavingOf s .outputs)
+    (withStore (leavingOf s .store) (withHome (leavingOf s .home) s)))))
 
 -- the router after an accepted cycle, and its reply
 unfoldable pub routerAfter : List ℕ → Router → Router

@@ -1,30 +1,30 @@
 -- "A fresh router is sound", for every legal configuration.
 -- Assumes nothing.
 use mathlib.Core.Path.{_≡_, refl, sym, ap, ap₂, subst, _∙_}
-use mathlib.Core.Bool.{Bool, true, false, cond, not, _&&_, _||_, and-true, or-true}
+use mathlib.Core.Bool.{Bool, true, false, cond, _&&_, _||_, or-true}
 use mathlib.Core.List.{List, [], _∷_, _++_, map, cons-ne-nil}
 use mathlib.Core.Logic.{_⊎_, inl, inr}
 use Prim.Native.Nat.{ℕ, zero, suc, _+_, _-_, _*_, _≤_, _<_, zero-le}
 use native.Mathlib.Nat.{le-refl, le-antisymm, mul-le-mul}
 use native.Mathlib.Omega.{arith}
 use lib.Arith.{digits-lt, lt-of-le-ne}
-use lib.Dec.{eqb, leb, ltb}
+use lib.Dec.{eqb, ltb}
 use lib.ListN.{length, getD, take, drop, replicate, length-append, length-replicate, getD-replicate, List·getD-append, List·getD-eq-default}
 use lib.Seq.{getD-append-add}
 use borrow.Author.Tests.{le-leb, eq-eqb, ne-eqb, eqb-true, eqb-false, ltb-true, ltb-false}
 use Rattle.base.specs.declared.config.Config.{Config}
 use Rattle.base.specs.Search.{every}
-use Rattle.base.specs.Sizes.{illegalField}
 use Rattle.base.proofs.Search.{all-every}
 use Rattle.base.proofs.Configurations.{Legal, legal-exact}
-use Rattle.state.specs.declared.Router.{Router}
 use Rattle.arbiter.specs.Arbiter as arbiter
 use Rattle.arbiter.specs.Arbiter.{ofNarrow, ofWide}
 use Rattle.arbiter.specs.Matrix.{blankFrom}
 use Rattle.arbiter.proofs.ByKind.{Known}
 use Rattle.arbiter.proofs.Soundness.{fresh-sound, sound-holds}
 use Rattle.state.specs.Fresh.{filled, freshInput, freshOutput, zeroNarrow, zeroWide, pastNarrow, pastWide, freshRouter}
-use Rattle.state.specs.Views.{channel, inputAt, outputAt, queueOf, wirePlace, wireOf, homeOf, homePlace, onVc, queueAt, slotFlit, wireFlit, wireVc, places, flat, total, vcArbiter, inputArbiter, outputArbiter}
+use Rattle.state.specs.Views.{channelNumber, inputAt, outputAt, queueOf, wirePlace, wireOf, homeOf, homePlace, onVc, queueAt}
+use Rattle.state.specs.Views.{slotFlit}
+use Rattle.state.specs.Views.{wireFlit, wireVc, places, flat, total, vcArbiter, inputArbiter, outputArbiter}
 use Rattle.state.specs.Sound
 use Rattle.state.proofs.Exact.{sound-passes}
 use Rattle.state.proofs.Made.{channels-fit}
@@ -32,7 +32,8 @@ use Rattle.state.proofs.Made.{channels-fit}
 -- a filled array: the places below n, and those from n on
 filled-below : {A : Type 0} (n size : ℕ) (x z d : A) (k : ℕ) → k < n → getD (filled n size x z) k d ≡ x
 filled-below n size x z d k h =
-    List·getD-append (replicate n x) (replicate (size - n) z) d k (subst (λ m. k < m) (sym (length-replicate n x)) h) ∙ getD-replicate n k x d h
+    List·getD-append (replicate n x) (replicate (size - n) z) d k (subst (λ m. k < m) (sym (length-replicate n x)) h)
+    ∙ getD-replicate n k x d h
 
 -- an array of one value has it everywhere, and past its end it is the default
 same-at : {A : Type 0} (m : ℕ) (z : A) (k : ℕ) → getD (replicate m z) k z ≡ z
@@ -45,7 +46,8 @@ same-at m z k = go (ltb k m) refl
 filled-from : {A : Type 0} (n size : ℕ) (x z : A) (k : ℕ) → n ≤ k → getD (filled n size x z) k z ≡ z
 filled-from n size x z k h =
     let e : k ≡ length (replicate n x) + (k - n) = omega (arith, length-replicate n x) in
-    ap (λ m. getD (filled n size x z) m z) e ∙ getD-append-add (replicate n x) (replicate (size - n) z) (k - n) z ∙ same-at (size - n) z (k - n)
+    ap (λ m. getD (filled n size x z) m z) e ∙ getD-append-add (replicate n x) (replicate (size - n) z) (k - n) z
+    ∙ same-at (size - n) z (k - n)
 
 filled-at : {A : Type 0} (n size : ℕ) (x z d : A) (k : ℕ) → n ≤ k → k < size → getD (filled n size x z) k d ≡ z
 filled-at n size x z d k h g =
@@ -88,7 +90,8 @@ module _ (c : Config) (legal : Legal c) where
   -- what stands at a channel that there is
   pub input-is : (i v : ℕ) → i < c .ports → v < c .vcs → inputAt c (freshRouter c .inputs) i v ≡ freshInput (c .depth)
   unfolding freshRouter
-  input-is i v h g = filled-below (c .ports * c .vcs) 32 (freshInput (c .depth)) (freshInput 0) (freshInput 0) (i * c .vcs + v) (digits-lt h g)
+  input-is i v h g = filled-below (c .ports * c .vcs) 32 (freshInput (c .depth)) (freshInput 0) (freshInput 0) (i * c .vcs + v)
+      (digits-lt h g)
 
   pub output-is : (o w : ℕ) → o < c .ports → w < c .vcs → outputAt c (freshRouter c .outputs) o w ≡ freshOutput (c .downstream)
   unfolding freshRouter
@@ -143,18 +146,22 @@ module _ (c : Config) (legal : Legal c) where
   unfolding Sound.wireLegal Sound.wirePlaceLegal freshRouter
   wire =
       all-every (c .forward) _ (λ k h.
-      all-every (c .ports) _ (λ i g. ap (λ b. b || (Sound.legalFlit c (wireFlit (wirePlace (freshRouter c .wire) k i)) && ltb (wireVc (wirePlace
+      all-every (c .ports) _ (λ i g. ap (λ b. b || (Sound.legalFlit c (wireFlit (wirePlace (freshRouter c .wire) k i))
+      && ltb (wireVc (wirePlace
       (freshRouter c .wire) k i)) (c .vcs))) (eq-eqb (wirePlace (freshRouter c .wire) k i) 0 (wire-is k i))))
 
   home : Sound.homeLegal (freshRouter c .config) (freshRouter c .home) ≡ true
   unfolding Sound.homeLegal freshRouter
-  home = all-every (c .back) _ (λ k h. all-every (c .ports) _ (λ i g. le-leb (homePlace (freshRouter c .home) k i) (c .vcs) (subst (λ x. x ≤ c .vcs)
+  home = all-every (c .back) _ (λ k h. all-every (c .ports) _
+      (λ i g. le-leb (homePlace (freshRouter c .home) k i) (c .vcs) (subst (λ x. x ≤ c .vcs)
       (sym (home-is k i)) zero-le)))
 
-  pub no-queue : (i v : ℕ) → i < c .ports → v < c .vcs → queueOf c (freshRouter c .store) i v (inputAt c (freshRouter c .inputs) i v .queued) ≡ []
+  pub no-queue : (i v : ℕ) → i < c .ports → v < c .vcs → queueOf c (freshRouter c .store) i v
+      (inputAt c (freshRouter c .inputs) i v .queued) ≡ []
   unfolding queueAt
   no-queue i v h g =
-      ap (λ n. map slotFlit (take n (take 16 (drop (16 * channel c i v) (freshRouter c .store))))) (ap (λ x. x .queued) (input-is i v h g))
+      ap (λ n. map slotFlit (take n (take 16 (drop (16 * channelNumber c i v) (freshRouter c .store)))))
+      (ap (λ x. x .queued) (input-is i v h g))
 
   queues : Sound.queuesLegal (freshRouter c .config) (freshRouter c .inputs) (freshRouter c .store) ≡ true
   unfolding Sound.queuesLegal Sound.all freshRouter
@@ -164,7 +171,8 @@ module _ (c : Config) (legal : Legal c) where
   unfolding Sound.outputCreditsFit freshRouter
   output-credits =
       channels-pass _ (λ o w h g.
-      le-leb (outputAt c (freshRouter c .outputs) o w .credit) (c .downstream) (subst (λ x. x .credit ≤ c .downstream) (sym (output-is o w h g))
+      le-leb (outputAt c (freshRouter c .outputs) o w .credit) (c .downstream)
+      (subst (λ x. x .credit ≤ c .downstream) (sym (output-is o w h g))
       (le-refl (c .downstream))))
 
   names : Sound.namesAgree (freshRouter c .config) (freshRouter c .inputs) (freshRouter c .outputs) ≡ true
@@ -199,18 +207,22 @@ module _ (c : Config) (legal : Legal c) where
       all-every (c .ports) _ (λ i h.
       ap₂ _&&_
       (ap₂ _&&_
-      (ap (λ a. arbiter.sound 32 (c .arbiter) (c .ports * c .vcs) (ofWide a)) (filled-below (c .ports) 8 _ zeroWide pastWide i h) ∙ arbiter-sound 32
+      (ap (λ a. arbiter.sound 32 (c .arbiter) (c .ports * c .vcs) (ofWide a)) (filled-below (c .ports) 8 _ zeroWide pastWide i h)
+      ∙ arbiter-sound 32
       (c .ports * c .vcs) some-channels channels)
-      (ap (λ a. arbiter.sound 8 (c .arbiter) (c .vcs) (ofNarrow a)) (filled-below (c .ports) 8 _ zeroNarrow pastNarrow i h) ∙ arbiter-sound 8
+      (ap (λ a. arbiter.sound 8 (c .arbiter) (c .vcs) (ofNarrow a)) (filled-below (c .ports) 8 _ zeroNarrow pastNarrow i h)
+      ∙ arbiter-sound 8
       (c .vcs) (legal .vcs .0) (let l = legal .vcs .1 in omega arith)))
-      (ap (λ a. arbiter.sound 8 (c .arbiter) (c .ports) (ofNarrow a)) (filled-below (c .ports) 8 _ zeroNarrow pastNarrow i h) ∙ arbiter-sound 8
+      (ap (λ a. arbiter.sound 8 (c .arbiter) (c .ports) (ofNarrow a)) (filled-below (c .ports) 8 _ zeroNarrow pastNarrow i h)
+      ∙ arbiter-sound 8
       (c .ports) (legal .ports .0) (legal .ports .1)))
 
   packets : Sound.packetsRead (freshRouter c .config) (freshRouter c .inputs) (freshRouter c .store) (freshRouter c .wire) ≡ true
   unfolding Sound.packetsRead Sound.reads Sound.reading freshRouter
   packets =
       channels-pass _ (λ i v h g.
-      ap₂ (λ x q. Sound.endsAs (x .inside) (Sound.reading (Sound.startsInside q (x .binding)) (q ++ flat (wireOf c (freshRouter c .wire) i v))))
+      ap₂ (λ x q. Sound.endsAs (x .opened) (Sound.reading (Sound.startsInside q (x .binding))
+      (q ++ flat (wireOf c (freshRouter c .wire) i v))))
       (input-is i v h g) (no-queue i v h g)
       ∙ ap (λ w. Sound.endsAs false (Sound.reading false w)) (no-wire i v))
 
@@ -224,7 +236,8 @@ module _ (c : Config) (legal : Legal c) where
       go x true e = refl
       go x false e =
           let l = ltb-false x (c .ports * c .vcs) e in
-          ap₂ (λ a b. Sound.inputUnused a && Sound.outputUnused b) (filled-from (c .ports * c .vcs) 32 (freshInput (c .depth)) (freshInput 0) x l)
+          ap₂ (λ a b. Sound.inputUnused a && Sound.outputUnused b)
+          (filled-from (c .ports * c .vcs) 32 (freshInput (c .depth)) (freshInput 0) x l)
           (filled-from (c .ports * c .vcs) 32 (freshOutput (c .downstream)) (freshOutput 0) x l)
 
   slots : Sound.slotsEmpty (freshRouter c .inputs) (freshRouter c .store) ≡ true
@@ -232,7 +245,8 @@ module _ (c : Config) (legal : Legal c) where
   slots =
       all-every 32 _ (λ x h.
       all-every 16 _ (λ k g.
-      ap (λ b. ltb k (getD (freshRouter c .inputs) x (freshInput 0) .queued) || b) (eq-eqb (getD (replicate 512 0) (16 * x + k) 0) 0 (same-at 512 0
+      ap (λ b. ltb k (getD (freshRouter c .inputs) x (freshInput 0) .queued) || b)
+      (eq-eqb (getD (replicate 512 0) (16 * x + k) 0) 0 (same-at 512 0
       (16 * x + k)))
       ∙ or-true (ltb k (getD (freshRouter c .inputs) x (freshInput 0) .queued))))
 
@@ -278,22 +292,34 @@ module _ (c : Config) (legal : Legal c) where
   pub fresh-is-sound : Sound.Sound (freshRouter c)
   fresh-is-sound =
       record {
-        configuration = configuration;
-        cycles = cycles;
-        credits = credits;
-        wire = wire;
-        home = home;
-        queues = queues;
-        outputCredits = output-credits;
-        names = names;
-        arbiters = arbiters;
-        packets = packets;
-        channels = channels-unused;
-        slots = slots;
-        wireRest = wire-rest;
-        homeRest = home-rest;
-        others = others;
-        shape = shape;
+        sizes =
+            record {
+              configuration = configuration;
+              cycles = cycles;
+              wire = wire;
+              home = home;
+              wireRest = wire-rest;
+              homeRest = home-rest;
+              shape = shape;
+            };
+        flow =
+            record {
+              credits = credits;
+              queues = queues;
+              outputCredits = output-credits;
+              channels = channels-unused;
+              slots = slots;
+            };
+        naming =
+            record {
+              names = names;
+              packets = packets;
+            };
+        arbitration =
+            record {
+              arbiters = arbiters;
+              others = others;
+            };
       }
 
   -- the same of the test

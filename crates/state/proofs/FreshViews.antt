@@ -1,8 +1,8 @@
 -- A fresh router holds nothing on any channel: what each of its views shows.
 -- Assumes nothing.
-use mathlib.Core.Path.{_≡_, refl, sym, ap, ap₂, _∙_}
+use mathlib.Core.Path.{_≡_, refl, ap, ap₂, _∙_}
 use mathlib.Core.Bool.{Bool, true, false, cond}
-use mathlib.Core.List.{List, [], _∷_, _++_}
+use mathlib.Core.List.{[], _∷_, _++_}
 use Prim.Native.Nat.{ℕ, zero, suc, _+_, _<_, _-_}
 use native.Mathlib.Nat.{sub-self}
 use native.Mathlib.Numerals.{add-one}
@@ -11,13 +11,12 @@ use lib.Dec.{eqb, ltb}
 use lib.ListN.{replicate, replicate-append-replicate}
 use borrow.Author.Tests.{ltb-true, ne-eqb}
 use Rattle.base.specs.declared.config.Config.{Config}
-use Rattle.base.specs.declared.flit.Flit.{Flit}
 use Rattle.base.proofs.Configurations.{Legal}
 use Rattle.base.proofs.Search.{both}
 use Rattle.state.specs.declared.InputVc.{InputVc}
 use Rattle.state.specs.Fresh.{freshRouter}
-use Rattle.state.specs.Views.{places, onVc, toVc, wirePlace, homePlace, wireOf, homeOf, inputAt, outputAt, queueOf}
-use Rattle.state.specs.Channels.{ChannelView, boundTo, freshView, isThere, channelView, viewOf, outCreditOf}
+use Rattle.state.specs.Views.{places, onVc, toVc, wirePlace, homePlace, wireOf, homeOf, outputAt}
+use Rattle.state.specs.Channels.{boundTo, freshView, isThere, channelView, viewOf, outCreditOf}
 use Rattle.state.proofs.FreshIsSound.{input-is, output-is, wire-is, home-is, no-queue}
 
 -- places that are all alike
@@ -30,7 +29,8 @@ places-same (suc n) f z same =
 module _ (c : Config) (legal : Legal c) where
   wire-empty : (i v : ℕ) → wireOf c (freshRouter c .wire) i v ≡ replicate (c .forward) []
   unfolding wireOf
-  wire-empty i v = places-same (c .forward) (λ (k : ℕ). onVc v (wirePlace (freshRouter c .wire) k i)) [] (λ k. ap (onVc v) (wire-is c legal k i))
+  wire-empty i v = places-same (c .forward) (λ (k : ℕ). onVc v (wirePlace (freshRouter c .wire) k i)) []
+      (λ k. ap (onVc v) (wire-is c legal k i))
 
   home-empty : (i v : ℕ) → homeOf c (freshRouter c .home) i v ≡ replicate (c .back) 0
   unfolding homeOf
@@ -46,7 +46,7 @@ module _ (c : Config) (legal : Legal c) where
         wire = wire-empty i v t;
         queue = no-queue c legal i v h g t;
         home = home-empty i v t;
-        opened = input-is c legal i v h g t .inside;
+        opened = input-is c legal i v h g t .opened;
         bound = boundTo (input-is c legal i v h g t .binding);
       }
 

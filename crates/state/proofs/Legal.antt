@@ -23,4 +23,4 @@ configuration-legal c e = legal-exact c .0 (go (illegalField c) e)
 -- a sound router has at most so many cycles
 pub sound-cycle : {s : Router} → Sound s → s .cycle ≤ 1000000000
 unfolding cyclesFit
-sound-cycle {s} z = leb-true (s .cycle) 1000000000 (z .cycles)
+sound-cycle {s} z = leb-true (s .cycle) 1000000000 (z .sizes .cycles)

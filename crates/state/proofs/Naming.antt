@@ -1,7 +1,7 @@
 -- One input VC and what it names, and one output VC and what it names.
 -- Assumes nothing.
 use mathlib.Core.Path.{_≡_, refl, sym, ap, ap₂, _∙_}
-use mathlib.Core.Bool.{Bool, true, false, _&&_, and-false}
+use mathlib.Core.Bool.{Bool, true, false, _&&_, false≢true}
 use mathlib.Core.List.{List}
 use Prim.Native.Nat.{ℕ, _+_, _*_, _%_, _≤_, _<_}
 use native.Mathlib.Nat.{le-trans, lt-of-lt-of-le, mul-le-mul-right}
@@ -20,10 +20,19 @@ use Rattle.state.specs.declared.Holder.the-variants.{Nobody, Held}
 use Rattle.state.specs.declared.InputVc.{InputVc}
 use Rattle.state.specs.declared.OutputVc.{OutputVc}
 use Rattle.state.specs.Fresh.{freshInput, freshOutput}
-use Rattle.state.specs.Views.{channel}
-use Rattle.state.specs.Sound.{bindingIs, holderIs, inputNamed, outputNamed}
+use Rattle.state.specs.Views.{channelNumber}
+use Rattle.state.specs.Sound.{bindingIs, holderIs, inputNamed, outputNamed, isUnbound, isFree}
 use Rattle.state.specs.Testing.{placeOf, boundPlace, heldPlace, inputNames, outputNames}
 use Rattle.state.proofs.Made.{channels-fit}
+
+-- the tests of an input VC that is not bound, and of an output VC that nobody holds
+pub unbound-is : (b : Binding) → isUnbound b ≡ true → b ≡ Unbound
+unbound-is Unbound e = refl
+unbound-is (Bound b) e = absurd (false≢true e)
+
+pub free-is : (h : Holder) → isFree h ≡ true → h ≡ Nobody
+free-is Nobody e = refl
+free-is (Held h) e = absurd (false≢true e)
 
 -- a channel that there is stands in the arrays
 pub channel-fits : (p v i w : ℕ) → i < p → w < v → p ≤ 8 → v ≤ 4 → i * v + w < 32
@@ -100,30 +109,31 @@ below r n e = omega arith
 
 pub bound-at : (c : Config) (b : Binding) (to : OutVc) (r : ℕ) → b ≡ Bound to → r ≡ placeOf c (to .output) (to .vc)
     → (r ≡ boundPlace c b) × (r < 32)
-bound-at c b to r e f = (f ∙ sym (ap (boundPlace c) e), below r (channel c (to .output) (to .vc)) f)
+bound-at c b to r e f = (f ∙ sym (ap (boundPlace c) e), below r (channelNumber c (to .output) (to .vc)) f)
 
 pub held-at : (c : Config) (h : Holder) (by : InVc) (r : ℕ) → h ≡ Held by → r ≡ placeOf c (by .input) (by .vc)
     → (r ≡ heldPlace c h) × (r < 32)
-held-at c h by r e f = (f ∙ sym (ap (heldPlace c) e), below r (channel c (by .input) (by .vc)) f)
+held-at c h by r e f = (f ∙ sym (ap (heldPlace c) e), below r (channelNumber c (by .input) (by .vc)) f)
 
 -- two bytes' product is small
 pub bytes-fit : (a b : ℕ) → a < 256 → b < 256 → a * b ≤ 65536
 bytes-fit a b h g = let l : a ≤ 256 = omega arith in le-trans (mul-le-mul-right b l) (omega arith)
 
 -- a channel that there is stands at its place
-place-is : (c : Config) (i v : ℕ) → c .ports ≤ 8 → c .vcs ≤ 4 → i < c .ports → v < c .vcs → placeOf c i v ≡ channel c i v
-place-is c i v h g a b = small (channel c i v) (channel-fits (c .ports) (c .vcs) i v a b h g)
+place-is : (c : Config) (i v : ℕ) → c .ports ≤ 8 → c .vcs ≤ 4 → i < c .ports → v < c .vcs → placeOf c i v ≡ channelNumber c i v
+place-is c i v h g a b = small (channelNumber c i v) (channel-fits (c .ports) (c .vcs) i v a b h g)
   where
     small : (n : ℕ) → n < 32 → n % 32 ≡ n
     small n l = omega arith
 
 -- what is at the place of a name is what is named, where there is such a channel
 at-place : {A : Type 0} (c : Config) (f : ℕ → A) (test : A → Bool) (i v : ℕ) → c .ports ≤ 8 → c .vcs ≤ 4
-    → (ltb i (c .ports) && ltb v (c .vcs) && test (f (placeOf c i v))) ≡ (ltb i (c .ports) && ltb v (c .vcs) && test (f (channel c i v)))
+    → (ltb i (c .ports) && ltb v (c .vcs) && test (f (placeOf c i v)))
+    ≡ (ltb i (c .ports) && ltb v (c .vcs) && test (f (channelNumber c i v)))
 at-place c f test i v h g = go (ltb i (c .ports)) refl (ltb v (c .vcs)) refl
   where
     go : (p : Bool) → ltb i (c .ports) ≡ p → (q : Bool) → ltb v (c .vcs) ≡ q → (p && q && test (f (placeOf c i v))) ≡ (p && q && test
-        (f (channel c i v)))
+        (f (channelNumber c i v)))
     go true e true d = ap (λ n. test (f n)) (place-is c i v h g (ltb-true i (c .ports) e) (ltb-true v (c .vcs) d))
     go true e false d = refl
     go false e q d = refl
@@ -131,9 +141,11 @@ at-place c f test i v h g = go (ltb i (c .ports)) refl (ltb v (c .vcs)) refl
 pub input-names : (c : Config) (outputs : List OutputVc) (i v : ℕ) (b : Binding) → c .ports ≤ 8 → c .vcs ≤ 4
     → inputNames c i v b (getD outputs (boundPlace c b) (freshOutput 0) .holder) ≡ inputNamed c outputs i v b
 input-names c outputs i v Unbound h g = refl
-input-names c outputs i v (Bound b) h g = at-place c (λ n. getD outputs n (freshOutput 0)) (λ y. holderIs i v (y .holder)) (b .output) (b .vc) h g
+input-names c outputs i v (Bound b) h g = at-place c (λ n. getD outputs n (freshOutput 0)) (λ y. holderIs i v (y .holder)) (b .output)
+    (b .vc) h g
 
 pub output-names : (c : Config) (inputs : List InputVc) (o w : ℕ) (h : Holder) → c .ports ≤ 8 → c .vcs ≤ 4
     → outputNames c o w h (getD inputs (heldPlace c h) (freshInput 0) .binding) ≡ outputNamed c inputs o w h
 output-names c inputs o w Nobody p q = refl
-output-names c inputs o w (Held h) p q = at-place c (λ n. getD inputs n (freshInput 0)) (λ x. bindingIs o w (x .binding)) (h .input) (h .vc) p q
+output-names c inputs o w (Held h) p q = at-place c (λ n. getD inputs n (freshInput 0)) (λ x. bindingIs o w (x .binding)) (h .input)
+    (h .vc) p q

@@ -1,19 +1,18 @@
 -- The pairs of kind and destination that a legal flit can have, as the bits of a word: bit 8 * kind + destination.
 -- Assumes nothing.
-use mathlib.Core.Path.{_≡_, refl, sym, ap, ap₂, subst, _∙_}
-use mathlib.Core.Bool.{Bool, true, false, cond, Bool·beq, _&&_, and-true, and-false, false≢true}
+use mathlib.Core.Path.{_≡_, refl, sym, ap, _∙_}
+use mathlib.Core.Bool.{Bool, true, false, cond, Bool·beq, _&&_, and-true, and-false}
 use Prim.Native.Nat.{ℕ, _+_, _-_, _*_, _/_, _%_, _^_, _≤_, _<_}
 use native.Mathlib.Omega.{arith}
 use lib.Dec.{eqb, leb, ltb}
-use lib.Pow.{pow-pos, pow-mono, shr-lt}
+use lib.Pow.{pow-pos, pow-mono}
 use borrow.Author.Tests.{lt-ltb, le-ltb}
 use Rattle.base.specs.declared.config.Config.{Config}
 use Rattle.base.specs.declared.flit.Flit.{Flit}
-use Rattle.base.specs.Bits.{bit}
 use Rattle.base.specs.Flit.{kindOf, destinationOf, startsKind, head, single}
 use Rattle.base.specs.Search.{every}
 use Rattle.base.proofs.Bits.{shl-one}
-use Rattle.base.proofs.Search.{every-at}
+use Rattle.base.proofs.Search.{every-at, beq-same}
 use Rattle.state.specs.Sound.{legalFlit}
 
 -- `1 << p` as the code has it
@@ -38,12 +37,6 @@ pairs-right : every 9 (λ (p : ℕ). every 64 (λ (pair : ℕ). Bool·beq (eqb (
 unfolding every canCome startsKind
 pairs-right = refl
 
-same : (a b : Bool) → Bool·beq a b ≡ true → a ≡ b
-same true true e = refl
-same true false e = absurd (false≢true e)
-same false true e = absurd (false≢true e)
-same false false e = refl
-
 -- the parts of a legal flit, but for bits beyond them
 abbrev parts : Config → ℕ → ℕ → Bool
 parts c kind destination = leb head kind && leb kind single && cond (startsKind kind) (ltb destination (c .ports)) (eqb destination 0)
@@ -59,7 +52,8 @@ legal-pair c f h g =
     let pair = f .word / 4294967296 in
     let low : pair < 64 = omega arith in
     let kind : pair / 8 ≡ f .word / 34359738368 % 8 = omega arith in
-    let right : eqb (pairs (2 ^ c .ports) / 2 ^ pair % 2) 1 ≡ parts c (pair / 8) (pair % 8) = same _ _ (every-at 64 _ (every-at 9 _ pairs-right
+    let right : eqb (pairs (2 ^ c .ports) / 2 ^ pair % 2) 1 ≡ parts c (pair / 8) (pair % 8) = beq-same _ _
+    (every-at 64 _ (every-at 9 _ pairs-right
     (c .ports) (omega arith)) pair low) in
     ap (λ u. eqb (pairs u / 2 ^ pair % 2) 1) (shifted-is (c .ports) h) ∙ right ∙ ap (λ k. parts c k (pair % 8)) kind
     ∙ short (parts c (f .word / 34359738368 % 8) (pair % 8)) (f .word) g

@@ -1,17 +1,16 @@
 -- Laws of the lines: what is counted stage by stage, and a test of all 64 places.
 -- Assumes nothing.
-use mathlib.Core.Path.{_≡_, refl, sym, ap, ap₂, subst, _∙_}
-use mathlib.Core.Bool.{Bool, true, false, cond, not, _&&_, _||_, true≢false, false≢true, and-true, and-false}
-use mathlib.Core.List.{List, [], _∷_, _++_, append-assoc}
+use mathlib.Core.Path.{_≡_, refl, sym, ap, ap₂, _∙_}
+use mathlib.Core.Bool.{Bool, true, false, cond, not, _&&_, _||_, and-true, and-false}
+use mathlib.Core.List.{List, [], _∷_, _++_}
 use Prim.Native.Nat.{ℕ, zero, suc, _+_, _*_, _/_, _%_, _≤_, _<_}
 use native.Mathlib.Nat.{add-zero, zero-add, add-assoc}
 use native.Mathlib.Numerals.{add-one}
 use native.Mathlib.Omega.{arith}
-use lib.Dec.{eqb, leb, ltb}
+use lib.Dec.{eqb, ltb}
 use lib.ListN.{length, getD, length-append}
-use borrow.Author.Tests.{lt-ltb, le-ltb, ltb-true, ltb-false, eq-eqb, ne-eqb}
+use borrow.Author.Tests.{lt-ltb, le-ltb, ltb-true, eq-eqb, ne-eqb}
 use Rattle.base.specs.declared.config.Config.{Config}
-use Rattle.base.specs.declared.flit.Flit.{Flit}
 use Rattle.base.specs.Search.{every}
 use Rattle.base.proofs.Search.{both, every-at, all-every}
 use Rattle.state.specs.Views.{places, flat, total, wirePlace, homePlace, wireOf, homeOf, wireFlit, wireVc, onVc, toVc}
@@ -22,10 +21,12 @@ flat-end : {A : Type 0} (xs : List (List A)) (x : List A) → length (flat (xs +
 unfolding flat
 flat-end [] x = length-append x [] ∙ add-zero (length x) ∙ sym (zero-add (length x))
 flat-end (y ∷ xs) x =
-    length-append y (flat (xs ++ (x ∷ []))) ∙ ap (λ n. length y + n) (flat-end xs x) ∙ sym (add-assoc (length y) (length (flat xs)) (length x))
+    length-append y (flat (xs ++ (x ∷ []))) ∙ ap (λ n. length y + n) (flat-end xs x)
+    ∙ sym (add-assoc (length y) (length (flat xs)) (length x))
     ∙ ap (λ n. n + length x) (sym (length-append y (flat xs)))
 
-total-end : (xs : List ℕ) (x : ℕ) → total (xs ++ (x ∷ [])) ≡ total xs + x
+-- the sum with one number more at the end
+pub total-end : (xs : List ℕ) (x : ℕ) → total (xs ++ (x ∷ [])) ≡ total xs + x
 unfolding total
 total-end [] x = add-zero x ∙ sym (zero-add x)
 total-end (y ∷ xs) x = ap (λ n. y + n) (total-end xs x) ∙ sym (add-assoc y (total xs) x)
@@ -128,7 +129,8 @@ past-ports delay ports legal k i place h =
     sym (ap (λ b. cond (ltb k delay && b) (legal place) (eqb place 0)) (le-ltb i ports h)
     ∙ ap (λ b. cond b (legal place) (eqb place 0)) (and-false (ltb k delay)))
 
-pub place-used : (delay ports : ℕ) (legal : ℕ → Bool) (k i place : ℕ) → k < delay → i < ports → legal place ≡ placeSound delay ports legal k i place
+pub place-used : (delay ports : ℕ) (legal : ℕ → Bool) (k i place : ℕ) → k < delay → i < ports → legal place
+    ≡ placeSound delay ports legal k i place
 place-used delay ports legal k i place h g =
     sym (ap₂ (λ a b. cond (a && b) (legal place) (eqb place 0)) (lt-ltb k delay h) (lt-ltb i ports g))
 
@@ -156,7 +158,8 @@ line-is delay ports legal line hd hp = same-test _ _ there back
         && every 8 (λ (k : ℕ). every 8 (λ (i : ℕ). ltb k delay && ltb i ports || eqb (getD line (8 * k + i) 0) 0))) ≡ true
     there e =
         ap₂ _&&_
-        (all-every delay _ (λ k h. all-every ports _ (λ i g. place-used delay ports legal k i (getD line (8 * k + i) 0) h g ∙ at e k i (omega arith)
+        (all-every delay _ (λ k h. all-every ports _ (λ i g. place-used delay ports legal k i (getD line (8 * k + i) 0) h g
+        ∙ at e k i (omega arith)
         (omega arith))))
         (all-every 8 _ (λ k h. all-every 8 _ (λ i g. rest (ltb k delay && ltb i ports) (getD line (8 * k + i) 0) (at e k i h g))))
 
@@ -178,7 +181,8 @@ line-is delay ports legal line hd hp = same-test _ _ there back
             → (ltb k delay && ltb i ports || eqb (getD line (8 * k + i) 0) 0) ≡ true
             → placeSound delay ports legal k i (getD line (8 * k + i) 0) ≡ true
         joined k i true ea true eb used free =
-            ap₂ (λ a b. cond (a && b) (legal (getD line (8 * k + i) 0)) (eqb (getD line (8 * k + i) 0) 0)) ea eb ∙ used (ltb-true k delay ea)
+            ap₂ (λ a b. cond (a && b) (legal (getD line (8 * k + i) 0)) (eqb (getD line (8 * k + i) 0) 0)) ea eb
+            ∙ used (ltb-true k delay ea)
             (ltb-true i ports eb)
         joined k i true ea false eb used free =
             ap₂ (λ a b. cond (a && b) (legal (getD line (8 * k + i) 0)) (eqb (getD line (8 * k + i) 0) 0)) ea eb
@@ -195,7 +199,8 @@ wire-empty c place e = sym (ap (λ b. b || (legalFlit c (wireFlit place) && ltb 
 pub wire-beyond : (c : Config) (place : ℕ) → (place ≡ 0 → ⊥) → c .vcs ≤ wireVc place → false ≡ wirePlaceLegal c place
 unfolding wirePlaceLegal
 wire-beyond c place n h =
-    sym (ap₂ (λ a b. a || (legalFlit c (wireFlit place) && b)) (ne-eqb place 0 n) (le-ltb (wireVc place) (c .vcs) h) ∙ and-false (legalFlit c
+    sym (ap₂ (λ a b. a || (legalFlit c (wireFlit place) && b)) (ne-eqb place 0 n) (le-ltb (wireVc place) (c .vcs) h)
+    ∙ and-false (legalFlit c
     (wireFlit place)))
 
 pub wire-flit : (c : Config) (place : ℕ) → (place ≡ 0 → ⊥) → wireVc place < c .vcs → legalFlit c (wireFlit place) ≡ wirePlaceLegal c place

@@ -3,23 +3,21 @@
 use mathlib.Core.Path.{_≡_, refl, sym, ap, ap₂, _∙_}
 use mathlib.Core.Bool.{Bool, true, false, _&&_, _||_}
 use mathlib.Core.List.{List}
-use Prim.Native.Nat.{ℕ, zero, suc, _*_, _≤_, _<_}
+use Prim.Native.Nat.{ℕ, zero, suc, _≤_}
 use native.Mathlib.Omega.{arith}
 use lib.Dec.{eqb, ltb}
 use lib.ListN.{length, getD}
 use borrow.Author.Tests.{lt-ltb, le-ltb, ne-eqb}
-use Rattle.base.specs.declared.config.Config.{Config}
 use Rattle.base.specs.Search.{every}
 use Rattle.base.proofs.Search.{all-every}
 use Rattle.arbiter.specs.declared.Narrow.{Narrow}
 use Rattle.arbiter.specs.declared.Wide.{Wide}
 use Rattle.arbiter.specs.Arbiter as arbiter
-use Rattle.arbiter.specs.Arbiter.{Arbiter, ofNarrow, ofWide}
+use Rattle.arbiter.specs.Arbiter.{ofNarrow, ofWide}
 use Rattle.arbiter.specs.Matrix.{blankFrom}
 use Rattle.state.specs.Fresh.{pastNarrow, pastWide}
 use Rattle.state.specs.Sound.{arbiterUnused}
-use Rattle.state.specs.Testing.{portArbiters, noArbiters}
-use Rattle.state.proofs.Tests.{and-no, and-yes}
+use Rattle.state.specs.Testing.{noArbiters}
 
 -- a pointer below 1 is 0
 below-one : (p : ℕ) → ltb p 1 ≡ eqb p 0

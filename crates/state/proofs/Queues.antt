@@ -3,7 +3,7 @@
 use mathlib.Core.Path.{_≡_, refl, sym, ap, ap₂, _∙_}
 use mathlib.Core.Logic.{_≢_}
 use mathlib.Core.List.{List, [], _∷_, _++_, map, map-append}
-use Prim.Native.Nat.{ℕ, suc, _+_, _*_, _≤_, _<_}
+use Prim.Native.Nat.{ℕ, suc, _+_, _≤_, _<_}
 use native.Mathlib.Numerals.{add-one}
 use native.Mathlib.Omega.{arith}
 use lib.ListN.{length, getD, take, drop, length-drop}
@@ -67,15 +67,18 @@ module _ (store : List ℕ) (x : ℕ) (there : x < 32) (whole : length store ≡
   pub pop-drops : (q : ℕ) → q < 16 → queueIn (popped store x) x q ≡ drop 1 (queueIn store x (q + 1))
   pop-drops q h =
       queue-part (popped store x) x q (omega arith)
-      ∙ ap (map slotFlit) (part-same (popped store x) store (firstSlot x) (firstSlot x + 1) q (omega (arith, pop-length store x)) (omega arith)
+      ∙ ap (map slotFlit) (part-same (popped store x) store (firstSlot x) (firstSlot x + 1) q (omega (arith, pop-length store x))
+      (omega arith)
       (λ k g. pop-slot store x there whole k (omega arith) ∙ ap (λ m. getD store m 0) (omega arith)))
       ∙ ap (drop 1) (sym (front-and-rest q h))
 
   -- the queues of all other channels stay as they are
-  pub push-keeps-others : (q : ℕ) (f : Flit) (y r : ℕ) → x ≢ y → q < 16 → y < 32 → r ≤ 16 → queueIn (pushed store x q f) y r ≡ queueIn store y r
+  pub push-keeps-others : (q : ℕ) (f : Flit) (y r : ℕ) → x ≢ y → q < 16 → y < 32 → r ≤ 16 → queueIn (pushed store x q f) y r
+      ≡ queueIn store y r
   push-keeps-others q f y r n h g l =
       queue-part (pushed store x q f) y r l
-      ∙ ap (map slotFlit) (part-same (pushed store x q f) store (firstSlot y) (firstSlot y) r (omega (arith, push-length store x q f)) (omega arith)
+      ∙ ap (map slotFlit) (part-same (pushed store x q f) store (firstSlot y) (firstSlot y) r (omega (arith, push-length store x q f))
+      (omega arith)
       (λ k e. push-other-slot store x q f (slot y k) (λ p. slots-apart x y q k n h (omega arith) (sym p))))
       ∙ sym (queue-part store y r l)
 

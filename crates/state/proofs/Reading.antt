@@ -2,7 +2,7 @@
 -- Assumes nothing.
 use mathlib.Core.Path.{_≡_, refl, sym, ap, ap₂, _∙_}
 use mathlib.Core.Bool.{Bool, true, false, cond, not, xor, _&&_}
-use mathlib.Core.List.{List, [], _∷_, _++_, map, append-nil}
+use mathlib.Core.List.{List, [], _∷_, _++_, map}
 use mathlib.Core.Option.{Option, some, none}
 use Prim.Native.Nat.{ℕ, zero, suc, _+_, _-_, _≤_, _<_}
 use native.Mathlib.Nat.{add-zero, add-suc, suc-add}
@@ -14,11 +14,12 @@ use lib.Seq.{drop-cons, take-take}
 use Rattle.base.specs.declared.config.Config.{Config}
 use Rattle.base.specs.declared.flit.Flit.{Flit}
 use Rattle.base.specs.Flit.{kindOf, destinationOf, startsKind, endsKind}
+use Rattle.base.proofs.Search.{some-number}
 use Rattle.state.specs.declared.OutVc.{OutVc}
 use Rattle.state.specs.declared.Binding.{Binding}
-use Rattle.state.specs.declared.Binding.the-variants.{Unbound, Bound}
+use Rattle.state.specs.declared.Binding.the-variants.{Bound}
 use Rattle.state.specs.Views.{slotFlit, queueAt, places, flat, wirePlace, wireFlit, wireVc, onVc}
-use Rattle.state.specs.Sound.{all, legalFlit, reading, endsAs, frontIsFor, startsInside}
+use Rattle.state.specs.Sound.{all, legalFlit, reading, startsInside}
 use Rattle.state.proofs.Places.{flit-on, flit-off}
 
 -- inside a packet comes what does not start one, between packets what does
@@ -62,13 +63,15 @@ pub judging-all : (c : Config) (base queued : ℕ) (store : List ℕ) → queued
 judging-all c base queued store h = ap (all (legalFlit c)) (sym (left-all store base queued h))
 
 judged-next : (c : Config) (base queued : ℕ) (store : List ℕ) (k : ℕ) → k < queued → base + k < length store
-    → all (legalFlit c) (left store base queued k) ≡ (legalFlit c (slotFlit (getD store (base + k) 0)) && all (legalFlit c) (left store base queued
+    → all (legalFlit c) (left store base queued k) ≡ (legalFlit c (slotFlit (getD store (base + k) 0))
+    && all (legalFlit c) (left store base queued
     (k + 1)))
 unfolding all
 judged-next c base queued store k h g = ap (all (legalFlit c)) (left-next store base queued k h g)
 
 pub judging-fails : (c : Config) (base queued : ℕ) (store : List ℕ) (k : ℕ) → k < queued → base + k < length store
-    → legalFlit c (slotFlit (getD store (base + k) 0)) ≡ false → Judging c base queued store k → false ≡ all (legalFlit c) (queueAt store base queued)
+    → legalFlit c (slotFlit (getD store (base + k) 0)) ≡ false → Judging c base queued store k → false
+    ≡ all (legalFlit c) (queueAt store base queued)
 judging-fails c base queued store k h g e j =
     sym (ap (λ b. b && all (legalFlit c) (left store base queued (k + 1))) e) ∙ sym (judged-next c base queued store k h g) ∙ j
 
@@ -87,13 +90,9 @@ front-is : (store : List ℕ) (base queued : ℕ) → queued ≤ 16 → (queued 
     → queueAt store base queued ≡ (slotFlit (getD store base 0) ∷ left store base queued 1)
 front-is store base queued h n g =
     let z : base + 0 ≡ base = add-zero base in
-    left-all store base queued h ∙ left-next store base queued 0 (pos queued n) (ap-lt z g)
+    left-all store base queued h ∙ left-next store base queued 0 (some-number queued n) (ap-lt z g)
     ∙ ap (λ b. slotFlit (getD store b 0) ∷ left store base queued 1) z
   where
-    pos : (q : ℕ) → (q ≡ 0 → ⊥) → 0 < q
-    pos zero n = absurd (n refl)
-    pos (suc q) n = omega arith
-
     ap-lt : base + 0 ≡ base → base < length store → base + 0 < length store
     ap-lt e l = omega arith
 
@@ -179,7 +178,8 @@ ReadingWire forward wire i v whole inside k = readingAt forward wire i v inside 
 abbrev pub wireFlits : ℕ → List ℕ → ℕ → ℕ → List Flit
 wireFlits forward wire i v = flat (places forward (λ (j : ℕ). onVc v (wirePlace wire j i)))
 
-pub wire-starts : (forward : ℕ) (wire : List ℕ) (i v base queued : ℕ) (store : List ℕ) (whole : Option Bool) (inside : Bool) (k : ℕ) → queued ≤ k
+pub wire-starts : (forward : ℕ) (wire : List ℕ) (i v base queued : ℕ) (store : List ℕ) (whole : Option Bool) (inside : Bool) (k : ℕ)
+    → queued ≤ k
     → ReadingQueue base queued store (wireFlits forward wire i v) whole inside k → ReadingWire forward wire i v whole inside 0
 wire-starts forward wire i v base queued store whole inside k h r =
     let z : forward - 0 ≡ forward = omega arith in
@@ -194,14 +194,16 @@ unfolding stages flat
 stage-is forward wire i v k h =
     let n : forward - k ≡ suc (forward - (k + 1)) = omega arith in
     ap (λ m. flat (stages k m (λ (j : ℕ). onVc v (wirePlace wire j i)))) n
-    ∙ ap (λ m. onVc v (wirePlace wire k i) ++ flat (stages m (forward - (k + 1)) (λ (j : ℕ). onVc v (wirePlace wire j i)))) (sym (add-one k))
+    ∙ ap (λ m. onVc v (wirePlace wire k i) ++ flat (stages m (forward - (k + 1)) (λ (j : ℕ). onVc v (wirePlace wire j i))))
+    (sym (add-one k))
 
 pub wire-passes : (forward : ℕ) (wire : List ℕ) (i v : ℕ) (whole : Option Bool) (inside : Bool) (k : ℕ) → k < forward
     → (not (eqb (wirePlace wire k i) 0) && eqb (wireVc (wirePlace wire k i)) v) ≡ false
     → ReadingWire forward wire i v whole inside k → ReadingWire forward wire i v whole inside (k + 1)
 wire-passes forward wire i v whole inside k h e r =
     sym (ap (reading inside) (stage-is forward wire i v k h
-    ∙ ap (λ l. l ++ flat (stages (k + 1) (forward - (k + 1)) (λ (j : ℕ). onVc v (wirePlace wire j i)))) (flit-off v (wirePlace wire k i) e))) ∙ r
+    ∙ ap (λ l. l ++ flat (stages (k + 1) (forward - (k + 1)) (λ (j : ℕ). onVc v (wirePlace wire j i))))
+    (flit-off v (wirePlace wire k i) e))) ∙ r
 
 wire-flit-is : (forward : ℕ) (wire : List ℕ) (i v k : ℕ) → k < forward
     → (not (eqb (wirePlace wire k i) 0) && eqb (wireVc (wirePlace wire k i)) v) ≡ true
@@ -216,7 +218,8 @@ pub wire-fails : (forward : ℕ) (wire : List ℕ) (i v : ℕ) (whole : Option B
     → xor inside (startsKind (kindOf (wireFlit (wirePlace wire k i)))) ≡ false → ReadingWire forward wire i v whole inside k → none ≡ whole
 wire-fails forward wire i v whole inside k h e f r =
     sym (ap (reading inside) (wire-flit-is forward wire i v k h e)
-    ∙ reading-fails inside (wireFlit (wirePlace wire k i)) (flat (stages (k + 1) (forward - (k + 1)) (λ (j : ℕ). onVc v (wirePlace wire j i)))) f) ∙ r
+    ∙ reading-fails inside (wireFlit (wirePlace wire k i)) (flat
+    (stages (k + 1) (forward - (k + 1)) (λ (j : ℕ). onVc v (wirePlace wire j i)))) f) ∙ r
 
 pub wire-next : (forward : ℕ) (wire : List ℕ) (i v : ℕ) (whole : Option Bool) (inside : Bool) (k : ℕ) → k < forward
     → (not (eqb (wirePlace wire k i) 0) && eqb (wireVc (wirePlace wire k i)) v) ≡ true
@@ -224,7 +227,8 @@ pub wire-next : (forward : ℕ) (wire : List ℕ) (i v : ℕ) (whole : Option Bo
     → ReadingWire forward wire i v whole (not (endsKind (kindOf (wireFlit (wirePlace wire k i))))) (k + 1)
 wire-next forward wire i v whole inside k h e f r =
     sym (ap (reading inside) (wire-flit-is forward wire i v k h e)
-    ∙ reading-next inside (wireFlit (wirePlace wire k i)) (flat (stages (k + 1) (forward - (k + 1)) (λ (j : ℕ). onVc v (wirePlace wire j i)))) f) ∙ r
+    ∙ reading-next inside (wireFlit (wirePlace wire k i)) (flat
+    (stages (k + 1) (forward - (k + 1)) (λ (j : ℕ). onVc v (wirePlace wire j i)))) f) ∙ r
 
 pub wire-ends : (forward : ℕ) (wire : List ℕ) (i v : ℕ) (whole : Option Bool) (inside : Bool) (k : ℕ) → forward ≤ k
     → ReadingWire forward wire i v whole inside k → some inside ≡ whole

@@ -6,185 +6,51 @@ use Prim.Native.Nat.{ℕ, suc, _+_, _*_, _^_}
 use lib.ListN.{set, replicate}
 use Rattle.base.specs.declared.config.Config.{Config}
 use Rattle.base.specs.Flit.{flitOf}
+use Rattle.base.specs.Sizes.{sized, noConfig}
 use Rattle.arbiter.specs.declared.Narrow.{Narrow}
 use Rattle.arbiter.specs.declared.Wide.{Wide}
 use Rattle.arbiter.specs.Arbiter as arbiter
-use Rattle.arbiter.specs.Matrix.{listOf, freshRows}
-use Rattle.state.specs.declared.Binding.the-variants.{Unbound, Bound}
+use Rattle.arbiter.specs.Matrix.{freshRows}
+use Rattle.arbiter.specs.Arbiter.{asNarrow, asWide, arbiterOf, withPointer, ofNarrow, ofWide}
+use Rattle.state.specs.declared.Binding.the-variants.{Bound}
 use Rattle.state.specs.declared.Holder.the-variants.{Held}
 use Rattle.state.specs.declared.InputVc.{InputVc}
 use Rattle.state.specs.declared.OutputVc.{OutputVc}
 use Rattle.state.specs.declared.Arbiters.{Arbiters}
 use Rattle.state.specs.declared.Router.{Router}
-use Rattle.state.specs.Fresh.{asNarrow, asWide, freshRouter}
+use Rattle.state.specs.Fresh.{freshRouter, freshInput, freshOutput, freshArbiters, zeroNarrow, zeroWide}
+use Rattle.state.specs.Setters.{withBinding, withOpened, withQueued, withHolder, withVcArbiters, withInputArbiters}
+use Rattle.state.specs.Setters.{withOutputArbiters, withInputs}
+use Rattle.state.specs.Setters.{withOutputs, withStore, withWire, withHome, withArbiters}
 
 -- setters, one part each
-unfoldable pub withCycle : ℕ → Router → Router
-withCycle n s =
-    record {
-      config = s .config;
-      cycle = n;
-      inputs = s .inputs;
-      outputs = s .outputs;
-      store = s .store;
-      wire = s .wire;
-      home = s .home;
-      arbiters = s
-          .arbiters;
-    }
-
 unfoldable pub withInput : ℕ → InputVc → Router → Router
-withInput x input s =
-    record {
-      config = s .config;
-      cycle = s .cycle;
-      inputs = set (s .inputs) x input;
-      outputs = s .outputs;
-      store = s .store;
-      wire = s .wire;
-      home = s
-          .home;
-      arbiters = s .arbiters;
-    }
+withInput x input s = withInputs (set (s .inputs) x input) s
 
 unfoldable pub withOutput : ℕ → OutputVc → Router → Router
-withOutput y output s =
-    record {
-      config = s .config;
-      cycle = s .cycle;
-      inputs = s .inputs;
-      outputs = set
-          (s .outputs) y output;
-      store = s .store;
-      wire = s .wire;
-      home = s .home;
-      arbiters = s .arbiters;
-    }
+withOutput y output s = withOutputs (set (s .outputs) y output) s
 
 unfoldable pub withSlot : ℕ → ℕ → Router → Router
-withSlot k word s =
-    record {
-      config = s .config;
-      cycle = s .cycle;
-      inputs = s .inputs;
-      outputs = s .outputs;
-      store = set
-          (s .store) k word;
-      wire = s .wire;
-      home = s .home;
-      arbiters = s .arbiters;
-    }
+withSlot k word s = withStore (set (s .store) k word) s
 
-unfoldable pub withStore : List ℕ → Router → Router
-withStore store s =
-    record {
-      config = s .config;
-      cycle = s .cycle;
-      inputs = s .inputs;
-      outputs = s .outputs;
-      store = store;
-      wire = s .wire;
-      home = s .home;
-      arbiters = s .arbiters;
-    }
+unfoldable pub withWirePlace : ℕ → ℕ → ℕ → Router → Router
+withWirePlace k i place s = withWire (set (s .wire) (8 * k + i) place) s
 
-unfoldable pub withWire : ℕ → ℕ → ℕ → Router → Router
-withWire k i place s =
-    record {
-      config = s .config;
-      cycle = s .cycle;
-      inputs = s .inputs;
-      outputs = s .outputs;
-      store = s .store;
-      wire = set (s .wire)
-          (8 * k + i) place;
-      home = s .home;
-      arbiters = s .arbiters;
-    }
-
-unfoldable pub withHome : ℕ → ℕ → ℕ → Router → Router
-withHome k i place s =
-    record {
-      config = s .config;
-      cycle = s .cycle;
-      inputs = s .inputs;
-      outputs = s .outputs;
-      store = s .store;
-      wire = s .wire;
-      home = set (s .home)
-          (8 * k + i) place;
-      arbiters = s .arbiters;
-    }
+unfoldable pub withHomePlace : ℕ → ℕ → ℕ → Router → Router
+withHomePlace k i place s = withHome (set (s .home) (8 * k + i) place) s
 
 unfoldable pub withVcArbiter : ℕ → Wide → Router → Router
-withVcArbiter o a s =
-    record {
-      config = s .config;
-      cycle = s .cycle;
-      inputs = s .inputs;
-      outputs = s .outputs;
-      store = s .store;
-      wire = s .wire;
-      home = s .home;
-      arbiters = record { vcs = set (s .arbiters .vcs) o a; inputs = s .arbiters .inputs; outputs = s .arbiters .outputs };
-    }
+withVcArbiter o a s = withArbiters (withVcArbiters (set (s .arbiters .vcs) o a) (s .arbiters)) s
 
 unfoldable pub withInputArbiter : ℕ → Narrow → Router → Router
-withInputArbiter i a s =
-    record {
-      config = s .config;
-      cycle = s .cycle;
-      inputs = s .inputs;
-      outputs = s .outputs;
-      store = s .store;
-      wire = s .wire;
-      home = s .home;
-      arbiters = record { vcs = s .arbiters .vcs; inputs = set (s .arbiters .inputs) i a; outputs = s .arbiters .outputs };
-    }
+withInputArbiter i a s = withArbiters (withInputArbiters (set (s .arbiters .inputs) i a) (s .arbiters)) s
 
 unfoldable pub withOutputArbiter : ℕ → Narrow → Router → Router
-withOutputArbiter o a s =
-    record {
-      config = s .config;
-      cycle = s .cycle;
-      inputs = s .inputs;
-      outputs = s .outputs;
-      store = s .store;
-      wire = s .wire;
-      home = s .home;
-      arbiters = record { vcs = s .arbiters .vcs; inputs = s .arbiters .inputs; outputs = set (s .arbiters .outputs) o a };
-    }
-
-unfoldable pub withArbiters : Arbiters → Router → Router
-withArbiters a s =
-    record {
-      config = s .config;
-      cycle = s .cycle;
-      inputs = s .inputs;
-      outputs = s .outputs;
-      store = s .store;
-      wire = s .wire;
-      home = s .home;
-      arbiters = a;
-    }
-
-unfoldable pub withConfig : Config → Router → Router
-withConfig c s =
-    record {
-      config = c;
-      cycle = s .cycle;
-      inputs = s .inputs;
-      outputs = s .outputs;
-      store = s .store;
-      wire = s .wire;
-      home = s .home;
-      arbiters = s
-          .arbiters;
-    }
+withOutputArbiter o a s = withArbiters (withOutputArbiters (set (s .arbiters .outputs) o a) (s .arbiters)) s
 
 -- P = 2, V = 2, D = 3, E = 2, F = 2, B = 2, round robin and matrix
 unfoldable pub config : ℕ → Config
-config code = record { ports = 2; vcs = 2; depth = 3; downstream = 2; forward = 2; back = 2; arbiter = code }
+config code = sized 2 2 3 2 2 2 code
 
 unfoldable pub turns : Router
 turns = freshRouter (config 1)
@@ -194,13 +60,14 @@ orders = freshRouter (config 2)
 
 -- an input VC, what it is bound to first; an output VC with its holder
 unfoldable pub unbound : ℕ → Bool → ℕ → InputVc
-unbound credit inside queued = record { binding = Unbound; credit = credit; inside = inside; queued = queued }
+unbound credit opened queued = withOpened opened (withQueued queued (freshInput credit))
 
 unfoldable pub bound : ℕ → ℕ → ℕ → Bool → ℕ → InputVc
-bound o w credit inside queued = record { binding = Bound (record { output = o; vc = w }); credit = credit; inside = inside; queued = queued }
+bound o w credit opened queued =
+    withBinding (Bound (record { output = o; vc = w })) (withOpened opened (withQueued queued (freshInput credit)))
 
 unfoldable pub held : ℕ → ℕ → ℕ → OutputVc
-held i v credit = record { holder = Held (record { input = i; vc = v }); credit = credit }
+held i v credit = withHolder (Held (record { input = i; vc = v })) (freshOutput credit)
 
 -- the words of flits: H and S to an output, B and T
 unfoldable pub head : ℕ → ℕ
@@ -221,14 +88,14 @@ on v word = v * 2 ^ 38 + word
 
 -- a round robin, and a matrix, by value
 unfoldable pub pointerWide : ℕ → Wide
-pointerWide p = record { pointer = p; rows = listOf (λ (i : ℕ). 0) 32 }
+pointerWide p = asWide (withPointer p (ofWide zeroWide))
 
 unfoldable pub pointerNarrow : ℕ → Narrow
-pointerNarrow p = record { pointer = p; rows = listOf (λ (i : ℕ). 0) 8 }
+pointerNarrow p = asNarrow (withPointer p (ofNarrow zeroNarrow))
 
 -- the fresh order of four, with one row or the pointer another
 unfoldable pub orderWide : ℕ → ℕ → ℕ → Wide
-orderWide p i row = record { pointer = p; rows = set (freshRows 32 4) i row }
+orderWide p i row = asWide (arbiterOf p (set (freshRows 32 4) i row))
 
 -- these words in the store from a slot on
 unfoldable pub stored : ℕ → List ℕ → Router → Router
@@ -247,16 +114,16 @@ unfoldable pub fronted : Router
 fronted = withOutput 2 (held 0 0 2) (queue (head 1 ∷ body ∷ []) (withInput 0 (bound 1 0 1 true 2) turns))
 
 unfoldable pub fullWire : Router
-fullWire = withWire 1 0 (on 1 tail) (withWire 0 0 (on 1 (head 1)) (withInput 1 (unbound 1 false 0) turns))
+fullWire = withWirePlace 1 0 (on 1 tail) (withWirePlace 0 0 (on 1 (head 1)) (withInput 1 (unbound 1 false 0) turns))
 
 unfoldable pub homing : Router
-homing = withHome 1 1 2 (withHome 0 1 2 (withInput 3 (unbound 1 false 0) turns))
+homing = withHomePlace 1 1 2 (withHomePlace 0 1 2 (withInput 3 (unbound 1 false 0) turns))
 
 -- P = 2, V = 2, D = 16: a channel that holds sixteen flits and says that it holds so many
 unfoldable pub deep : ℕ → Router
 deep queued =
     withStore (replicate 16 (single 1) ++ replicate 496 0) (withInput 0 (unbound 0 false queued)
-    (freshRouter (record { ports = 2; vcs = 2; depth = 16; downstream = 2; forward = 1; back = 1; arbiter = 1 })))
+    (freshRouter (sized 2 2 16 2 1 1 1)))
 
 -- a matrix after picks, the last pick first
 unfoldable pub picked : ℕ → ℕ → List ℕ → arbiter.Arbiter
@@ -265,17 +132,16 @@ picked places n (w ∷ ws) = arbiter.moved places 2 n w (picked places n ws)
 
 unfoldable pub pickedArbiters : Arbiters
 pickedArbiters =
-    record {
-      vcs = replicate 8 (asWide (picked 32 32 (9 ∷ 0 ∷ 31 ∷ [])));
-      inputs = replicate 8 (asNarrow (picked 8 4 (2 ∷ 0 ∷ 3 ∷ [])));
-      outputs = replicate 8 (asNarrow (picked 8 8 (5 ∷ 0 ∷ 7 ∷ [])));
-    }
+    withVcArbiters (replicate 8 (asWide (picked 32 32 (9 ∷ 0 ∷ 31 ∷ []))))
+    (withInputArbiters (replicate 8 (asNarrow (picked 8 4 (2 ∷ 0 ∷ 3 ∷ []))))
+    (withOutputArbiters (replicate 8 (asNarrow (picked 8 8 (5 ∷ 0 ∷ 7 ∷ [])))) (freshArbiters noConfig)))
 
 -- P = 8, V = 4, every arbiter a matrix after picks: VC 0 of input 0 bound to VC 1 of output 5 with a packet's start queued, VC 3 of
 -- input 7 with a flit queued, one on the wire and a credit on its way home
 unfoldable pub large : Router
 large =
     withArbiters pickedArbiters
-    (withHome 2 7 4 (withWire 1 7 (on 3 (single 2)) (withOutput 21 (held 0 0 1) (stored 496 (single 0 ∷ []) (queue (head 5 ∷ body ∷ [])
+    (withHomePlace 2 7 4 (withWirePlace 1 7 (on 3 (single 2))
+    (withOutput 21 (held 0 0 1) (stored 496 (single 0 ∷ []) (queue (head 5 ∷ body ∷ [])
     (withInput 31 (unbound 1 false 1) (withInput 0 (bound 5 1 2 true 2)
-    (freshRouter (record { ports = 8; vcs = 4; depth = 4; downstream = 2; forward = 3; back = 3; arbiter = 2 })))))))))
+    (freshRouter (sized 8 4 4 2 3 3 2)))))))))

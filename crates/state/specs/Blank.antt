@@ -5,9 +5,9 @@ use mathlib.Core.Bool.{Bool, _&&_}
 use lib.Dec.{eqb}
 use lib.ListN.{length}
 use Rattle.base.specs.declared.config.Config.{Config}
+use Rattle.base.specs.Sizes.{noConfig}
 use Rattle.state.specs.declared.Arbiters.{Arbiters}
 use Rattle.state.specs.declared.Router.{Router}
-use Rattle.state.specs.Fresh.{noConfig}
 use Rattle.state.specs.Sound.{channelsUnused, slotsEmpty, lineUnused, arbitersUnused, shaped}
 
 -- no configuration
@@ -27,4 +27,5 @@ blank s =
     && (lineUnused 0 0 (s .wire)
     && (lineUnused 0 0 (s .home)
     && (arbitersUnused noConfig (s .arbiters)
-    && (channelsUnused noConfig (s .inputs) (s .outputs) && (slotsEmpty (s .inputs) (s .store) && (shaped s && arbitersShaped (s .arbiters))))))))
+    && (channelsUnused noConfig (s .inputs) (s .outputs) && (slotsEmpty (s .inputs) (s .store)
+    && (shaped s && arbitersShaped (s .arbiters))))))))

@@ -6,12 +6,11 @@ use mathlib.Core.Option.{Option, some, none}
 use Prim.Native.Nat.{ℕ, _-_, _*_}
 use lib.ListN.{replicate}
 use Rattle.base.specs.declared.config.Config.{Config}
-use Rattle.base.specs.declared.config.Judged.{Judged}
 use Rattle.base.specs.declared.config.Judged.the-variants.{Legal, Illegal}
-use Rattle.base.specs.Sizes.{illegalField}
+use Rattle.base.specs.Sizes.{noConfig}
 use Rattle.arbiter.specs.declared.Narrow.{Narrow}
 use Rattle.arbiter.specs.declared.Wide.{Wide}
-use Rattle.arbiter.specs.Arbiter.{Arbiter}
+use Rattle.arbiter.specs.Arbiter.{arbiterOf, asNarrow, asWide}
 use Rattle.arbiter.specs.Arbiter as arbiter
 use Rattle.state.specs.declared.Binding.the-variants.{Unbound}
 use Rattle.state.specs.declared.InputVc.{InputVc}
@@ -27,32 +26,25 @@ filled n size x z = replicate n x ++ replicate (size - n) z
 
 -- an input VC with nothing bound, no packet open and nothing queued
 abbrev pub freshInput : ℕ → InputVc
-freshInput credit = record { binding = Unbound; credit = credit; inside = false; queued = 0 }
+freshInput credit = record { binding = Unbound; credit = credit; opened = false; queued = 0 }
 
 -- an output VC that nobody holds
 abbrev pub freshOutput : ℕ → OutputVc
 freshOutput credit = record { holder = Nobody; credit = credit }
 
--- an arbiter in its struct
-abbrev pub asNarrow : Arbiter → Narrow
-asNarrow a = record { pointer = a .pointer; rows = a .rows }
-
-abbrev pub asWide : Arbiter → Wide
-asWide a = record { pointer = a .pointer; rows = a .rows }
-
 -- no arbiter
 abbrev pub zeroNarrow : Narrow
-zeroNarrow = record { pointer = 0; rows = replicate 8 0 }
+zeroNarrow = asNarrow (arbiterOf 0 (replicate 8 0))
 
 abbrev pub zeroWide : Wide
-zeroWide = record { pointer = 0; rows = replicate 32 0 }
+zeroWide = asWide (arbiterOf 0 (replicate 32 0))
 
 -- what is read past the end of an array of arbiters
 abbrev pub pastNarrow : Narrow
-pastNarrow = record { pointer = 0; rows = [] }
+pastNarrow = asNarrow (arbiterOf 0 [])
 
 abbrev pub pastWide : Wide
-pastWide = record { pointer = 0; rows = [] }
+pastWide = asWide (arbiterOf 0 [])
 
 -- arbiters of the ports that there are; all zero beyond
 abbrev pub freshArbiters : Config → Arbiters
@@ -77,9 +69,6 @@ freshRouter c =
       home = replicate 64 0;
       arbiters = freshArbiters c;
     }
-
-abbrev pub noConfig : Config
-noConfig = record { ports = 0; vcs = 0; depth = 0; downstream = 0; forward = 0; back = 0; arbiter = 0 }
 
 -- "A refused construction gives an all-zero state": 1 with the field, or the fresh router
 unfoldable pub builtOf : Option ℕ → Config → Built

@@ -5,19 +5,17 @@ use mathlib.Core.Path.{_≡_}
 use mathlib.Core.Bool.{Bool, true, false, cond, not, xor, Bool·beq, _&&_, _||_}
 use mathlib.Core.List.{List, [], _∷_, _++_}
 use mathlib.Core.Option.{Option, some, none}
-use Prim.Native.Nat.{ℕ, suc, _+_, _*_, _^_}
+use Prim.Native.Nat.{ℕ, _+_, _*_, _^_}
 use lib.Dec.{eqb, leb, ltb}
-use lib.ListN.{length, getD, replicate}
+use lib.ListN.{length, getD}
 use Rattle.base.specs.declared.config.Config.{Config}
 use Rattle.base.specs.declared.flit.Flit.{Flit}
 use Rattle.base.specs.Flit.{kindOf, destinationOf, startsKind, endsKind, head, single}
 use Rattle.base.specs.Search.{every}
-use Rattle.base.specs.Sizes.{illegalField, cycleLimit, mostPorts}
+use Rattle.base.specs.Sizes.{illegalField, cycleLimit, mostPorts, mostChannels}
 use Rattle.arbiter.specs.Arbiter as arbiter
 use Rattle.arbiter.specs.Arbiter.{ofNarrow, ofWide}
 use Rattle.arbiter.specs.Matrix.{blankFrom}
-use Rattle.state.specs.declared.InVc.{InVc}
-use Rattle.state.specs.declared.OutVc.{OutVc}
 use Rattle.state.specs.declared.Binding.{Binding}
 use Rattle.state.specs.declared.Binding.the-variants.{Unbound, Bound}
 use Rattle.state.specs.declared.Holder.{Holder}
@@ -26,9 +24,10 @@ use Rattle.state.specs.declared.InputVc.{InputVc}
 use Rattle.state.specs.declared.OutputVc.{OutputVc}
 use Rattle.state.specs.declared.Arbiters.{Arbiters}
 use Rattle.state.specs.declared.Router.{Router}
-use Rattle.state.specs.Fresh.{freshInput, freshOutput, asNarrow, asWide}
+use Rattle.state.specs.Fresh.{freshInput, freshOutput}
 use Rattle.store.specs.Store.{slot}
-use Rattle.state.specs.Views.{inputAt, outputAt, queueOf, wirePlace, wireFlit, wireVc, wireOf, homeOf, homePlace, flat, total, vcArbiter, inputArbiter, outputArbiter}
+use Rattle.state.specs.Views.{inputAt, outputAt, queueOf, wirePlace, wireFlit, wireVc, wireOf, homeOf, homePlace, flat, total}
+use Rattle.state.specs.Views.{vcArbiter, inputArbiter, outputArbiter}
 
 unfoldable pub isNone : Option ℕ → Bool
 isNone none = true
@@ -147,7 +146,7 @@ unfoldable pub packetsRead : Config → List InputVc → List ℕ → List ℕ �
 packetsRead c inputs store wire =
     everyChannel c (λ i v.
     reads (queueOf c store i v (inputAt c inputs i v .queued)) (flat (wireOf c wire i v)) (inputAt c inputs i v .binding)
-    (inputAt c inputs i v .inside))
+    (inputAt c inputs i v .opened))
 
 abbrev pub isUnbound : Binding → Bool
 isUnbound Unbound = true
@@ -158,7 +157,7 @@ isFree Nobody = true
 isFree (Held h) = false
 
 abbrev pub inputUnused : InputVc → Bool
-inputUnused x = isUnbound (x .binding) && eqb (x .credit) 0 && not (x .inside) && eqb (x .queued) 0
+inputUnused x = isUnbound (x .binding) && eqb (x .credit) 0 && not (x .opened) && eqb (x .queued) 0
 
 abbrev pub outputUnused : OutputVc → Bool
 outputUnused y = isFree (y .holder) && eqb (y .credit) 0
@@ -170,13 +169,13 @@ arbiterUnused places a = eqb (length (a .rows)) places && (eqb (a .pointer) 0 &&
 -- channels "beyond P and V .. are as on a fresh router of this configuration"
 unfoldable pub channelsUnused : Config → List InputVc → List OutputVc → Bool
 channelsUnused c inputs outputs =
-    every 32 (λ (x : ℕ).
+    every mostChannels (λ (x : ℕ).
     ltb x (c .ports * c .vcs) || inputUnused (getD inputs x (freshInput 0)) && outputUnused (getD outputs x (freshOutput 0)))
 
 -- "an empty slot is zero": those behind each queue, and all of a channel that is not in use
 unfoldable pub slotsEmpty : List InputVc → List ℕ → Bool
 slotsEmpty inputs store =
-    every 32 (λ (x : ℕ). every 16 (λ (k : ℕ). ltb k (getD inputs x (freshInput 0) .queued) || eqb (getD store (slot x k) 0) 0))
+    every mostChannels (λ (x : ℕ). every 16 (λ (k : ℕ). ltb k (getD inputs x (freshInput 0) .queued) || eqb (getD store (slot x k) 0) 0))
 
 -- "Places not in use" of the lines: those of ports from P on, and those past the delay
 unfoldable pub lineUnused : ℕ → ℕ → List ℕ → Bool
@@ -186,9 +185,10 @@ lineUnused delay ports line =
 -- arbiters of ports from P on
 unfoldable pub arbitersUnused : Config → Arbiters → Bool
 arbitersUnused c a =
-    every 8 (λ (i : ℕ).
+    every mostPorts (λ (i : ℕ).
     ltb i (c .ports)
-    || arbiterUnused 32 (ofWide (vcArbiter a i)) && arbiterUnused 8 (ofNarrow (inputArbiter a i)) && arbiterUnused 8 (ofNarrow (outputArbiter a i)))
+    || arbiterUnused 32 (ofWide (vcArbiter a i)) && arbiterUnused 8 (ofNarrow (inputArbiter a i))
+    && arbiterUnused 8 (ofNarrow (outputArbiter a i)))
 
 -- the arrays are as long as the struct has them; of a struct that is always so
 unfoldable pub shaped : Router → Bool
@@ -196,34 +196,96 @@ shaped s =
     eqb (length (s .inputs)) 32 && eqb (length (s .outputs)) 32 && eqb (length (s .store)) 512 && eqb (length (s .wire)) 64
     && eqb (length (s .home)) 64
 
+-- The clauses by name, in four topics, and what each of them tests.
+pub data Clause : Type 0 where
+  theConfiguration : Clause
+  theCycles : Clause
+  theWire : Clause
+  theHome : Clause
+  theWireRest : Clause
+  theHomeRest : Clause
+  theShape : Clause
+  theCredits : Clause
+  theQueues : Clause
+  theOutputCredits : Clause
+  theChannels : Clause
+  theSlots : Clause
+  theNames : Clause
+  thePackets : Clause
+  theArbiters : Clause
+  theOtherArbiters : Clause
+
+abbrev pub passes : Router → Clause → Bool
+passes s theConfiguration = configurationLegal (s .config)
+passes s theCycles = cyclesFit (s .cycle)
+passes s theWire = wireLegal (s .config) (s .wire)
+passes s theHome = homeLegal (s .config) (s .home)
+passes s theWireRest = lineUnused (s .config .forward) (s .config .ports) (s .wire)
+passes s theHomeRest = lineUnused (s .config .back) (s .config .ports) (s .home)
+passes s theShape = shaped s
+passes s theCredits = creditsAddUp (s .config) (s .inputs) (s .wire) (s .home)
+passes s theQueues = queuesLegal (s .config) (s .inputs) (s .store)
+passes s theOutputCredits = outputCreditsFit (s .config) (s .outputs)
+passes s theChannels = channelsUnused (s .config) (s .inputs) (s .outputs)
+passes s theSlots = slotsEmpty (s .inputs) (s .store)
+passes s theNames = namesAgree (s .config) (s .inputs) (s .outputs)
+passes s thePackets = packetsRead (s .config) (s .inputs) (s .store) (s .wire)
+passes s theArbiters = arbitersSound (s .config) (s .arbiters)
+passes s theOtherArbiters = arbitersUnused (s .config) (s .arbiters)
+
+abbrev pub Passes : Router → Clause → Type 0
+Passes s k = passes s k ≡ true
+
+-- sizes and lines
+pub record SizesAndLines (s : Router) : Type 0 where
+  pub configuration : Passes s theConfiguration
+  pub cycles : Passes s theCycles
+  pub wire : Passes s theWire
+  pub home : Passes s theHome
+  pub wireRest : Passes s theWireRest
+  pub homeRest : Passes s theHomeRest
+  pub shape : Passes s theShape
+
+abbrev pub sizesAndLines : List Clause
+sizesAndLines = theConfiguration ∷ theCycles ∷ theWire ∷ theHome ∷ theWireRest ∷ theHomeRest ∷ theShape ∷ []
+
+-- credits and queues
+pub record CreditsAndQueues (s : Router) : Type 0 where
+  pub credits : Passes s theCredits
+  pub queues : Passes s theQueues
+  pub outputCredits : Passes s theOutputCredits
+  pub channels : Passes s theChannels
+  pub slots : Passes s theSlots
+
+abbrev pub creditsAndQueues : List Clause
+creditsAndQueues = theCredits ∷ theQueues ∷ theOutputCredits ∷ theChannels ∷ theSlots ∷ []
+
+-- names and packets
+pub record NamesAndPackets (s : Router) : Type 0 where
+  pub names : Passes s theNames
+  pub packets : Passes s thePackets
+
+abbrev pub namesAndPackets : List Clause
+namesAndPackets = theNames ∷ thePackets ∷ []
+
+-- arbiters
+pub record ArbitersInOrder (s : Router) : Type 0 where
+  pub arbiters : Passes s theArbiters
+  pub others : Passes s theOtherArbiters
+
+abbrev pub arbitersInOrder : List Clause
+arbitersInOrder = theArbiters ∷ theOtherArbiters ∷ []
+
 -- "A state handed in is sound when": all clauses
 pub record Sound (s : Router) : Type 0 where
-  pub configuration : configurationLegal (s .config) ≡ true
-  pub cycles : cyclesFit (s .cycle) ≡ true
-  pub credits : creditsAddUp (s .config) (s .inputs) (s .wire) (s .home) ≡ true
-  pub wire : wireLegal (s .config) (s .wire) ≡ true
-  pub home : homeLegal (s .config) (s .home) ≡ true
-  pub queues : queuesLegal (s .config) (s .inputs) (s .store) ≡ true
-  pub outputCredits : outputCreditsFit (s .config) (s .outputs) ≡ true
-  pub names : namesAgree (s .config) (s .inputs) (s .outputs) ≡ true
-  pub arbiters : arbitersSound (s .config) (s .arbiters) ≡ true
-  pub packets : packetsRead (s .config) (s .inputs) (s .store) (s .wire) ≡ true
-  pub channels : channelsUnused (s .config) (s .inputs) (s .outputs) ≡ true
-  pub slots : slotsEmpty (s .inputs) (s .store) ≡ true
-  pub wireRest : lineUnused (s .config .forward) (s .config .ports) (s .wire) ≡ true
-  pub homeRest : lineUnused (s .config .back) (s .config .ports) (s .home) ≡ true
-  pub others : arbitersUnused (s .config) (s .arbiters) ≡ true
-  pub shape : shaped s ≡ true
+  pub sizes : SizesAndLines s
+  pub flow : CreditsAndQueues s
+  pub naming : NamesAndPackets s
+  pub arbitration : ArbitersInOrder s
 
--- the same, as a test that computes: its clauses, in the same order, and whether all of them pass
-unfoldable pub clauses : Router → List Bool
-clauses s =
-    configurationLegal (s .config) ∷ cyclesFit (s .cycle) ∷ creditsAddUp (s .config) (s .inputs) (s .wire) (s .home)
-    ∷ wireLegal (s .config) (s .wire) ∷ homeLegal (s .config) (s .home) ∷ queuesLegal (s .config) (s .inputs) (s .store)
-    ∷ outputCreditsFit (s .config) (s .outputs) ∷ namesAgree (s .config) (s .inputs) (s .outputs) ∷ arbitersSound (s .config) (s .arbiters)
-    ∷ packetsRead (s .config) (s .inputs) (s .store) (s .wire) ∷ channelsUnused (s .config) (s .inputs) (s .outputs)
-    ∷ slotsEmpty (s .inputs) (s .store) ∷ lineUnused (s .config .forward) (s .config .ports) (s .wire)
-    ∷ lineUnused (s .config .back) (s .config .ports) (s .home) ∷ arbitersUnused (s .config) (s .arbiters) ∷ shaped s ∷ []
+-- the same, as a test that computes
+abbrev pub clauses : List Clause
+clauses = sizesAndLines ++ (creditsAndQueues ++ (namesAndPackets ++ arbitersInOrder))
 
 unfoldable pub sound : Router → Bool
-sound s = all (λ (clause : Bool). clause) (clauses s)
+sound s = all (passes s) clauses

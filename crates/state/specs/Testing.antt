@@ -2,7 +2,7 @@
 -- Assumes nothing.
 use mathlib.Core.Bool.{Bool, true, _&&_}
 use mathlib.Core.List.{List}
-use Prim.Native.Nat.{ℕ, _*_, _%_, _≤_}
+use Prim.Native.Nat.{ℕ, _*_, _%_}
 use lib.Dec.{leb, ltb}
 use Rattle.base.specs.declared.config.Config.{Config}
 use Rattle.arbiter.specs.declared.Narrow.{Narrow}
@@ -15,27 +15,19 @@ use Rattle.state.specs.declared.Holder.{Holder}
 use Rattle.state.specs.declared.Holder.the-variants.{Nobody, Held}
 use Rattle.state.specs.declared.InputVc.{InputVc}
 use Rattle.state.specs.declared.OutputVc.{OutputVc}
-use Rattle.state.specs.Views.{channel, inputAt, outputAt, queueOf, wireOf, flat}
+use Rattle.state.specs.Views.{channelNumber, inputAt, outputAt, queueOf, wireOf, flat}
 use Rattle.state.specs.Sound.{all, legalFlit, creditsWhole, reads, bindingIs, holderIs, inputNamed, outputNamed, arbiterUnused}
-
--- what a legal configuration gives: the sizes that the arrays have room for
-pub record Bounded (c : Config) : Type 0 where
-  pub ports : c .ports ≤ 8
-  pub vcs : c .vcs ≤ 4
-  pub depth : c .depth ≤ 16
-  pub forward : c .forward ≤ 8
-  pub back : c .back ≤ 8
 
 -- credits, queue and packets of input VC v of port i
 unfoldable pub inputSound : Config → List ℕ → List ℕ → List ℕ → ℕ → ℕ → InputVc → Bool
 inputSound c store wire home i v input =
     creditsWhole c wire home i v input
     && (all (legalFlit c) (queueOf c store i v (input .queued))
-    && reads (queueOf c store i v (input .queued)) (flat (wireOf c wire i v)) (input .binding) (input .inside))
+    && reads (queueOf c store i v (input .queued)) (flat (wireOf c wire i v)) (input .binding) (input .opened))
 
 -- the place of channel v of port i; beyond P and V some place
 abbrev pub placeOf : Config → ℕ → ℕ → ℕ
-placeOf c i v = channel c i v % 32
+placeOf c i v = channelNumber c i v % 32
 
 -- the place of what an input VC names, and of what an output VC names
 abbrev pub boundPlace : Config → Binding → ℕ

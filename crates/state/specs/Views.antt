@@ -1,6 +1,6 @@
 -- What a router holds, channel by channel: VC v of port i, where i is below P and v below V. Each view takes the parts that it reads.
 -- Assumes nothing.
-use mathlib.Core.Bool.{Bool, cond, not, _&&_}
+use mathlib.Core.Bool.{cond, not, _&&_}
 use mathlib.Core.List.{List, [], _∷_, _++_, map}
 use Prim.Native.Nat.{ℕ, zero, suc, _+_, _*_, _/_, _%_, _^_}
 use lib.Dec.{eqb}
@@ -16,14 +16,14 @@ use Rattle.state.specs.Fresh.{freshInput, freshOutput, pastNarrow, pastW
 use Rattle.store.specs.Store.{firstSlot}
 
 -- "requester number i·V+v": the place of a channel in the arrays
-abbrev pub channel : Config → ℕ → ℕ → ℕ
-channel c i v = i * c .vcs + v
+abbrev pub channelNumber : Config → ℕ → ℕ → ℕ
+channelNumber c i v = i * c .vcs + v
 
 abbrev pub inputAt : Config → List InputVc → ℕ → ℕ → InputVc
-inputAt c inputs i v = getD inputs (channel c i v) (freshInput 0)
+inputAt c inputs i v = getD inputs (channelNumber c i v) (freshInput 0)
 
 abbrev pub outputAt : Config → List OutputVc → ℕ → ℕ → OutputVc
-outputAt c outputs o w = getD outputs (channel c o w) (freshOutput 0)
+outputAt c outputs o w = getD outputs (channelNumber c o w) (freshOutput 0)
 
 -- the flit in a slot
 abbrev pub slotFlit : ℕ → Flit
@@ -35,7 +35,7 @@ queueAt store base queued = map slotFlit (take queued (take 16 (drop base store)
 
 -- the flits queued on a channel, the front first, where so many are queued
 abbrev pub queueOf : Config → List ℕ → ℕ → ℕ → ℕ → List Flit
-queueOf c store i v queued = queueAt store (firstSlot (channel c i v)) queued
+queueOf c store i v queued = queueAt store (firstSlot (channelNumber c i v)) queued
 
 -- the wire's place k of port i, the oldest being 0: empty, or a flit with its VC above it
 abbrev pub wirePlace : List ℕ → ℕ → ℕ → ℕ

@@ -2,21 +2,23 @@
 use arbiter::Narrow;
 use arbiter::Wide;
 use base::Config;
+use base::PORT_PLACES;
 ghost use mathlib.Core.Path.{_≡_};
+ghost use Rattle.base.specs.Sizes.{Bounds};
 ghost use Rattle.state.specs.Sound.{arbitersSound, arbitersUnused};
-ghost use Rattle.state.specs.Testing.{Bounded, portArbiters, noArbiters};
+ghost use Rattle.state.specs.Testing.{portArbiters, noArbiters};
 
 // The arbiters of a port that there is.
 fn are_sound_of(config: Config, vcs: Wide, input: Narrow, output: Narrow) -> bool
-    requires { ⌜ Bounded config ⌝ }
+    requires { ⌜ Bounds 0 config ⌝ }
     ensures { λ r. ⌜ r ≡ portArbiters config vcs input output ⌝ }
 {
     let ports = config.ports as u32;
-    let lanes = config.vcs as u32;
-    if !vcs.is_sound(config.arbiter, ports * lanes) {
+    let vcs_each = config.vcs as u32;
+    if !vcs.is_sound(config.arbiter, ports * vcs_each) {
         return false;
     }
-    if !input.is_sound(config.arbiter, lanes) {
+    if !input.is_sound(config.arbiter, vcs_each) {
         return false;
     }
     output.is_sound(config.arbiter, ports)
@@ -42,7 +44,7 @@ pub(crate) fn are_sound(
     inputs: [Narrow; 8],
     outputs: [Narrow; 8],
 ) -> bool
-    requires { ⌜ Bounded config ⌝ }
+    requires { ⌜ Bounds 0 config ⌝ }
     ensures { λ r. ⌜ r ≡ arbitersSound config (record { vcs = vcs; inputs = inputs; outputs = outputs }) ⌝ }
 {
     let end = config.ports as usize;
@@ -66,11 +68,11 @@ pub(crate) fn are_unused(
     inputs: [Narrow; 8],
     outputs: [Narrow; 8],
 ) -> bool
-    requires { ⌜ Bounded config ⌝ }
+    requires { ⌜ Bounds 0 config ⌝ }
     ensures { λ r. ⌜ r ≡ arbitersUnused config (record { vcs = vcs; inputs = inputs; outputs = outputs }) ⌝ }
 {
     let mut i = config.ports as usize;
-    while i < 8 {
+    while i < PORT_PLACES {
         let wide = vcs[i];
         let input = inputs[i];
         let output = outputs[i];

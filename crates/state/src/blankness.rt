@@ -42,15 +42,7 @@ pub fn is_blank(router: Router) -> bool
     if router.cycle != 0 {
         return false;
     }
-    let none = Config {
-        ports: 0,
-        vcs: 0,
-        depth: 0,
-        downstream: 0,
-        forward: 0,
-        back: 0,
-        arbiter: 0,
-    };
+    let none = Config::none();
     let wire = router.wire;
     if !lines::is_wire_sound(none, &wire) {
         return false;

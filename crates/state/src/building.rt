@@ -13,7 +13,8 @@ ghost use mathlib.Core.Path.{_≡_};
 ghost use Prim.Native.Nat.{_≤_};
 ghost use Rattle.base.specs.Sizes.{illegalField};
 ghost use Rattle.arbiter.specs.Arbiter.{fresh};
-ghost use Rattle.state.specs.Fresh.{filled, freshInput, freshOutput, asNarrow, asWide, zeroNarrow, zeroWide, freshRouter, builtOf};
+ghost use Rattle.state.specs.Fresh.{filled, freshInput, freshOutput, zeroNarrow, zeroWide, freshRouter, builtOf};
+ghost use Rattle.arbiter.specs.Arbiter.{asNarrow, asWide};
 
 // What a construction gives: the configuration judged, and the router, which is all zero where the configuration is refused.
 pub struct Built {
@@ -29,15 +30,11 @@ fn inputs(channels: usize, credit: u8) -> [InputVc; 32]
     let unused = InputVc {
         binding: Binding::Unbound,
         credit: 0,
-        inside: false,
+        opened: false,
         queued: 0,
     };
-    let used = InputVc {
-        binding: Binding::Unbound,
-        credit,
-        inside: false,
-        queued: 0,
-    };
+    let mut used = unused;
+    used.credit = credit;
     let mut made = [unused; 32];
     let mut x: usize = 0;
     while x < channels {
@@ -56,10 +53,8 @@ fn outputs(channels: usize, credit: u8) -> [OutputVc; 32]
         holder: Holder::Nobody,
         credit: 0,
     };
-    let used = OutputVc {
-        holder: Holder::Nobody,
-        credit,
-    };
+    let mut used = unused;
+    used.credit = credit;
     let mut made = [unused; 32];
     let mut y: usize = 0;
     while y < channels {
@@ -136,18 +131,9 @@ pub fn fresh(config: Config) -> Built
 {
     let judged = config.judged();
     if let Judged::Illegal(field) = judged {
-        let none = Config {
-            ports: 0,
-            vcs: 0,
-            depth: 0,
-            downstream: 0,
-            forward: 0,
-            back: 0,
-            arbiter: 0,
-        };
         return Built {
             judged: Judged::Illegal(field),
-            router: untouched(none),
+            router: untouched(Config::none()),
         };
     }
     Built {

@@ -6,6 +6,7 @@ use crate::OutputVc;
 use crate::lines;
 use crate::names;
 use crate::packets;
+use base::CHANNEL_PLACES;
 use base::Config;
 ghost use mathlib.Core.Path.{_≡_};
 ghost use mathlib.Core.Bool.{_&&_, _||_};
@@ -13,8 +14,9 @@ ghost use Prim.Native.Nat.{ℕ, _+_, _*_, _≤_, _<_};
 ghost use lib.Dec.{eqb, ltb};
 ghost use lib.ListN.{length, getD};
 ghost use Rattle.base.specs.Search.{every};
+ghost use Rattle.base.specs.Sizes.{Bounds};
 ghost use Rattle.state.specs.Sound.{creditsWhole, everyChannel, inputUnused, outputUnused, channelsUnused, slotsEmpty};
-ghost use Rattle.state.specs.Testing.{Bounded, inputSound, namesPass, channelSound};
+ghost use Rattle.state.specs.Testing.{inputSound, namesPass, channelSound};
 
 // "sender credit + wire + queue + credits going home = D"
 fn are_credits_whole(
@@ -45,7 +47,7 @@ fn is_input_sound(
     wire: &[u64; 64],
     home: &[u8; 64],
 ) -> bool
-    requires { ⌜ Bounded config × (i < config .ports) × (v < config .vcs) × (length (now store) ≡ 512) ⌝ }
+    requires { ⌜ Bounds 0 config × (i < config .ports) × (v < config .vcs) × (length (now store) ≡ 512) ⌝ }
     ensures { λ r. ⌜ r ≡ inputSound config (now (store .entry)) (now (wire .entry)) (now (home .entry)) i v input ⌝ }
 {
     if !are_credits_whole(config, i, v, input, wire, home) {
@@ -62,13 +64,14 @@ fn is_input_sound(
         base,
         queued,
         start,
-        input.inside,
+        input.opened,
         store,
         wire,
     )
 }
 
-// One channel's output credit, and the names of both its VCs: what holds the output VC it names, and what the input VC it names is bound to.
+// One channel's output credit, and the names of both its VCs: what holds the output VC it names, and what the input VC it names is
+// bound to.
 fn are_names_sound(
     config: Config,
     i: u8,
@@ -100,8 +103,9 @@ fn is_port_sound(
     wire: &[u64; 64],
     home: &[u8; 64],
 ) -> bool
-    requires { ⌜ Bounded config × (i < config .ports) × (length (now store) ≡ 512) ⌝ }
-    ensures { λ r. ⌜ r ≡ every (config .vcs) (channelSound config inputs outputs (now (store .entry)) (now (wire .entry)) (now (home .entry)) i) ⌝ }
+    requires { ⌜ Bounds 0 config × (i < config .ports) × (length (now store) ≡ 512) ⌝ }
+    ensures { λ r. ⌜ r ≡ every (config .vcs) (channelSound config inputs outputs (now (store .entry)) (now (wire .entry))
+        (now (home .entry)) i) ⌝ }
 {
     let mut v: u8 = 0;
     while v < config.vcs {
@@ -136,8 +140,9 @@ pub(crate) fn are_sound(
     wire: &[u64; 64],
     home: &[u8; 64],
 ) -> bool
-    requires { ⌜ Bounded config × (length (now store) ≡ 512) ⌝ }
-    ensures { λ r. ⌜ r ≡ everyChannel config (channelSound config inputs outputs (now (store .entry)) (now (wire .entry)) (now (home .entry))) ⌝ }
+    requires { ⌜ Bounds 0 config × (length (now store) ≡ 512) ⌝ }
+    ensures { λ r. ⌜ r ≡ everyChannel config (channelSound config inputs outputs (now (store .entry)) (now (wire .entry))
+        (now (home .entry))) ⌝ }
 {
     let mut i: u8 = 0;
     while i < config.ports {
@@ -159,7 +164,7 @@ fn is_input_unused(input: InputVc) -> bool
     if input.credit != 0 {
         return false;
     }
-    if input.inside {
+    if input.opened {
         return false;
     }
     input.queued == 0
@@ -177,11 +182,11 @@ fn is_output_unused(output: OutputVc) -> bool
 
 // channels "beyond P and V"
 pub(crate) fn are_unused(config: Config, inputs: [InputVc; 32], outputs: [OutputVc; 32]) -> bool
-    requires { ⌜ Bounded config ⌝ }
+    requires { ⌜ Bounds 0 config ⌝ }
     ensures { λ r. ⌜ r ≡ channelsUnused config inputs outputs ⌝ }
 {
     let mut x = (config.ports as usize) * (config.vcs as usize);
-    while x < 32 {
+    while x < CHANNEL_PLACES {
         let input = inputs[x];
         if !is_input_unused(input) {
             return false;
@@ -215,7 +220,7 @@ pub(crate) fn are_slots_empty(inputs: [InputVc; 32], store: &[u64; 512]) -> bool
     ensures { λ r. ⌜ r ≡ slotsEmpty inputs (now (store .entry)) ⌝ }
 {
     let mut x: usize = 0;
-    while x < 32 {
+    while x < CHANNEL_PLACES {
         let input = inputs[x];
         if !are_empty_behind(16 * x, input.queued, store) {
             return false;

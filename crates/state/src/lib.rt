@@ -5,6 +5,8 @@
 use arbiter::Narrow;
 use arbiter::Wide;
 use base::Config;
+ghost use mathlib.Core.Path.{_≡_};
+ghost use Rattle.state.specs.Setters.{withBinding, withHolder};
 
 mod arbitration;
 mod blankness;
@@ -43,8 +45,22 @@ pub enum Binding {
 pub struct InputVc {
     pub binding: Binding,
     pub credit: u8,
-    pub inside: bool,
+    pub opened: bool,
     pub queued: u8,
+}
+
+impl InputVc {
+    // The same input VC with this binding. A field that is an enum cannot be written by itself, so the literal is here.
+    pub fn with_binding(self, binding: Binding) -> Self
+        ensures { λ r. ⌜ r ≡ withBinding binding self ⌝ }
+    {
+        InputVc {
+            binding,
+            credit: self.credit,
+            opened: self.opened,
+            queued: self.queued,
+        }
+    }
 }
 
 // Who holds an output VC.
@@ -56,6 +72,18 @@ pub enum Holder {
 pub struct OutputVc {
     pub holder: Holder,
     pub credit: u8,
+}
+
+impl OutputVc {
+    // The same output VC with this holder.
+    pub fn with_holder(self, holder: Holder) -> Self
+        ensures { λ r. ⌜ r ≡ withHolder holder self ⌝ }
+    {
+        OutputVc {
+            holder,
+            credit: self.credit,
+        }
+    }
 }
 
 // The arbiters: for each output one over all input VCs and one over the inputs, for each input one over its VCs.

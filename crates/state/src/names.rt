@@ -1,6 +1,7 @@
 // "input VC and output VC name each other or neither does"
 use crate::Binding;
 use crate::Holder;
+use base::CHANNEL_PLACES;
 use base::Config;
 ghost use mathlib.Core.Path.{_≡_};
 ghost use Prim.Native.Nat.{_<_};
@@ -11,7 +12,7 @@ ghost use Rattle.state.specs.Testing.{placeOf, boundPlace, heldPlace, in
 fn place(config: Config, i: u8, v: u8) -> usize
     ensures { λ r. ⌜ r ≡ placeOf config i v ⌝ }
 {
-    ((i as usize) * (config.vcs as usize) + (v as usize)) % 32
+    ((i as usize) * (config.vcs as usize) + (v as usize)) % CHANNEL_PLACES
 }
 
 // The place of what an input VC names.

@@ -51,7 +51,8 @@ pub(crate) fn reads(
     wire: &[u64; 64],
 ) -> bool
     requires { ⌜ (config .forward ≤ 8) × (i < 8) × (base + 16 ≤ 512) × (queued ≤ 16) × (length (now store) ≡ 512) × (config .ports ≤ 8) ⌝ }
-    ensures { λ r. ⌜ r ≡ (all (legalFlit config) (queueAt (now (store .entry)) base queued) && endsAs end (reading start (queueAt (now (store .entry)) base queued ++ flat (wireOf config (now (wire .entry)) i v)))) ⌝ }
+    ensures { λ r. ⌜ r ≡ (all (legalFlit config) (queueAt (now (store .entry)) base queued)
+        && endsAs end (reading start (queueAt (now (store .entry)) base queued ++ flat (wireOf config (now (wire .entry)) i v)))) ⌝ }
 {
     let forward = config.forward as usize;
     let mut inside = start;

@@ -4,7 +4,7 @@ use mathlib.Core.Path.{_≡_, refl, sym, ap, ap₂, _∙_}
 use mathlib.Core.Logic.{_≢_}
 use mathlib.Core.Bool.{Bool, true, false, cond, _&&_, and-false}
 use mathlib.Core.List.{List}
-use Prim.Native.Nat.{ℕ, zero, suc, _+_, _*_, _≤_, _<_}
+use Prim.Native.Nat.{ℕ, zero, suc, _+_, _≤_, _<_}
 use native.Mathlib.Nat.{le-refl}
 use native.Mathlib.Numerals.{add-one}
 use native.Mathlib.Omega.{arith}
@@ -49,7 +49,8 @@ module _ (store : List ℕ) (x : ℕ) where
       getD-set-other (movedUp n store x) (slot x n) (slot x k) (getD store (slot x (n + 1)) 0) 0 (λ e. omega arith)
       ∙ moved-behind n k (omega arith)
 
-  pub moved-more : (n : ℕ) (now : List ℕ) → now ≡ movedUp n store x → set now (slot x n) (getD now (slot x (n + 1)) 0) ≡ movedUp (n + 1) store x
+  pub moved-more : (n : ℕ) (now : List ℕ) → now ≡ movedUp n store x → set now (slot x n) (getD now (slot x (n + 1)) 0)
+      ≡ movedUp (n + 1) store x
   unfolding movedUp
   moved-more n now e =
       ap (λ l. set l (slot x n) (getD l (slot x (n + 1)) 0)) e

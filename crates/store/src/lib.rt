@@ -1,5 +1,6 @@
 // The store: 512 slots, 16 for each channel, the front of its queue in the first. These three are how a step reaches it, so that where a
 // slot stands is known here and to the sound test alone. A channel that there is not is left alone.
+use base::CHANNEL_PLACES;
 use base::Flit;
 ghost use mathlib.Core.Path.{_≡_};
 ghost use Rattle.store.specs.Store.{frontOf, pushed, popped};
@@ -8,7 +9,7 @@ ghost use Rattle.store.specs.Store.{frontOf, pushed, popped};
 pub fn front(channel: usize, store: &[u64; 512]) -> Flit
     ensures { λ r. ⌜ r ≡ frontOf (now (store .entry)) channel ⌝ }
 {
-    if 32 <= channel {
+    if CHANNEL_PLACES <= channel {
         return Flit { word: 0 };
     }
     Flit {
@@ -20,7 +21,7 @@ pub fn front(channel: usize, store: &[u64; 512]) -> Flit
 pub fn push(channel: usize, queued: u8, flit: Flit, store: &mut [u64; 512])
     ensures { λ r. ⌜ now (store .exit) ≡ pushed (now (store .entry)) channel queued flit ⌝ }
 {
-    if 32 <= channel {
+    if CHANNEL_PLACES <= channel {
         return;
     }
     if 16 <= queued {
@@ -33,7 +34,7 @@ pub fn push(channel: usize, queued: u8, flit: Flit, store: &mut [u64; 512])
 pub fn pop(channel: usize, store: &mut [u64; 512])
     ensures { λ r. ⌜ now (store .exit) ≡ popped (now (store .entry)) channel ⌝ }
 {
-    if 32 <= channel {
+    if CHANNEL_PLACES <= channel {
         return;
     }
     let base = 16 * channel;

@@ -10,7 +10,7 @@ use Prim.Native.Nat.{ℕ}
 use Rattle.base.specs.Numbers as numbers
 use Rattle.trace.specs.declared.place.Place.{Place}
 use Rattle.trace.specs.Rules.{placeUnsound, blockShort, checkWrong, blockWrong, fieldWrong}
-use Rattle.trace.specs.Judged.{Outcome, noMore, readOf, nextPlace, accepted, refused, taken, byField, judged}
+use Rattle.trace.specs.Judged.{BlockOutcome, noMore, readOf, nextPlace, accepted, refused, taken, byField, judged}
 
 -- what no number before 1 refuses
 pub record Passes (p : Place) (c : ℕ) (l : List ℕ) : Type 0 where
@@ -24,7 +24,8 @@ data First (p : Place) (c : ℕ) (l : List ℕ) : ℕ → Type 0 where
   is2 : placeUnsound p c ≡ true → First p c l numbers.notSound
   is9 : placeUnsound p c ≡ false → blockShort p l ≡ true → First p c l numbers.blockShort
   is7 : placeUnsound p c ≡ false → blockShort p l ≡ false → checkWrong p l ≡ true → First p c l numbers.checkWrong
-  is8 : placeUnsound p c ≡ false → blockShort p l ≡ false → checkWrong p l ≡ false → blockWrong p c l ≡ true → First p c l numbers.blockWrong
+  is8 : placeUnsound p c ≡ false → blockShort p l ≡ false → checkWrong p l ≡ false → blockWrong p c l ≡ true
+      → First p c l numbers.blockWrong
   is1 : Passes p c l → (k : ℕ) → fieldWrong p l ≡ some k → First p c l numbers.configurationWrong
   is0 : Passes p c l → fieldWrong p l ≡ none → First p c l numbers.done
 
@@ -62,11 +63,11 @@ module _ (p : Place) (c : ℕ) (l : List ℕ) where
       go true = refl
       go false = refl
 
-  number : {o : Outcome} → judged p c l ≡ o → judged p c l .number ≡ o .number
-  number q = ap (λ (o : Outcome). o .number) q
+  number : {o : BlockOutcome} → judged p c l ≡ o → judged p c l .number ≡ o .number
+  number q = ap (λ (o : BlockOutcome). o .number) q
 
-  field : {o : Outcome} → judged p c l ≡ o → judged p c l .field ≡ o .field
-  field q = ap (λ (o : Outcome). o .field) q
+  field : {o : BlockOutcome} → judged p c l ≡ o → judged p c l .field ≡ o .field
+  field q = ap (λ (o : BlockOutcome). o .field) q
 
   -- the number given is that of the first rule that holds
   first : First p c l (judged p c l .number)
@@ -130,7 +131,8 @@ module _ (p : Place) (c : ℕ) (l : List ℕ) where
       go (is8 a b d e) = (a, b, d, e)
 
   -- 1, "configuration value out of range; the first such field, 1..7"
-  pub one-exactly : (k : ℕ) → ((judged p c l .number ≡ numbers.configurationWrong) × (judged p c l .field ≡ k)) ↔ (Passes p c l × (fieldWrong p l ≡ some k))
+  pub one-exactly : (k : ℕ) → ((judged p c l .number ≡ numbers.configurationWrong) × (judged p c l .field ≡ k)) ↔
+      (Passes p c l × (fieldWrong p l ≡ some k))
   one-exactly k = (λ r. go (rule 1 (r .0)) (r .1), λ r. let q = by1 (r .0) k (r .1) in (number q, field q))
     where
       go : First p c l 1 → judged p c l .field ≡ k → Passes p c l × (fieldWrong p l ≡ some k)
@@ -152,7 +154,7 @@ module _ (p : Place) (c : ℕ) (l : List ℕ) where
   refused-stays refusal = go (judged p c l .number) refl first
     where
       stays : (n k : ℕ) → judged p c l ≡ refused n k p → (judged p c l .place ≡ p) × (judged p c l .read ≡ none)
-      stays n k q = (ap (λ (o : Outcome). o .place) q, ap (λ (o : Outcome). o .read) q)
+      stays n k q = (ap (λ (o : BlockOutcome). o .place) q, ap (λ (o : BlockOutcome). o .read) q)
 
       go : (n : ℕ) → judged p c l .number ≡ n → First p c l n → (judged p c l .place ≡ p) × (judged p c l .read ≡ none)
       go _ e (is2 a) = stays 2 0 (by2 a)

@@ -65,7 +65,8 @@ module _ (p : Place) (c : ℕ) (l : List ℕ) where
 
   held-ok : countWrong l ≡ false → kindOf l ≡ 2 → (leb 1 (heldOf l) ≡ true) × (leb (heldOf l) 7 ≡ true)
   unfolding countWrong
-  held-ok e k = both (leb 1 (heldOf l)) (leb (heldOf l) 7) (not-false (leb 1 (heldOf l) && leb (heldOf l) 7) (rw (eq-eqb (kindOf l) 2 k) at e))
+  held-ok e k = both (leb 1 (heldOf l)) (leb (heldOf l) 7) (not-false (leb 1 (heldOf l) && leb (heldOf l) 7)
+      (rw (eq-eqb (kindOf l) 2 k) at e))
 
   none-ok : countWrong l ≡ false → (kindOf l ≡ 2 → ⊥) → heldOf l ≡ 0
   unfolding countWrong

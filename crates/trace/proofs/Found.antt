@@ -14,16 +14,19 @@ use Rattle.trace.specs.declared.place.Place.{Place}
 use Rattle.trace.specs.Blocks.{kindOf, heldOf, configOf}
 use Rattle.trace.specs.Place.{mayHold, withoutCycles, goodPlace}
 use Rattle.trace.specs.Rules.{placeUnsound, blockShort, checkWrong, blockWrong, fieldWrong}
-use Rattle.trace.specs.Judged.{Outcome, aConfiguration, someCycles, theEnd, noMore, accepted, refused, nextPlace, readOf, taken, byField, judged}
+use Rattle.trace.specs.Judged.{BlockOutcome, aConfiguration, someCycles, theEnd, noMore, accepted, refused, nextPlace, readOf, taken}
+use Rattle.trace.specs.Judged.{byField, judged}
 use Rattle.trace.proofs.Formed.{Formed, formed-is}
 use Rattle.trace.proofs.Passing.{sound-good, whole-long}
 use Rattle.trace.proofs.Ways.{form-right}
 
 module _ (p : Place) (c : ℕ) (l : List ℕ) where
-  pub data FoundAs : Outcome → Type 0 where
+  pub data FoundAs : BlockOutcome → Type 0 where
     refuses : (n k : ℕ) → FoundAs (refused n k p)
-    configures : p .configured ≡ false → illegalField (configOf l) ≡ none → eqb (kindOf l) 2 ≡ false → FoundAs (accepted (aConfiguration (configOf l)) (nextPlace p l))
-    holds : p .configured ≡ true → 512 ≤ length l → heldOf l ≤ 7 → eqb (kindOf l) 2 ≡ true → FoundAs (accepted (someCycles (heldOf l)) (nextPlace p l))
+    configures : p .configured ≡ false → illegalField (configOf l) ≡ none → eqb (kindOf l) 2 ≡ false
+        → FoundAs (accepted (aConfiguration (configOf l)) (nextPlace p l))
+    holds : p .configured ≡ true → 512 ≤ length l → heldOf l ≤ 7 → eqb (kindOf l) 2 ≡ true
+        → FoundAs (accepted (someCycles (heldOf l)) (nextPlace p l))
     ends : p .configured ≡ true → eqb (kindOf l) 2 ≡ false → FoundAs (accepted theEnd (nextPlace p l))
     is-over : p .configured ≡ true → FoundAs (accepted noMore p)
 
@@ -31,19 +34,23 @@ module _ (p : Place) (c : ℕ) (l : List ℕ) where
     -- a configuration block's values are in range
     configuration-legal : eqb (kindOf l) 1 ≡ true → illegalField (configOf l) ≡ none
     unfolding fieldWrong
-    configuration-legal k = ap (λ (b : Bool). cond b (illegalField (configOf l)) none) (sym (ap (λ (b : Bool). not b && eqb (kindOf l) 1) e ∙ k)) ∙ legal
+    configuration-legal k = ap (λ (b : Bool). cond b (illegalField (configOf l)) none)
+        (sym (ap (λ (b : Bool). not b && eqb (kindOf l) 1) e ∙ k)) ∙ legal
 
     read-as : FoundAs (accepted (readOf l) (nextPlace p l))
     unfolding readOf
     read-as = first (eqb (kindOf l) 1) refl
       where
-        second : (kindOf l ≡ 1 → ⊥) → (b : Bool) → eqb (kindOf l) 2 ≡ b → FoundAs (accepted (cond b (someCycles (heldOf l)) theEnd) (nextPlace p l))
+        second : (kindOf l ≡ 1 → ⊥) → (b : Bool) → eqb (kindOf l) 2 ≡ b
+            → FoundAs (accepted (cond b (someCycles (heldOf l)) theEnd) (nextPlace p l))
         second n true q = holds (f .follows n) (whole-long p l e whole) (f .held-to (eqb-true (kindOf l) 2 q)) q
         second n false q = ends (f .follows n) q
 
         first : (b : Bool) → eqb (kindOf l) 1 ≡ b
-            → FoundAs (accepted (cond b (aConfiguration (configOf l)) (cond (eqb (kindOf l) 2) (someCycles (heldOf l)) theEnd)) (nextPlace p l))
-        first true q = configures (f .opens (eqb-true (kindOf l) 1 q)) (configuration-legal q) (ap (λ (k : ℕ). eqb k 2) (eqb-true (kindOf l) 1 q))
+            → FoundAs (accepted (cond b (aConfiguration (configOf l)) (cond (eqb (kindOf l) 2) (someCycles (heldOf l)) theEnd))
+            (nextPlace p l))
+        first true q = configures (f .opens (eqb-true (kindOf l) 1 q)) (configuration-legal q)
+            (ap (λ (k : ℕ). eqb k 2) (eqb-true (kindOf l) 1 q))
         first false q = second (eqb-false (kindOf l) 1 q) (eqb (kindOf l) 2) refl
 
   -- the end block comes after the configuration block
@@ -54,7 +61,9 @@ module _ (p : Place) (c : ℕ) (l : List ℕ) where
       go : (b : Bool) → p .configured ≡ b → b ≡ true
       go true q = refl
       go false q =
-          absurd (true≢false (sym g ∙ ap (λ (b : Bool). cond b (leb (withoutCycles p) (p .number) && mayHold (p .number - withoutCycles p) c) (not (p .ended) && eqb (p .number) 0 && eqb c 0)) q
+          absurd (true≢false (sym g ∙ ap (λ (b : Bool). cond b
+          (leb (withoutCycles p) (p .number) && mayHold (p .number - withoutCycles p) c)
+          (not (p .ended) && eqb (p .number) 0 && eqb c 0)) q
           ∙ ap (λ (b : Bool). not b && eqb (p .number) 0 && eqb c 0) e))
 
   taken-as : goodPlace p c ≡ true → blockShort p l ≡ false → blockWrong p c l ≡ false → fieldWrong p l ≡ none → FoundAs (taken p l)
@@ -69,7 +78,8 @@ module _ (p : Place) (c : ℕ) (l : List ℕ) where
   unfolding judged byField
   found-as = two (placeUnsound p c) refl
     where
-      one : goodPlace p c ≡ true → blockShort p l ≡ false → blockWrong p c l ≡ false → (o : Option ℕ) → fieldWrong p l ≡ o → FoundAs (byField o p l)
+      one : goodPlace p c ≡ true → blockShort p l ≡ false → blockWrong p c l ≡ false → (o : Option ℕ) → fieldWrong p l ≡ o
+          → FoundAs (byField o p l)
       one g s w (some k) n = refuses numbers.configurationWrong k
       one g s w none n = taken-as g s w n
 
@@ -79,19 +89,22 @@ module _ (p : Place) (c : ℕ) (l : List ℕ) where
       eight g s false w = one g s w (fieldWrong p l) refl
 
       seven : goodPlace p c ≡ true → blockShort p l ≡ false → (b : Bool)
-          → FoundAs (cond b (refused numbers.checkWrong 0 p) (cond (blockWrong p c l) (refused numbers.blockWrong 0 p) (byField (fieldWrong p l) p l)))
+          → FoundAs (cond b (refused numbers.checkWrong 0 p) (cond (blockWrong p c l) (refused numbers.blockWrong 0 p)
+          (byField (fieldWrong p l) p l)))
       seven g s true = refuses numbers.checkWrong 0
       seven g s false = eight g s (blockWrong p c l) refl
 
       nine : goodPlace p c ≡ true → (b : Bool) → blockShort p l ≡ b
           → FoundAs (cond b (refused numbers.blockShort 0 p)
-          (cond (checkWrong p l) (refused numbers.checkWrong 0 p) (cond (blockWrong p c l) (refused numbers.blockWrong 0 p) (byField (fieldWrong p l) p l))))
+          (cond (checkWrong p l) (refused numbers.checkWrong 0 p)
+          (cond (blockWrong p c l) (refused numbers.blockWrong 0 p) (byField (fieldWrong p l) p l))))
       nine g true s = refuses numbers.blockShort 0
       nine g false s = seven g s (checkWrong p l)
 
       two : (b : Bool) → placeUnsound p c ≡ b
           → FoundAs (cond b (refused numbers.notSound 0 p)
           (cond (blockShort p l) (refused numbers.blockShort 0 p)
-          (cond (checkWrong p l) (refused numbers.checkWrong 0 p) (cond (blockWrong p c l) (refused numbers.blockWrong 0 p) (byField (fieldWrong p l) p l)))))
+          (cond (checkWrong p l) (refused numbers.checkWrong 0 p)
+          (cond (blockWrong p c l) (refused numbers.blockWrong 0 p) (byField (fieldWrong p l) p l)))))
       two true q = refuses numbers.notSound 0
       two false q = nine (sound-good p c q) (blockShort p l) refl

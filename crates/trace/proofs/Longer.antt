@@ -11,7 +11,7 @@ use lib.Dec.{eqb, leb, ltb, lit<}
 use lib.ListN.{length, take, drop}
 use lib.Seq.{length-take-le, getD-take}
 use borrow.Author.Tests.{lt-ltb, le-ltb, le-leb}
-use Rattle.base.specs.Sizes.{illegalField}
+use Rattle.base.specs.Sizes.{illegalField, sized}
 use Rattle.base.specs.Numbers as numbers
 use Rattle.base.proofs.Lists.{take-inside}
 use Rattle.base.proofs.Search.{every-ext}
@@ -20,7 +20,8 @@ use Rattle.trace.specs.Bytes.{byte, bigEndian, zeros}
 use Rattle.trace.specs.Blocks.{kindOf, heldOf, configOf, cycleStart, bodyEnd}
 use Rattle.trace.specs.Cycles.{Slice, part, shows, cyclePart}
 use Rattle.trace.specs.Check.{weighed, checkOf, checkHolds}
-use Rattle.trace.specs.Rules.{placeUnsound, blockShort, checkWrong, kindWrong, numberWrong, countWrong, unusedWrong, orderWrong, totalWrong, bytesFollow, formWrong, blockWrong, fieldWrong}
+use Rattle.trace.specs.Rules.{placeUnsound, blockShort, checkWrong, kindWrong, numberWrong, countWrong, unusedWrong, orderWrong}
+use Rattle.trace.specs.Rules.{totalWrong, bytesFollow, formWrong, blockWrong, fieldWrong}
 use Rattle.trace.specs.Judged.{aConfiguration, someCycles, theEnd, noMore, accepted, refused, readOf, taken, byField, judged}
 use Rattle.trace.proofs.Parts.{shown-below-7}
 use Rattle.trace.proofs.Spelling.{spell-ext}
@@ -37,15 +38,8 @@ module _ (x y : List ℕ) (same : (i : ℕ) → i < 512 → byte x i ≡ byte y 
   config : configOf x ≡ configOf y
   config =
       λ i.
-      record {
-        ports = same 8 (lit< tt) i;
-        vcs = same 9 (lit< tt) i;
-        depth = same 10 (lit< tt) i;
-        downstream = same 11 (lit< tt) i;
-        forward = same 12 (lit< tt) i;
-        back = same 13 (lit< tt) i;
-        arbiter = same 14 (lit< tt) i;
-      }
+      sized (same 8 (lit< tt) i) (same 9 (lit< tt) i) (same 10 (lit< tt) i) (same 11 (lit< tt) i) (same 12 (lit< tt) i)
+      (same 13 (lit< tt) i) (same 14 (lit< tt) i)
 
   spelled : (from n : ℕ) → from + n ≤ 512 → bigEndian x from n ≡ bigEndian y from n
   spelled from n h = spell-ext x y from n (λ i g. same (from + i) (omega arith))
@@ -68,7 +62,8 @@ module _ (x y : List ℕ) (same : (i : ℕ) → i < 512 → byte x i ≡ byte y 
 
   unused : unusedWrong x ≡ unusedWrong y
   unfolding unusedWrong
-  unused = ap₂ (λ (a b : Bool). not (a && b)) (blank 6 8 (omega arith)) (ap (λ (n : ℕ). zeros x n 510) ends ∙ blank (bodyEnd y) 510 (omega arith))
+  unused = ap₂ (λ (a b : Bool). not (a && b)) (blank 6 8 (omega arith))
+      (ap (λ (n : ℕ). zeros x n 510) ends ∙ blank (bodyEnd y) 510 (omega arith))
 
   form : (p : Place) (c : ℕ) → formWrong p c x ≡ formWrong p c y
   unfolding formWrong kindWrong numberWrong countWrong orderWrong totalWrong
@@ -77,7 +72,8 @@ module _ (x y : List ℕ) (same : (i : ℕ) → i < 512 → byte x i ≡ byte y 
       not (leb 1 (kind i) && leb (kind i) 3)
       || (not (eqb (spelled 2 4 (omega arith) i) (p .number))
       || (cond (eqb (kind i) 2) (not (leb 1 (held i) && leb (held i) 7)) (not (eqb (held i) 0))
-      || (unused i || (cond (eqb (kind i) 1) (p .configured) (not (p .configured)) || eqb (kind i) 3 && not (eqb (spelled 8 4 (omega arith) i) c)))))
+      || (unused i || (cond (eqb (kind i) 1) (p .configured) (not (p .configured)) || eqb (kind i) 3
+      && not (eqb (spelled 8 4 (omega arith) i) c)))))
 
   field : (p : Place) → fieldWrong p x ≡ fieldWrong p y
   unfolding fieldWrong
@@ -150,6 +146,7 @@ first-512-shown s k h = go (shows (s .bytes) k) refl
     shown : List ℕ → Slice
     shown bytes = record { memory = s .memory; start = 8 + 64 * k + s .start; bytes = bytes }
 
-    go : (b : Bool) → shows l k ≡ b → cond (shows l k) (part s (8 + 64 * k) 64) (part s 0 0) ≡ cond (shows (take 512 l) k) (part cut (8 + 64 * k) 64) (part cut 0 0)
+    go : (b : Bool) → shows l k ≡ b → cond (shows l k) (part s (8 + 64 * k) 64) (part s 0 0)
+        ≡ cond (shows (take 512 l) k) (part cut (8 + 64 * k) 64) (part cut 0 0)
     go true e = rw (e, shows-512 l h k ∙ e) (ap shown (sym (part-512 l h k (shown-below-7 l k e))))
     go false e = rw (e, shows-512 l h k ∙ e)

@@ -18,7 +18,8 @@ use Rattle.trace.specs.Judged.{someCycles, theEnd, accepted, judged}
 use Rattle.trace.proofs.Formed.{Formed, formed-holds}
 use Rattle.trace.proofs.Order.{judged-read}
 use Rattle.trace.proofs.Reading.{read-cycles, read-end}
-use Rattle.trace.proofs.Sealed.{sealed, length-sealed, sealed-holds, sealed-head, sealed-blank, sealed-bytes, known-bytes, more-bytes, spelt, spelt-bytes, spelt-number}
+use Rattle.trace.proofs.Sealed.{sealed, length-sealed, sealed-holds, sealed-head, sealed-blank, sealed-bytes, known-bytes}
+use Rattle.trace.proofs.Sealed.{more-bytes, spelt, spelt-bytes, spelt-number}
 use Rattle.trace.proofs.Spelling.{spell-ext}
 
 -- before the end block, with the configuration read
@@ -51,7 +52,8 @@ module _ (n c h : ℕ) (small : n < 4294967296) (from : 1 ≤ h) (to : h ≤ 7) 
 
   pub cycles-bytes : AreBytes cyclesBlock
   unfolding cyclesBlock cyclesHead
-  cycles-bytes = sealed-bytes (cyclesHead n h) (more-bytes 2 (h ∷ spelt n (0 ∷ 0 ∷ [])) (lit< tt) (more-bytes h (spelt n (0 ∷ 0 ∷ [])) (omega arith) (spelt-bytes n (0 ∷ 0 ∷ []) small (known-bytes (0 ∷ 0 ∷ []) refl))))
+  cycles-bytes = sealed-bytes (cyclesHead n h) (more-bytes 2 (h ∷ spelt n (0 ∷ 0 ∷ [])) (lit< tt)
+      (more-bytes h (spelt n (0 ∷ 0 ∷ [])) (omega arith) (spelt-bytes n (0 ∷ 0 ∷ []) small (known-bytes (0 ∷ 0 ∷ []) refl))))
 
   cycles-byte : (i : ℕ) → i < 8 → byte cyclesBlock i ≡ byte (cyclesHead n h) i
   unfolding cyclesBlock
@@ -197,7 +199,8 @@ module _ (n c : ℕ) (small : n < 4294967296) (few : c < 4294967296) where
         total = λ q. end-total;
       }
 
-  pub end-judged : goodPlace (at n) c ≡ true → judged (at n) c endBlock ≡ accepted theEnd (record { number = n + 1; configured = true; ended = true })
+  pub end-judged : goodPlace (at n) c ≡ true → judged (at n) c endBlock
+      ≡ accepted theEnd (record { number = n + 1; configured = true; ended = true })
   end-judged g =
       judged-read (at n) c endBlock g refl end-long end-check (formed-holds (at n) c endBlock end-formed)
       ∙ sym (read-end (at n) endBlock refl (λ q. absurd (omega (arith, end-kind))) (λ q. absurd (omega (arith, end-kind))))

@@ -90,7 +90,8 @@ module _ (x y : List ℕ) (k : ℕ) (xs : AreBytes x) (ys : AreBytes y) (change 
         where
           summed-alike : sum 510 (weighed x) ≡ sum 510 (weighed y)
           summed-alike =
-              sum-ext 510 (weighed x) (weighed y) (λ i g. ap (λ (v : ℕ). (i + 1) * v) (change .same i (omega arith) (λ q. absurd (omega arith))))
+              sum-ext 510 (weighed x) (weighed y) (λ i g. ap (λ (v : ℕ). (i + 1) * v)
+              (change .same i (omega arith) (λ q. absurd (omega arith))))
 
           alike : (byte x 510 ≡ byte y 510) × (byte x 511 ≡ byte y 511)
           alike = two-inj x y 510 xs ys (sym ex ∙ ap (λ (s : ℕ). s % 65521) summed-alike ∙ ey)
@@ -123,9 +124,10 @@ module _ (x y : List ℕ) (k : ℕ) (xs : AreBytes x) (ys : AreBytes y) (change 
       → judged p c y ≡ refused numbers.checkWrong 0 p
   changed-gives-7 p c g e h k = judged-check p c y g e h (changed-fails k)
 
-  -- "Any one byte changed, in a block whose check holds, must be noticed.", of the judge alone: a block passes its check at a place before the
-  -- end block, that is, judging it there gives none of 2, 9 and 7; then judging the changed block there gives 7
-  pub one-byte-noticed : (p : Place) (c : ℕ) → p .ended ≡ false → PassesCheck p c x → length y ≡ length x → judged p c y ≡ refused numbers.checkWrong 0 p
+  -- "Any one byte changed, in a block whose check holds, must be noticed.", of the judge alone: a block passes its check at a place
+  -- before the end block, that is, judging it there gives none of 2, 9 and 7; then judging the changed block there gives 7
+  pub one-byte-noticed : (p : Place) (c : ℕ) → p .ended ≡ false → PassesCheck p c x → length y ≡ length x → judged p c y
+      ≡ refused numbers.checkWrong 0 p
   one-byte-noticed p c e pass same =
       let h : 512 ≤ length x = passes-whole p c x e pass in
       changed-gives-7 p c (passes-good p c x pass) e (omega arith) (passes-check p c x e pass)

@@ -38,7 +38,8 @@ shown-64 s k e =
 not-shown : (l : List ℕ) (k : ℕ) → heldOf l ≤ k → shows l k ≡ false
 unfolding shows
 not-shown l k h =
-    ap (λ (b : Bool). leb 512 (length l) && leb (heldOf l) 7 && b) (le-ltb k (heldOf l) h) ∙ and-false (leb 512 (length l) && leb (heldOf l) 7)
+    ap (λ (b : Bool). leb 512 (length l) && leb (heldOf l) 7 && b) (le-ltb k (heldOf l) h)
+    ∙ and-false (leb 512 (length l) && leb (heldOf l) 7)
 
 -- "After the last cycle held .. it shows an empty part"
 pub after-last-empty : (s : Slice) (k : ℕ) → heldOf (s .bytes) ≤ k → cyclePart s k .bytes ≡ []

@@ -38,7 +38,8 @@ unfolding goodPlace
 good-is p c e = go (p .configured) refl e
   where
     go : (b : Bool) → p .configured ≡ b
-        → cond b (leb (withoutCycles p) (p .number) && mayHold (p .number - withoutCycles p) c) (not (p .ended) && eqb (p .number) 0 && eqb c 0) ≡ true
+        → cond b (leb (withoutCycles p) (p .number) && mayHold (p .number - withoutCycles p) c)
+        (not (p .ended) && eqb (p .number) 0 && eqb c 0) ≡ true
         → Good p c
     go true k d =
         let q = both (leb (withoutCycles p) (p .number)) (mayHold (p .number - withoutCycles p) c) d in

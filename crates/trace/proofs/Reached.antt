@@ -17,7 +17,7 @@ use Rattle.trace.specs.Bytes.{AreBytes, bigEndian}
 use Rattle.trace.specs.Blocks.{configOf, bodyEnd}
 use Rattle.trace.specs.Place.{start, mayHold, goodPlace}
 use Rattle.trace.specs.Rules.{placeUnsound, kindWrong, numberWrong, countWrong, orderWrong, totalWrong, fieldWrong}
-use Rattle.trace.specs.Judged.{Outcome, Read, aConfiguration, someCycles, theEnd, accepted, readOf, taken, byField, judged}
+use Rattle.trace.specs.Judged.{BlockOutcome, Read, aConfiguration, someCycles, theEnd, accepted, readOf, taken, byField, judged}
 use Rattle.trace.specs.Way.{cyclesIn, Way, begins}
 use Rattle.trace.proofs.Places.{Held, Good, nothing, after, good-is, good-number}
 use Rattle.trace.proofs.Runs.{judged-run}
@@ -30,8 +30,9 @@ use Rattle.trace.proofs.Made.{at, cyclesBlock, cycles-bytes, cycles-jud
 go-on : (p : Place) (c : ℕ) (l : List ℕ) (r : Read) (q : Place) → Way p c → AreBytes l → judged p c l ≡ accepted r q
     → c + cyclesIn (some r) ≤ cycleLimit → Way q (c + cyclesIn (some r))
 go-on p c l r q w b e limit =
-    subst (λ (o : Outcome). Way (o .place) (c + cyclesIn (o .read))) e
-    (way-judged p c l w b (ap (λ (o : Outcome). o .number) e) (subst (λ (o : Outcome). c + cyclesIn (o .read) ≤ cycleLimit) (sym e) limit))
+    subst (λ (o : BlockOutcome). Way (o .place) (c + cyclesIn (o .read))) e
+    (way-judged p c l w b (ap (λ (o : BlockOutcome). o .number) e)
+    (subst (λ (o : BlockOutcome). c + cyclesIn (o .read) ≤ cycleLimit) (sym e) limit))
 
 -- ---- the configuration block
 
@@ -43,11 +44,13 @@ unfolding ones
 ones-bytes = known-bytes ones refl
 
 ones-judged : judged start 0 (sealed ones) ≡ accepted (aConfiguration (configOf (sealed ones))) (at 1)
-unfolding ones sealed bigEndian bodyEnd mayHold goodPlace kindWrong numberWrong countWrong orderWrong totalWrong fieldWrong inRange firstIllegal illegalField readOf taken byField
+unfolding ones sealed bigEndian bodyEnd mayHold goodPlace kindWrong numberWrong countWrong orderWrong totalWrong fieldWrong inRange
+    firstIllegal illegalField readOf taken byField
 ones-judged = judged-run start 0 (sealed ones) 495 refl refl (lit≤ tt) (sealed-holds ones (lit≤ tt)) refl refl refl refl
 
 configured : Way (at 1) 0
-configured = go-on start 0 (sealed ones) (aConfiguration (configOf (sealed ones))) (at 1) begins (sealed-bytes ones ones-bytes) ones-judged (lit≤ tt)
+configured = go-on start 0 (sealed ones) (aConfiguration (configOf (sealed ones))) (at 1) begins
+    (sealed-bytes ones ones-bytes) ones-judged (lit≤ tt)
 
 -- h cycles more
 one-more : (n c h : ℕ) → n < 4294967296 → 1 ≤ h → h ≤ 7 → Way (at n) c → c + h ≤ cycleLimit → Way (at (n + 1)) (c + h)
@@ -100,8 +103,10 @@ pub good-reached : (p : Place) (c : ℕ) → goodPlace p c ≡ true → Way p c
 good-reached p c g = go (good-is p c g)
   where
     there : (n : ℕ) → p .configured ≡ true → Held n c → (b : Bool) → p .ended ≡ b → p .number ≡ n + cond b 2 1 → Way p c
-    there n k h true d e = subst (λ (q : Place). Way q c) (λ i. record { number = sym e i; configured = sym k i; ended = sym d i }) (end-reached n c h)
-    there n k h false d e = subst (λ (q : Place). Way q c) (λ i. record { number = sym e i; configured = sym k i; ended = sym d i }) (cycles-reached n c h)
+    there n k h true d e = subst (λ (q : Place). Way q c) (λ i. record { number = sym e i; configured = sym k i; ended = sym d i })
+        (end-reached n c h)
+    there n k h false d e = subst (λ (q : Place). Way q c) (λ i. record { number = sym e i; configured = sym k i; ended = sym d i })
+        (cycles-reached n c h)
 
     go : Good p c → Way p c
     go (nothing k d n z) = subst₂ Way (λ i. record { number = sym n i; configured = sym k i; ended = sym d i }) (sym z) begins

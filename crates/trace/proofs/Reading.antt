@@ -15,7 +15,8 @@ use Rattle.trace.specs.Judged.{aConfiguration, someCycles, theEnd, accep
 
 module _ (p : Place) (l : List ℕ) (before : p .ended ≡ false) where
   -- a configuration value out of range
-  pub read-illegal : (k : ℕ) → kindOf l ≡ 1 → illegalField (configOf l) ≡ some k → refused numbers.configurationWrong k p ≡ byField (fieldWrong p l) p l
+  pub read-illegal : (k : ℕ) → kindOf l ≡ 1 → illegalField (configOf l) ≡ some k → refused numbers.configurationWrong k p
+      ≡ byField (fieldWrong p l) p l
   unfolding fieldWrong byField
   read-illegal k e f = rw (before, eq-eqb (kindOf l) 1 e, f)
 

@@ -39,7 +39,8 @@ blank-zeros : (l : List ℕ) (from n to : ℕ) → from + n ≡ to → blank n (
 unfolding zeros
 blank-zeros l from n to t e =
     all-blank from to l
-    (λ i h g. let d : from + (i - from) ≡ i = omega arith in ap (byte l) (sym d) ∙ sym (getD-drop from l (i - from) 0) ∙ blank-byte n (drop from l) e (i - from) (omega arith))
+    (λ i h g. let d : from + (i - from) ≡ i = omega arith in ap (byte l) (sym d) ∙ sym (getD-drop from l (i - from) 0)
+    ∙ blank-byte n (drop from l) e (i - from) (omega arith))
 
 -- ---- a block before the end block whose check holds, and whose clauses do
 

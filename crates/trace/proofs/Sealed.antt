@@ -25,15 +25,18 @@ sealed head = unsealed head ++ (checkOf (unsealed head) / 256 ∷ checkOf (unsea
 
 module _ (head : List ℕ) (fits : length head ≤ 510) where
   long : length (unsealed head) ≡ 510
-  long = length-append head (replicate (510 - length head) 0) ∙ ap (λ (n : ℕ). length head + n) (length-replicate (510 - length head) 0) ∙ add-sub-of-le fits
+  long = length-append head (replicate (510 - length head) 0) ∙ ap (λ (n : ℕ). length head + n) (length-replicate (510 - length head) 0)
+      ∙ add-sub-of-le fits
 
   pub length-sealed : length (sealed head) ≡ 512
   unfolding sealed
-  length-sealed = length-append (unsealed head) (checkOf (unsealed head) / 256 ∷ checkOf (unsealed head) % 256 ∷ []) ∙ ap (λ (n : ℕ). n + 2) long
+  length-sealed = length-append (unsealed head) (checkOf (unsealed head) / 256 ∷ checkOf (unsealed head) % 256 ∷ [])
+      ∙ ap (λ (n : ℕ). n + 2) long
 
   before : (i : ℕ) → i < 510 → byte (sealed head) i ≡ byte (unsealed head) i
   unfolding sealed
-  before i h = List·getD-append (unsealed head) (checkOf (unsealed head) / 256 ∷ checkOf (unsealed head) % 256 ∷ []) 0 i (subst (λ (n : ℕ). i < n) (sym long) h)
+  before i h = List·getD-append (unsealed head) (checkOf (unsealed head) / 256 ∷ checkOf (unsealed head) % 256 ∷ []) 0 i
+      (subst (λ (n : ℕ). i < n) (sym long) h)
 
   stored : (i : ℕ) → byte (sealed head) (510 + i) ≡ byte (checkOf (unsealed head) / 256 ∷ checkOf (unsealed head) % 256 ∷ []) i
   unfolding sealed

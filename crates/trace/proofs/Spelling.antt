@@ -34,7 +34,8 @@ two-inj x y from xs ys e =
     (omega (arith, xs (from + 1), ys (from + 1)), omega (arith, xs (from + 1), ys (from + 1)))
 
 -- the number goes by its bytes
-pub spell-ext : (x y : List ℕ) (from n : ℕ) → ((i : ℕ) → i < n → byte x (from + i) ≡ byte y (from + i)) → bigEndian x from n ≡ bigEndian y from n
+pub spell-ext : (x y : List ℕ) (from n : ℕ) → ((i : ℕ) → i < n → byte x (from + i) ≡ byte y (from + i)) → bigEndian x from n
+    ≡ bigEndian y from n
 unfolding bigEndian
 spell-ext x y from zero same = refl
 spell-ext x y from (suc n) same =

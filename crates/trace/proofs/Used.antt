@@ -15,7 +15,8 @@ pub count-end : (l : List ℕ) → countWrong l ≡ false → bodyEnd l ≤ 456
 unfolding countWrong bodyEnd
 count-end l e = first (eqb (kindOf l) 1)
   where
-    second : (b : Bool) → cond b (not (leb 1 (heldOf l) && leb (heldOf l) 7)) (not (eqb (heldOf l) 0)) ≡ false → cond b (cycleStart (heldOf l)) 12 ≤ 456
+    second : (b : Bool) → cond b (not (leb 1 (heldOf l) && leb (heldOf l) 7)) (not (eqb (heldOf l) 0)) ≡ false
+        → cond b (cycleStart (heldOf l)) 12 ≤ 456
     second true d =
         let held = both (leb 1 (heldOf l)) (leb (heldOf l) 7) (not-false (leb 1 (heldOf l) && leb (heldOf l) 7) d) in
         let most = leb-true (heldOf l) 7 (held .1) in

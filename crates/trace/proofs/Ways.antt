@@ -16,7 +16,7 @@ use Rattle.trace.specs.Bytes.{AreBytes}
 use Rattle.trace.specs.Blocks.{kindOf, heldOf, configOf}
 use Rattle.trace.specs.Place.{start, withoutCycles, goodPlace}
 use Rattle.trace.specs.Rules.{placeUnsound, bytesFollow, blockWrong, formWrong}
-use Rattle.trace.specs.Judged.{Outcome, aConfiguration, someCycles, theEnd, noMore, accepted, nextPlace, readOf, taken, judged}
+use Rattle.trace.specs.Judged.{BlockOutcome, aConfiguration, someCycles, theEnd, noMore, accepted, nextPlace, readOf, taken, judged}
 use Rattle.trace.specs.Way.{cyclesIn, Way, begins, goes-on}
 use Rattle.trace.proofs.Exactness.{two-exactly, accepted-exactly, accepted-taken}
 use Rattle.trace.proofs.Formed.{Formed, formed-is}
@@ -27,7 +27,7 @@ unfolding goodPlace
 start-good = refl
 
 -- the outcome leads to a good place
-abbrev LeadsOn : ℕ → Outcome → Type 0
+abbrev LeadsOn : ℕ → BlockOutcome → Type 0
 LeadsOn c o = c + cyclesIn (o .read) ≤ cycleLimit → goodPlace (o .place) (c + cyclesIn (o .read)) ≡ true
 
 -- before the end block the rule of 8 is the one on its form
@@ -66,13 +66,15 @@ module _ (p : Place) (c : ℕ) (l : List ℕ) (e : p .ended ≡ false) (f : Form
       let least = h .least in
       let most = h .most in
       let two : _≡_ {A = ℕ} (cond (eqb (kindOf l) 3) 2 1) 2 = ap others-at (eq-eqb (kindOf l) 3 k) in
-      good-holds (nextPlace p l) (c + 0) (after n refl (omega (arith, others)) (record { least = omega arith; most = omega arith; limit = limit }))
+      good-holds (nextPlace p l) (c + 0) (after n refl (omega (arith, others))
+      (record { least = omega arith; most = omega arith; limit = limit }))
 
   after-block : Good p c → LeadsOn c (accepted (readOf l) (nextPlace p l))
   unfolding readOf
   after-block g = first (eqb (kindOf l) 1) refl
     where
-      second : (kindOf l ≡ 1 → ⊥) → (b : Bool) → eqb (kindOf l) 2 ≡ b → LeadsOn c (accepted (cond b (someCycles (heldOf l)) theEnd) (nextPlace p l))
+      second : (kindOf l ≡ 1 → ⊥) → (b : Bool) → eqb (kindOf l) 2 ≡ b
+          → LeadsOn c (accepted (cond b (someCycles (heldOf l)) theEnd) (nextPlace p l))
       second n true q = after-cycles (eqb-true (kindOf l) 2 q) g
       second n false q = after-end (last (f .kind-from) (f .kind-to) n (eqb-false (kindOf l) 2 q)) g
         where
@@ -83,7 +85,8 @@ module _ (p : Place) (c : ℕ) (l : List ℕ) (e : p .ended ≡ false) (f : Form
               omega arith
 
       first : (b : Bool) → eqb (kindOf l) 1 ≡ b
-          → LeadsOn c (accepted (cond b (aConfiguration (configOf l)) (cond (eqb (kindOf l) 2) (someCycles (heldOf l)) theEnd)) (nextPlace p l))
+          → LeadsOn c (accepted (cond b (aConfiguration (configOf l)) (cond (eqb (kindOf l) 2) (someCycles (heldOf l)) theEnd))
+          (nextPlace p l))
       first true q = after-configuration (eqb-true (kindOf l) 1 q) g
       first false q = second (eqb-false (kindOf l) 1 q) (eqb (kindOf l) 2) refl
 
@@ -118,5 +121,6 @@ pub way-judged : (p : Place) (c : ℕ) (l : List ℕ) → Way p c → AreBytes l
 way-judged p c l w b e limit =
     let r = accepted-exactly p c l .0 e in
     let same = accepted-taken p c l e in
-    subst (λ (o : Outcome). Way (o .place) (c + cyclesIn (o .read))) (sym same)
-    (goes-on p c l w b (r .0 .whole) (r .0 .checked) (r .0 .formed) (r .1) (subst (λ (o : Outcome). c + cyclesIn (o .read) ≤ cycleLimit) same limit))
+    subst (λ (o : BlockOutcome). Way (o .place) (c + cyclesIn (o .read))) (sym same)
+    (goes-on p c l w b (r .0 .whole) (r .0 .checked) (r .0 .formed) (r .1)
+    (subst (λ (o : BlockOutcome). c + cyclesIn (o .read) ≤ cycleLimit) same limit))

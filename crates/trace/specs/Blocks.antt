@@ -4,7 +4,9 @@ use mathlib.Core.Bool.{cond}
 use mathlib.Core.List.{List}
 use Prim.Native.Nat.{ℕ, _+_, _*_}
 use lib.Dec.{eqb}
+use lib.ListN.{take, drop}
 use Rattle.base.specs.declared.config.Config.{Config}
+use Rattle.base.specs.Sizes.{sized}
 use Rattle.trace.specs.Bytes.{byte, bigEndian}
 
 -- "512 bytes."
@@ -45,15 +47,7 @@ checkStart = 510
 -- "Configuration body: P, V, D, E, F, B, arbiter code at bytes 8..14."
 abbrev pub configOf : List ℕ → Config
 configOf block =
-    record {
-      ports = byte block 8;
-      vcs = byte block 9;
-      depth = byte block 10;
-      downstream = byte block 11;
-      forward = byte block 12;
-      back = byte block 13;
-      arbiter = byte block 14;
-    }
+    sized (byte block 8) (byte block 9) (byte block 10) (byte block 11) (byte block 12) (byte block 13) (byte block 14)
 
 -- "End body: accepted cycles, bytes 8..11 big-endian."
 abbrev pub totalOf : List ℕ → ℕ
@@ -65,6 +59,10 @@ cycleLength = 64
 
 abbrev pub cycleStart : ℕ → ℕ
 cycleStart k = bodyStart + cycleLength * k
+
+-- the bytes of cycle k
+abbrev pub partAt : List ℕ → ℕ → List ℕ
+partAt block k = take cycleLength (drop (cycleStart k) block)
 
 -- the first byte after those that the kind's body uses: 8..14, the cycles held, or 8..11
 unfoldable pub bodyEnd : List ℕ → ℕ

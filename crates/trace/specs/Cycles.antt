@@ -1,5 +1,5 @@
--- "The block reader .. shows the next cycle as a part of the caller's block, not a copy. After the last cycle held, or over a lent part that
--- is under 512 bytes or has byte 1 above 7, it shows an empty part" (01, blocks)
+-- "The block reader .. shows the next cycle as a part of the caller's block, not a copy. After the last cycle held, or over a lent part
+-- that is under 512 bytes or has byte 1 above 7, it shows an empty part" (01, blocks)
 -- Assumes nothing.
 use mathlib.Core.Bool.{Bool, cond, _&&_}
 use mathlib.Core.List.{List}

@@ -11,7 +11,8 @@ use Rattle.base.specs.Sizes.{illegalField}
 use Rattle.trace.specs.declared.place.Place.{Place}
 use Rattle.trace.specs.Bytes.{zeros}
 use Rattle.trace.specs.Check.{checkHolds}
-use Rattle.trace.specs.Blocks.{blockLength, kindOf, configuration, cycles, end, heldOf, mostHeld, numberOf, checkStart, configOf, totalOf, bodyEnd}
+use Rattle.trace.specs.Blocks.{blockLength, kindOf, configuration, cycles, end, heldOf, mostHeld, numberOf, checkStart, configOf}
+use Rattle.trace.specs.Blocks.{totalOf, bodyEnd}
 use Rattle.trace.specs.Place.{goodPlace}
 
 -- 2, "state not sound": no file leads to the place
@@ -42,7 +43,8 @@ countWrong block = cond (eqb (kindOf block) cycles) (not (leb 1 (heldOf block) &
 unfoldable pub unusedWrong : List ℕ → Bool
 unusedWrong block = not (zeros block 6 8 && zeros block (bodyEnd block) checkStart)
 
--- "A file is one configuration block, any number of cycle blocks, one end block.": a configuration block after the first block, or another as the first
+-- "A file is one configuration block, any number of cycle blocks, one end block.": a configuration block after the first block, or
+-- another as the first
 unfoldable pub orderWrong : Place → List ℕ → Bool
 orderWrong p block = cond (eqb (kindOf block) configuration) (p .configured) (not (p .configured))
 

@@ -9,7 +9,7 @@ ghost use Prim.Native.Nat.{_-_, _^_, _≤_, _<_};
 ghost use lib.ListN.{length};
 ghost use Rattle.trace.specs.Blocks.{configOf};
 ghost use Rattle.trace.specs.Rules.{fieldWrong};
-ghost use Rattle.trace.specs.Judged.{outcomeOf, refused, byField, judged};
+ghost use Rattle.trace.specs.Judged.{blockOutcome, refused, byField, judged};
 
 // What a block is found to be. A refusal has its number, and with 1 the field, else 0.
 pub enum Found {
@@ -27,7 +27,7 @@ pub struct Answer {
 }
 
 fn refused(place: Place, number: u8, field: u8) -> Answer
-    ensures { λ r. ⌜ outcomeOf r ≡ refused number field place ⌝ }
+    ensures { λ r. ⌜ blockOutcome r ≡ refused number field place ⌝ }
 {
     Answer {
         place,
@@ -54,7 +54,7 @@ fn configuration(block: &[u8]) -> base::Config
 // What a block holds that no rule before 1 refuses, and the place after it.
 fn read(place: Place, block: &[u8]) -> Answer
     requires { ⌜ (place .ended ≡ false) × (place .number < 2 ^ 32 - 1) × (512 ≤ length (now block)) ⌝ }
-    ensures { λ r. ⌜ outcomeOf r ≡ byField (fieldWrong place (now (block .entry))) place (now (block .entry)) ⌝ }
+    ensures { λ r. ⌜ blockOutcome r ≡ byField (fieldWrong place (now (block .entry))) place (now (block .entry)) ⌝ }
 {
     let kind = block[0];
     let next = Place {
@@ -86,7 +86,7 @@ fn read(place: Place, block: &[u8]) -> Answer
 
 // The next block at a place, where so many cycles are accepted. An empty block is the end of the input.
 pub fn judge(place: Place, cycles: u64, block: &[u8]) -> Answer
-    ensures { λ r. ⌜ outcomeOf r ≡ judged place cycles (now (block .entry)) ⌝ }
+    ensures { λ r. ⌜ blockOutcome r ≡ judged place cycles (now (block .entry)) ⌝ }
 {
     if !place::is_good(place, cycles) {
         return refused(place, base::NOT_SOUND, 0);

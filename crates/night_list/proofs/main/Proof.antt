@@ -7,10 +7,10 @@ use Rattle.night_list.proofs.main.Statement.{statement}
 use Rattle.night_list.proofs.main.Tie as tie
 
 abbrev Inv-loop : tie.InvT-loop
-Inv-loop buf₀ out₀ night₀ parts₀ buf out night parts = (length buf ≡ 65536) × (length out ≡ 65536)
+Inv-loop buf₀ out₀ run₀ parts₀ buf out run parts = (length buf ≡ 65536) × (length out ≡ 65536)
 
 abbrev μ-loop : tie.MeasureT-loop
-μ-loop buf₀ out₀ night₀ parts₀ buf out night parts = parts
+μ-loop buf₀ out₀ run₀ parts₀ buf out run parts = parts
 
 pub main-spec : {M : Type 1} → statement M
 main-spec =

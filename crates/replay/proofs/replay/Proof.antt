@@ -9,13 +9,39 @@ use Rattle.replay.proofs.replay.Tie as tie
 use Rattle.floor.proofs.fill.Reads as fill-reads
 use Rattle.floor.proofs.pass.Reads as pass-reads
 use Rattle.replay.proofs.length.Reads as length-reads
-use Rattle.standing.proofs.Night.start.Reads as start-reads
+use Rattle.runs.proofs.Run.start.Reads as start-reads
 
 abbrev Inv-loop : tie.InvT-loop
-Inv-loop head₀ buf₀ out₀ night₀ parts₀ head buf out night parts = (length head ≡ length head₀) × (length buf ≡ length buf₀) × (length out ≡ length out₀)
+Inv-loop head₀ buf₀ out₀ run₀ parts₀ head buf out run parts = (length head ≡ length head₀) × (length buf ≡ length buf₀)
+    × (length out ≡ length out₀)
 
 abbrev μ-loop : tie.MeasureT-loop
-μ-loop head₀ buf₀ out₀ night₀ parts₀ head buf out night parts = parts
+μ-loop head₀ buf₀ out₀ run₀ parts₀ head buf out run parts = parts
+
+-- The places, each from the one behind it.
+abbrev before-in-loop : tie.In-loop Inv-loop μ-loop → tie.At-loop Inv-loop μ-loop
+before-in-loop c = c .before
+
+abbrev before-fill : tie.After-fill Inv-loop μ-loop → tie.In-loop Inv-loop μ-loop
+before-fill c = c .before .before
+
+abbrev before-head : tie.After-head Inv-loop μ-loop → tie.After-fill Inv-loop μ-loop
+before-head c = c .before
+
+abbrev before-length : tie.After-length Inv-loop μ-loop → tie.After-head Inv-loop μ-loop
+before-length c = c .before .before .before .before .before .before
+
+abbrev before-fill2 : tie.After-fill2 Inv-loop μ-loop → tie.After-head Inv-loop μ-loop
+before-fill2 c = before-length (c .before .before .before)
+
+abbrev before-pass : tie.After-pass Inv-loop μ-loop → tie.After-head Inv-loop μ-loop
+before-pass c = before-fill2 (c .before .before .before .before .before .before .before .before)
+
+abbrev before-run : tie.After-run Inv-loop μ-loop → tie.After-head Inv-loop μ-loop
+before-run c = before-pass (c .before .before .before .before)
+
+abbrev before-start2 : tie.After-start2 Inv-loop μ-loop → tie.After-head Inv-loop μ-loop
+before-start2 c = before-pass (c .before .before .before .before)
 
 -- src/main.rt:13:9
 start-requires : tie.Need-start-requires Inv-loop μ-loop
@@ -131,19 +157,35 @@ start-requires-2 c κs = search needs
 
 -- src/main.rt:15:5
 loop-less : tie.Need-loop-less Inv-loop μ-loop
-loop-less c = let t = c .before .before .before .before .before .before .before .before .before .before .before .before .before .before .before .before .before .before .before .before .before .before .before .before .loop-test .taken in omega (arith, t)
+loop-less c =
+    let at-in-loop = before-fill (before-head (before-start2 c)) in
+    let t = at-in-loop .loop-test .taken in
+    omega (arith, t)
 
 -- src/main.rt:15:5
 loop-again : tie.Need-loop-again Inv-loop μ-loop
-loop-again c = let i = c .before .before .before .before .before .before .before .before .before .before .before .before .before .before .before .before .before .before .before .before .before .before .before .before .before .loop .inv in (let a = i .0 in let h = c .before .before .before .before .before .before .before .before .before .before .before .before .before .before .before .before .before .before .before .before .before .head in let f = c .before .before .before .before .before .before .before .before .before .before .before .before .before .before .before .before .before .before .before .before .before .before .fill in search needs, let b = i .1 in search needs, let d = i .2 in search needs)
+loop-again c =
+    let i = before-in-loop (before-fill (before-head (before-start2 c))) .loop .inv in (
+      let a = i .0 in let h = before-start2 c .head in let f = before-head (before-start2 c) .fill in search needs,
+      let b = i .1 in search needs,
+      let d = i .2 in search needs,
+    )
 
 -- src/main.rt:15:5
 loop-less-2 : tie.Need-loop-less-2 Inv-loop μ-loop
-loop-less-2 c = let t = c .before .before .before .before .before .before .before .before .before .before .before .before .before .before .before .before .before .before .before .before .before .before .before .before .loop-test .taken in omega (arith, t)
+loop-less-2 c =
+    let at-in-loop = before-fill (before-head (before-run c)) in
+    let t = at-in-loop .loop-test .taken in
+    omega (arith, t)
 
 -- src/main.rt:15:5
 loop-again-2 : tie.Need-loop-again-2 Inv-loop μ-loop
-loop-again-2 c = let i = c .before .before .before .before .before .before .before .before .before .before .before .before .before .before .before .before .before .before .before .before .before .before .before .before .before .loop .inv in (let a = i .0 in let h = c .before .before .before .before .before .before .before .before .before .before .before .before .before .before .before .before .before .before .before .before .before .head in let f = c .before .before .before .before .before .before .before .before .before .before .before .before .before .before .before .before .before .before .before .before .before .before .fill in search needs, let b = i .1 in search needs, let d = i .2 in search needs)
+loop-again-2 c =
+    let i = before-in-loop (before-fill (before-head (before-run c))) .loop .inv in (
+      let a = i .0 in let h = before-run c .head in let f = before-head (before-run c) .fill in search needs,
+      let b = i .1 in search needs,
+      let d = i .2 in search needs,
+    )
 
 -- src/main.rt:12:1
 same-length-10 : tie.Need-same-length-10 Inv-loop μ-loop

@@ -6,7 +6,8 @@ use Rattle.store.proofs.push.Statement.{statement}
 use Rattle.store.proofs.push.Tie as tie
 
 returns : tie.Need-returns
-returns c = push-beyond (c .before .args .store .now) (c .before .args .channel) (c .before .args .queued) (c .before .args .flit) (c .if1 .taken)
+returns c = push-beyond (c .before .args .store .now) (c .before .args .channel) (c .before .args .queued) (c .before .args .flit)
+    (c .if1 .taken)
 
 returns-2 : tie.Need-returns-2
 returns-2 c =

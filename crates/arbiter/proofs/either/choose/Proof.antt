@@ -6,7 +6,7 @@ use native.Mathlib.Omega.{arith}
 use borrow.Author.Tests.{not-true, not-false}
 use borrow.Author.Needs.{needs}
 use Rattle.arbiter.specs.Requests.{asks}
-use Rattle.arbiter.specs.Arbiter.{usable}
+use Rattle.arbiter.specs.Arbiter.{usable, arbiterOf}
 use Rattle.arbiter.proofs.ByKind.{known-is, usable-is, masked-lt, choice-unusable, choice-turn, choice-champion}
 use Rattle.arbiter.proofs.either.choose.Statement.{statement}
 use Rattle.arbiter.proofs.either.choose.Tie as tie
@@ -15,14 +15,15 @@ is-usable-requires : tie.Need-is-usable-requires
 is-usable-requires c κs = search needs
 
 ok : (c : tie.Else1)
-    → usable (c .before .before .before .args .places) (c .before .before .before .args .code) (c .before .before .before .args .n) (c .before .before .before .args .pointer) ≡ true
+    → usable (c .before .before .before .args .places) (c .before .before .before .args .code) (c .before .before .before .args .n)
+    (c .before .before .before .args .pointer) ≡ true
 ok c = sym (c .before .is-usable .ensures) ∙ not-false (c .before .is-usable .result) (c .if1 .left)
 
 returns : tie.Need-returns
 unfolding asks
 returns c =
     let a = c .before .before .before .args in
-    choice-unusable (a .places) (a .code) (a .n) (a .requests .set) (record { pointer = a .pointer; rows = a .rows .now })
+    choice-unusable (a .places) (a .code) (a .n) (a .requests .set) (arbiterOf (a .pointer) (a .rows .now))
     (sym (c .before .is-usable .ensures) ∙ not-true (c .before .is-usable .result) (c .if1 .taken))
 
 below-requires : tie.Need-below-requires
@@ -55,7 +56,8 @@ returns-2 c =
     let k = known-is (a .places) (a .code) (a .n) (q .0) in
     c .choose .ensures
     ∙ rw (c .before .before .below .ensures)
-    (choice-turn (a .places) (a .code) (a .n) (a .requests .set) (record { pointer = a .pointer; rows = a .rows .now }) u (c .before .if2 .taken))
+    (choice-turn (a .places) (a .code) (a .n) (a .requests .set) (arbiterOf (a .pointer) (a .rows .now)) u
+    (c .before .if2 .taken))
 
 choose-requires-2 : tie.Need-choose-requires-2
 choose-requires-2 c κs =
@@ -78,7 +80,8 @@ returns-3 c =
     let k = known-is (a .places) (a .code) (a .n) (q .0) in
     c .choose2 .ensures
     ∙ rw (c .before .before .below .ensures)
-    (choice-champion (a .places) (a .code) (a .n) (a .requests .set) (record { pointer = a .pointer; rows = a .rows .now }) u (c .before .if2 .left))
+    (choice-champion (a .places) (a .code) (a .n) (a .requests .set) (arbiterOf (a .pointer) (a .rows .now)) u
+    (c .before .if2 .left))
 
 pub choose-spec : {M : Type 1} → statement M
 choose-spec =

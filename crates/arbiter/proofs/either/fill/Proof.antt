@@ -30,7 +30,8 @@ order-requires : tie.Need-order-requires
 order-requires c κs =
     let a = c .before .before .before .before .before .args in
     let p = c .before .before .before .before .before .pre in
-    let k = known-is (a .places) (a .code) (a .n) (sym (c .before .before .before .is-known .ensures) ∙ not-false (c .before .before .before .is-known .result) (c .before .before .if1 .left)) in
+    let k = known-is (a .places) (a .code) (a .n) (sym (c .before .before .before .is-known .ensures)
+    ∙ not-false (c .before .before .before .is-known .result) (c .before .before .if1 .left)) in
     let long : length (a .rows .now) ≡ a .places = ap length (p .1) ∙ length-replicate (a .places) 0 in
     (omega arith, omega arith)
 
@@ -39,12 +40,15 @@ same-length c = search needs
 
 returns-3 : tie.Need-returns-3
 returns-3 c =
-    let a = c .before .before .before .before .before .before .before .before .args in
-    let p = c .before .before .before .before .before .before .before .before .pre in
+    let start = c .before .before .before .before .before .before .before .before in
+    let at-is-known = c .before .before .before .before .before .before in
+    let a = start .args in
+    let p = start .pre in
     let long : length (a .rows .now) ≡ a .places = ap length (p .1) ∙ length-replicate (a .places) 0 in
     c .before .before .order .ensures ∙ ap (λ (k : ℕ). freshRows k (a .n)) long
-    ∙ fresh-order (a .places) (a .code) (a .n)
-    (sym (c .before .before .before .before .before .before .is-known .ensures) ∙ not-false (c .before .before .before .before .before .before .is-known .result) (c .before .before .before .before .before .if1 .left)) (c .before .before .before .before .if2 .left)
+    ∙ fresh-order (a .places) (a .code) (a .n) (sym (at-is-known .is-known .ensures)
+    ∙ not-false (at-is-known .is-known .result) (c .before .before .before .before .before .if1 .left))
+    (c .before .before .before .before .if2 .left)
 
 pub fill-spec : {M : Type 1} → statement M
 fill-spec =

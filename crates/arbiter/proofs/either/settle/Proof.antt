@@ -7,7 +7,7 @@ use Prim.Native.Nat.{ℕ}
 use native.Mathlib.Omega.{arith}
 use borrow.Author.Tests.{not-true, not-false}
 use borrow.Author.Needs.{needs}
-use Rattle.arbiter.specs.Arbiter.{usable}
+use Rattle.arbiter.specs.Arbiter.{usable, arbiterOf}
 use Rattle.arbiter.proofs.ByKind.{known-is, usable-is, moved-unusable, moved-nobody, moved-turn, moved-defeat}
 use Rattle.arbiter.proofs.either.settle.Statement.{statement}
 use Rattle.arbiter.proofs.either.settle.Tie as tie
@@ -16,19 +16,20 @@ is-usable-requires : tie.Need-is-usable-requires
 is-usable-requires c κs = search needs
 
 ok : (c : tie.Else1)
-    → usable (c .before .before .before .args .places) (c .before .before .before .args .code) (c .before .before .before .args .n) (c .before .before .before .args .pointer) ≡ true
+    → usable (c .before .before .before .args .places) (c .before .before .before .args .code) (c .before .before .before .args .n)
+    (c .before .before .before .args .pointer) ≡ true
 ok c = sym (c .before .is-usable .ensures) ∙ not-false (c .before .is-usable .result) (c .if1 .left)
 
 returns : tie.Need-returns
 returns c =
     let a = c .before .before .before .args in
-    moved-unusable (a .places) (a .code) (a .n) (a .w) (record { pointer = a .pointer; rows = a .rows .now })
+    moved-unusable (a .places) (a .code) (a .n) (a .w) (arbiterOf (a .pointer) (a .rows .now))
     (sym (c .before .is-usable .ensures) ∙ not-true (c .before .is-usable .result) (c .if1 .taken))
 
 returns-2 : tie.Need-returns-2
 returns-2 c =
     let a = c .before .before .before .before .args in
-    moved-nobody (a .places) (a .code) (a .n) (a .w) (record { pointer = a .pointer; rows = a .rows .now }) (c .if2 .taken)
+    moved-nobody (a .places) (a .code) (a .n) (a .w) (arbiterOf (a .pointer) (a .rows .now)) (c .if2 .taken)
 
 next-requires : tie.Need-next-requires
 next-requires c κs = search needs
@@ -36,8 +37,8 @@ next-requires c κs = search needs
 returns-3 : tie.Need-returns-3
 returns-3 c =
     let a = c .before .before .before .before .before .before .args in
-    ap (λ (p : ℕ). record { pointer = p; rows = a .rows .now }) (c .next .ensures)
-    ∙ moved-turn (a .places) (a .code) (a .n) (a .w) (record { pointer = a .pointer; rows = a .rows .now }) (ok (c .before .before .before))
+    ap (λ (p : ℕ). arbiterOf p (a .rows .now)) (c .next .ensures)
+    ∙ moved-turn (a .places) (a .code) (a .n) (a .w) (arbiterOf (a .pointer) (a .rows .now)) (ok (c .before .before .before))
     (c .before .before .if2 .left) (c .before .if3 .taken)
 
 defeat-requires : tie.Need-defeat-requires
@@ -54,8 +55,8 @@ same-length c = search needs
 returns-4 : tie.Need-returns-4
 returns-4 c =
     let a = c .before .before .before .before .before .before .before .before .before .args in
-    ap (λ (l : List ℕ). record { pointer = a .pointer; rows = l }) (c .before .before .defeat .ensures)
-    ∙ moved-defeat (a .places) (a .code) (a .n) (a .w) (record { pointer = a .pointer; rows = a .rows .now })
+    ap (λ (l : List ℕ). arbiterOf (a .pointer) l) (c .before .before .defeat .ensures)
+    ∙ moved-defeat (a .places) (a .code) (a .n) (a .w) (arbiterOf (a .pointer) (a .rows .now))
     (ok (c .before .before .before .before .before .before)) (c .before .before .before .before .before .if2 .left)
     (c .before .before .before .before .if3 .left)
 

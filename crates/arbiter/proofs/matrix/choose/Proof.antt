@@ -70,7 +70,8 @@ loop-again c =
     let p = c .before .before .before .before .before .before .pre in
     let l = c .before .before .before .before .loop in
     rw (c .before .before .only .ensures)
-    (trying-less (a .n) (a .asking) (a .rows .now) (l .left) (p .0) (p .2) (l .inv) (omega (arith, c .before .before .before .loop-test .taken))
+    (trying-less (a .n) (a .asking) (a .rows .now) (l .left) (p .0) (p .2) (l .inv)
+    (omega (arith, c .before .before .before .loop-test .taken))
     (rw (c .before .before .only .ensures) at (c .if1 .left)))
 
 returns-2 : tie.Need-returns-2 Inv-loop μ-loop

@@ -19,7 +19,8 @@ abbrev μ-loop : tie.MeasureT-loop
 small : (c : tie.After-shared-slice-known Inv-loop μ-loop)
     → ones (getD (c .before .before .before .args .rows .now) (c .before .before .loop .i) 0) < 33
 small c =
-    let l = ones-le 32 (getD (c .before .before .before .args .rows .now) (c .before .before .loop .i) 0) (c .shared-slice-known .given (c .before .before .loop .i) .fits) in
+    let l = ones-le 32 (getD (c .before .before .before .args .rows .now) (c .before .before .loop .i) 0)
+    (c .shared-slice-known .given (c .before .before .loop .i) .fits) in
     omega arith
 
 loop-holds : tie.Need-loop-holds Inv-loop μ-loop
@@ -52,8 +53,11 @@ loop-less c = search needs
 loop-again : tie.Need-loop-again Inv-loop μ-loop
 loop-again c =
     let b = c .before .before .loop in
-    let a = c .before .before .before .args in
-    (search needs, ranked-more (a .n) (a .rows .now) (b .at) (b .i) (c .before .before .before .pre .1) (c .before .loop-test .taken) (small c) (b .inv .1))
+    let a = c .before .before .before .args in (
+      search needs,
+      ranked-more (a .n) (a .rows .now) (b .at) (b .i) (c .before .before .before .pre .1) (c .before .loop-test .taken)
+          (small c) (b .inv .1),
+    )
 
 returns : tie.Need-returns Inv-loop μ-loop
 returns c = let r = c .before .loop .inv .1 in (r .inside, λ i h. r .same i (omega arith))

@@ -61,7 +61,8 @@ returns-2 c =
     let l = c .before .before .before .before .before .loop in
     test-fails (a .n) (a .rows .now) (entry (r .result)) (r .ensures .0) (r .ensures .1) (l .rank)
     (c .before .before .before .before .loop-test .taken)
-    (λ link. c .if2 .taken (rw (c .before .before .before .only .ensures) (here-link (a .n) (a .rows .now) (entry (r .result)) (l .lower) (l .rank) (l .inv) link .1)))
+    (λ link. c .if2 .taken (rw (c .before .before .before .only .ensures)
+    (here-link (a .n) (a .rows .now) (entry (r .result)) (l .lower) (l .rank) (l .inv) link .1)))
 
 add-rank : tie.Need-add-rank Inv-loop μ-loop
 add-rank c = search needs
@@ -76,7 +77,8 @@ loop-again c =
     let l = c .before .before .before .before .before .loop in
     let own = c .before .before .before .only .ensures in
     rw own
-    (passed-more (a .n) (a .rows .now) (entry (r .result)) (l .lower) (l .rank) (c .before .before .before .before .loop-test .taken) (l .inv)
+    (passed-more (a .n) (a .rows .now) (entry (r .result)) (l .lower) (l .rank) (c .before .before .before .before .loop-test .taken)
+    (l .inv)
     (link-here (a .n) (a .rows .now) (entry (r .result)) (l .lower) (l .rank) (l .inv) (c .before .if1 .left) (rw own at (c .if2 .left))))
 
 all-requires : tie.Need-all-requires Inv-loop μ-loop
@@ -88,7 +90,8 @@ returns-3 c =
     let r = c .before .before .before .by-rank in
     let l = c .before .before .loop in
     rw (c .all .ensures)
-    (test-passed (a .n) (a .rows .now) (entry (r .result)) (r .ensures .0) (r .ensures .1) (l .lower) (l .rank) (c .before .loop-test .left) (l .inv))
+    (test-passed (a .n) (a .rows .now) (entry (r .result)) (r .ensures .0) (r .ensures .1) (l .lower) (l .rank)
+    (c .before .loop-test .left) (l .inv))
 
 pub is-total-spec : {M : Type 1} → statement M
 is-total-spec =

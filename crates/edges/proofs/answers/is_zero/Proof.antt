@@ -21,7 +21,8 @@ loop-again c =
     let l = c .before .before .before .loop in
     let a = c .before .before .before .before .before .args .bytes .now in (
       search needs,
-      grown-all 0 a (length a) (l .i) (omega arith) (omega arith) (c .both .result) (l .zero) _ (c .both .ensures) (l .inv .1) (numbers (getD a (l .i) 0) 0),
+      grown-all 0 a (length a) (l .i) (omega arith) (omega arith) (c .both .result) (l .zero) _ (c .both .ensures) (l .inv .1)
+          (numbers (getD a (l .i) 0) 0),
     )
 
 returns : tie.Need-returns Inv-loop μ-loop

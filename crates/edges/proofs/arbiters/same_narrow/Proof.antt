@@ -8,8 +8,9 @@ use Rattle.edges.proofs.arbiters.same_narrow.Tie as tie
 
 returns : tie.Need-returns
 returns c =
-    let x = c .before .before .before .before .before .before .before .before .args .a in
-    let y = c .before .before .before .before .before .before .before .before .args .b in
+    let start = c .before .before .before .before .before .before .before .before in
+    let x = start .args .a in
+    let y = start .args .b in
     narrow-tells x y (paired _ _ _ (c .both .ensures) (numbers (x .pointer) (y .pointer)) (c .before .rows .ensures))
 
 pub same-narrow-spec : {M : Type 1} → statement M

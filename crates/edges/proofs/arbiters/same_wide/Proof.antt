@@ -8,8 +8,9 @@ use Rattle.edges.proofs.arbiters.same_wide.Tie as tie
 
 returns : tie.Need-returns
 returns c =
-    let x = c .before .before .before .before .before .before .before .before .args .a in
-    let y = c .before .before .before .before .before .before .before .before .args .b in
+    let start = c .before .before .before .before .before .before .before .before in
+    let x = start .args .a in
+    let y = start .args .b in
     wide-tells x y (paired _ _ _ (c .both .ensures) (numbers (x .pointer) (y .pointer)) (c .before .rows .ensures))
 
 pub same-wide-spec : {M : Type 1} → statement M

@@ -21,7 +21,8 @@ returns-4 : tie.Need-returns-4
 returns-4 c =
     let b = c .before .before .before .before .before .before in
     let a = b .before .before .before in
-    bound-tells (a .before .before .args .a) (a .before .before .args .b) (a .a .given .0 .0) (b .b .given .0 .0) (c .both .result) (a .a .given .1)
+    bound-tells (a .before .before .args .a) (a .before .before .args .b) (a .a .given .0 .0) (b .b .given .0 .0) (c .both .result)
+    (a .a .given .1)
     (b .b .given .1) (c .both .ensures)
 
 pub same-binding-spec : {M : Type 1} → statement M

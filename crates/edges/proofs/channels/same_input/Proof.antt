@@ -8,12 +8,14 @@ use Rattle.edges.proofs.channels.same_input.Tie as tie
 
 returns : tie.Need-returns
 returns c =
-    let x = c .before .before .before .before .before .before .before .before .before .args .a in
-    let y = c .before .before .before .before .before .before .before .before .before .args .b in
-    input-tells x y
-    (paired _ _ _ (c .both3 .ensures) (c .before .same-binding .ensures)
+    let start = c .before .before .before .before .before .before .before .before .before in
+    let x = start .args .a in
+    let y = start .args .b in
+    input-tells x y (paired _ _ _ (c .both3 .ensures) (c .before .same-binding .ensures)
     (paired _ _ _ (c .before .before .both2 .ensures) (c .before .before .before .bit .ensures)
-    (paired _ _ _ (c .before .before .before .before .both .ensures) (numbers (x .credit) (y .credit)) (numbers (x .queued) (y .queued)))))
+    (paired _ _ _ (c .before .before .before .before .both .ensures) (numbers (x .credit) (y .credit))
+    (numbers (x .queued) (y .queued)))))
 
 pub same-input-spec : {M : Type 1} → statement M
-same-input-spec = tie.close (tie.spec (λ c κs. search needs) (λ c κs. search needs) (λ c κs. search needs) (λ c κs. search needs) (λ c κs. search needs) returns)
+same-input-spec = tie.close (tie.spec (λ c κs. search needs) (λ c κs. search needs) (λ c κs. search needs) (λ c κs. search needs)
+    (λ c κs. search needs) returns)

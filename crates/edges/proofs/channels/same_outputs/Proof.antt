@@ -25,7 +25,8 @@ loop-again c =
     let la : length a ≡ 32 = search needs in
     let lb : length b ≡ 32 = search needs in (
       search needs,
-      grown (freshOutput 0) a b (l .y) (omega arith) (omega arith) (c .both .result) (l .same) (c .before .same-output .result) (c .both .ensures) (l .inv .1)
+      grown (freshOutput 0) a b (l .y) (omega arith) (omega arith) (c .both .result) (l .same) (c .before .same-output .result)
+          (c .both .ensures) (l .inv .1)
           (c .before .same-output .ensures),
     )
 

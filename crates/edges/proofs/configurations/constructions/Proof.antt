@@ -10,12 +10,15 @@ use Rattle.edges.proofs.configurations.constructions.Tie as tie
 expect-requires : tie.Need-expect-requires
 expect-requires c κs =
     c .is-legal .ensures .1
-    (legal-field (c .before .fresh .result) (c .before .before .of-depth .result) (c .before .fresh .ensures) (ap illegalField (c .before .before .of-depth .ensures) ∙ sixteen))
+    (legal-field (c .before .fresh .result) (c .before .before .config .result) (c .before .fresh .ensures)
+    (ap illegalField (c .before .before .config .ensures) ∙ sixteen))
 
 expect-requires-2 : tie.Need-expect-requires-2
 expect-requires-2 c κs =
     c .is-sound .ensures
-    ∙ legal-sound (c .before .before .before .before .fresh .result) (c .before .before .before .before .before .of-depth .result) (c .before .before .before .before .fresh .ensures) (ap illegalField (c .before .before .before .before .before .of-depth .ensures) ∙ sixteen)
+    ∙ legal-sound (c .before .before .before .before .fresh .result) (c .before .before .before .before .before .config .result)
+    (c .before .before .before .before .fresh .ensures) (ap illegalField
+    (c .before .before .before .before .before .config .ensures) ∙ sixteen)
 
 pub constructions-spec : {M : Type 1} → statement M
 constructions-spec =

@@ -1,25 +1,39 @@
 -- `edges::cycles::last_cycle` meets its contract.
 -- Assumes nothing.
 use borrow.Author.Needs.{needs}
-use Rattle.state.proofs.SoundStates.{withCycle}
 use Rattle.edges.proofs.Limits.{last-verdict, last-router, last-reply}
 use Rattle.edges.proofs.cycles.last_cycle.Statement.{statement}
 use Rattle.edges.proofs.cycles.last_cycle.Tie as tie
 
+-- The places, each from the one behind it.
+abbrev before-step : tie.After-step → tie.After-turns
+before-step c = c .before .before
+
+abbrev before-same-router : tie.After-same-router → tie.After-step
+before-same-router c = c .before .before .before .before .before
+
+abbrev before-is-empty : tie.After-is-empty → tie.After-same-router
+before-is-empty c = c .before .before .before
+
 expect-requires : tie.Need-expect-requires
-unfolding withCycle
-expect-requires c κs = c .is-accepted .ensures .1 (last-verdict (c .before .before .before .turns .result) (c .before .before .before .turns .ensures) (c .before .step .result) (c .before .step .ensures))
+expect-requires c κs =
+    let at-turns = before-step (c .before) in
+    c .is-accepted .ensures .1 (last-verdict (at-turns .turns .result) (at-turns .turns .ensures) (c .before .step .result)
+    (c .before .step .ensures))
 
 expect-requires-2 : tie.Need-expect-requires-2
-unfolding withCycle
 expect-requires-2 c κs =
-    c .same-router .ensures .1
-    (last-router (c .before .before .before .before .before .before .before .turns .result) (c .before .before .before .before .before .before .before .turns .ensures) (c .before .before .before .before .before .step .result) (c .before .before .before .before .before .step .ensures) (c .before .before .turns2 .result)
-    (c .before .before .turns2 .ensures))
+    let at-step = before-same-router c in
+    let at-turns = before-step at-step in
+    c .same-router .ensures .1 (last-router (at-turns .turns .result) (at-turns .turns .ensures) (at-step .step .result)
+    (at-step .step .ensures) (c .before .before .turns2 .result) (c .before .before .turns2 .ensures))
 
 expect-requires-3 : tie.Need-expect-requires-3
-unfolding withCycle
-expect-requires-3 c κs = c .is-empty .ensures .1 (last-reply (c .before .before .before .before .before .before .before .before .before .before .turns .result) (c .before .before .before .before .before .before .before .before .before .before .turns .ensures) (c .before .before .before .before .before .before .before .before .step .result) (c .before .before .before .before .before .before .before .before .step .ensures))
+expect-requires-3 c κs =
+    let at-step = before-same-router (before-is-empty c) in
+    let at-turns = before-step at-step in
+    c .is-empty .ensures .1 (last-reply (at-turns .turns .result) (at-turns .turns .ensures) (at-step .step .result)
+    (at-step .step .ensures))
 
 pub last-cycle-spec : {M : Type 1} → statement M
 last-cycle-spec =

@@ -13,7 +13,8 @@ returns c = apart isAccepted (ap isAccepted (c .enum-told .given .1)) refl
 returns-2 : tie.Need-returns-2
 returns-2 c =
     let a = c .before .before .before .before .before .before .args in
-    refused-tells (a .verdict) (c .before .before .before .before .verdict .given .0 .0) (record { number = a .number; port = a .port }) (c .both .result) (c .before .before .before .before .verdict .given .1)
+    refused-tells (a .verdict) (c .before .before .before .before .verdict .given .0 .0) (record { number = a .number; port = a .port })
+    (c .both .result) (c .before .before .before .before .verdict .given .1)
     (c .both .ensures)
 
 pub is-refusal-spec : {M : Type 1} → statement M

@@ -23,7 +23,8 @@ loop-again c =
     let b = c .before .before .before .before .before .before .before .before .args .b .now in (
       search needs,
       l .inv .1,
-      grown 0 a b (l .i) (omega arith) (omega arith) (c .both .result) (l .same) _ (c .both .ensures) (l .inv .2) (numbers (getD a (l .i) 0) (getD b (l .i) 0)),
+      grown 0 a b (l .i) (omega arith) (omega arith) (c .both .result) (l .same) _ (c .both .ensures) (l .inv .2)
+          (numbers (getD a (l .i) 0) (getD b (l .i) 0)),
     )
 
 returns-2 : tie.Need-returns-2 Inv-loop μ-loop

@@ -13,15 +13,18 @@ use Rattle.edges.proofs.writer.credits.Statement.{statement}
 use Rattle.edges.proofs.writer.credits.Tie as tie
 
 cycle-line-requires : tie.Need-cycle-line-requires
-unfolding inRange valuesOf allInRange printable letterOf glyph decimalWithin decimal spaced print text lacksRoom put written byPort creditLine flitLine cycleLines
+unfolding inRange valuesOf allInRange printable letterOf glyph decimalWithin decimal spaced print text lacksRoom put written byPort
+    creditLine flitLine cycleLines
 cycle-line-requires c κs = computed _ _ _ refl refl refl refl refl
 
 cycle-line-requires-2 : tie.Need-cycle-line-requires-2
-unfolding inRange valuesOf allInRange printable letterOf glyph decimalWithin decimal spaced print text lacksRoom put written byPort creditLine flitLine cycleLines
+unfolding inRange valuesOf allInRange printable letterOf glyph decimalWithin decimal spaced print text lacksRoom put written byPort
+    creditLine flitLine cycleLines
 cycle-line-requires-2 c κs = computed _ _ _ refl refl refl refl refl
 
 cycle-line-requires-3 : tie.Need-cycle-line-requires-3
-unfolding inRange valuesOf allInRange printable letterOf glyph decimalWithin decimal spaced print text lacksRoom put written byPort creditLine flitLine cycleLines
+unfolding inRange valuesOf allInRange printable letterOf glyph decimalWithin decimal spaced print text lacksRoom put written byPort
+    creditLine flitLine cycleLines
 cycle-line-requires-3 c κs = computed _ _ _ refl refl refl refl refl
 
 pub credits-spec : {M : Type 1} → statement M

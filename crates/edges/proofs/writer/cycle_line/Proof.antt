@@ -14,7 +14,8 @@ answered-requires : tie.Need-answered-requires
 answered-requires c κs =
     let s = c .before .before .before .before .before .before in
     outcome-answers _ _ (s .args .number) (s .args .line .now)
-    (c .before .before .write-cycle .ensures ∙ ap (λ (r : Reply). written (replicate 376 0) 0 (cycleLines (s .args .cycle) r)) (c .before .before .before .one-credit .ensures)) (s .pre)
+    (c .before .before .write-cycle .ensures ∙ ap (λ (r : Reply). written (replicate 376 0) 0 (cycleLines (s .args .cycle) r))
+    (c .before .before .before .one-credit .ensures)) (s .pre)
 
 pub cycle-line-spec : {M : Type 1} → statement M
 cycle-line-spec =

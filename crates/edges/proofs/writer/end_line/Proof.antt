@@ -6,7 +6,9 @@ use Rattle.edges.proofs.writer.end_line.Statement.{statement}
 use Rattle.edges.proofs.writer.end_line.Tie as tie
 
 answered-requires : tie.Need-answered-requires
-answered-requires c κs = outcome-answers _ _ (c .before .before .before .before .before .args .number) (c .before .before .before .before .before .args .line .now) (c .before .before .write-end .ensures) (c .before .before .before .before .before .pre)
+answered-requires c κs =
+    let start = c .before .before .before .before .before in
+    outcome-answers _ _ (start .args .number) (start .args .line .now) (c .before .before .write-end .ensures) (start .pre)
 
 pub end-line-spec : {M : Type 1} → statement M
 end-line-spec =

@@ -10,7 +10,8 @@ use Rattle.edges.proofs.writer.one_credit.Tie as tie
 
 returns : tie.Need-returns
 returns c =
-    ap (λ (r : Reply). record { senders = set (r .senders) 7 (record { reached = Vc (c .before .args .vc) }); outputs = r .outputs }) (c .empty .ensures)
+    ap (λ (r : Reply). record { senders = set (r .senders) 7 (record { reached = Vc (c .before .args .vc) }); outputs = r .outputs })
+    (c .empty .ensures)
 
 pub one-credit-spec : {M : Type 1} → statement M
 one-credit-spec =

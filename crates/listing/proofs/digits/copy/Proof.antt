@@ -12,7 +12,8 @@ use Rattle.listing.proofs.digits.copy.Statement.{statement}
 use Rattle.listing.proofs.digits.copy.Tie as tie
 
 abbrev Inv-loop : tie.InvT-loop
-Inv-loop out₀ at digits zeros next₀ i₀ out next i = (i ≤ 10) × (next + zeros ≡ at + i) × (length out ≡ length out₀) × (sets out next (drop i digits) ≡ sets out₀ at (drop zeros digits))
+Inv-loop out₀ at digits zeros next₀ i₀ out next i = (i ≤ 10) × (next + zeros ≡ at + i) × (length out ≡ length out₀)
+    × (sets out next (drop i digits) ≡ sets out₀ at (drop zeros digits))
 
 abbrev μ-loop : tie.MeasureT-loop
 μ-loop out₀ at digits zeros next₀ i₀ out next i = 10 - i
@@ -40,7 +41,8 @@ loop-again c = (
   omega arith,
   omega arith,
   simp length-set (c .before .before .loop .inv .2),
-  rest-stored (c .before .before .loop .out) (c .before .before .loop .next) (c .before .before .before .args .digits .now) (c .before .before .loop .i) (omega arith) ∙ c .before .before .loop .inv .3,
+  rest-stored (c .before .before .loop .out) (c .before .before .loop .next) (c .before .before .before .args .digits .now)
+      (c .before .before .loop .i) (omega arith) ∙ c .before .before .loop .inv .3,
 )
 
 same-length : tie.Need-same-length Inv-loop μ-loop

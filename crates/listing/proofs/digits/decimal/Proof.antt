@@ -26,7 +26,8 @@ returns : tie.Need-returns
 returns c =
     let a = c .before .before .before .before .before .before .before .before .args in
     let copied = c .before .before .copy in
-    let shown : drop (c .before .before .before .zeros .result) (c .before .before .before .before .before .before .ten .result) ≡ decimal (a .n) =
+    let shown : drop (c .before .before .before .zeros .result) (c .before .before .before .before .before .before .ten .result)
+    ≡ decimal (a .n) =
     ap (drop (c .before .before .before .zeros .result)) (c .before .before .before .before .before .before .ten .ensures)
     ∙ c .before .before .before .zeros .ensures .stands (search needs) in (
       laid-as (copied .ensures) shown,

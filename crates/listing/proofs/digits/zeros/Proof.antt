@@ -26,16 +26,20 @@ returns-6 : tie.Need-returns-6
 returns-6 c = spelled-by 5 4 (c .before .before .before .before .before .before .args .n) refl (λ g. omega arith) (inr (omega arith))
 
 returns-7 : tie.Need-returns-7
-returns-7 c = spelled-by 6 3 (c .before .before .before .before .before .before .before .args .n) refl (λ g. omega arith) (inr (omega arith))
+returns-7 c = spelled-by 6 3 (c .before .before .before .before .before .before .before .args .n) refl (λ g. omega arith)
+    (inr (omega arith))
 
 returns-8 : tie.Need-returns-8
-returns-8 c = spelled-by 7 2 (c .before .before .before .before .before .before .before .before .args .n) refl (λ g. omega arith) (inr (omega arith))
+returns-8 c = spelled-by 7 2 (c .before .before .before .before .before .before .before .before .args .n) refl (λ g. omega arith)
+    (inr (omega arith))
 
 returns-9 : tie.Need-returns-9
-returns-9 c = spelled-by 8 1 (c .before .before .before .before .before .before .before .before .before .args .n) refl (λ g. omega arith) (inr (omega arith))
+returns-9 c = spelled-by 8 1 (c .before .before .before .before .before .before .before .before .before .args .n) refl
+    (λ g. omega arith) (inr (omega arith))
 
 returns-10 : tie.Need-returns-10
-returns-10 c = spelled-by 9 0 (c .before .before .before .before .before .before .before .before .before .args .n) refl (λ g. omega arith) (inr (omega arith))
+returns-10 c = spelled-by 9 0 (c .before .before .before .before .before .before .before .before .before .args .n) refl
+    (λ g. omega arith) (inr (omega arith))
 
 pub zeros-spec : {M : Type 1} → statement M
 zeros-spec =

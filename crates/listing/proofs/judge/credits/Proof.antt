@@ -47,7 +47,8 @@ unfolding printable
 loop-again c =
     let a = c .before .before .before .before .before .args in
     let i = c .before .before .before .before .loop .i in
-    let here : printable (creditLine (a .cycle) (a .t2) i) ≡ true = ap printable (no-credit (a .cycle) (a .t2) i (c .enum-told .given .1)) in
+    let here : printable (creditLine (a .cycle) (a .t2) i) ≡ true = ap printable
+    (no-credit (a .cycle) (a .t2) i (c .enum-told .given .1)) in
     (omega arith, printable-more (creditLine (a .cycle) (a .t2)) i (c .before .before .before .before .loop .inv .1) here)
 
 credit-requires : tie.Need-credit-requires Inv-loop μ-loop
@@ -58,7 +59,9 @@ returns c =
     let a = c .before .before .before .before .before .before .before .before .args in
     let i = c .before .before .before .before .before .before .before .loop .i in
     let here : printable (creditLine (a .cycle) (a .t2) i) ≡ false =
-    ap printable (one-credit (a .cycle) (a .t2) i (c .before .before .before .reached .given .0 .0) (c .before .before .before .reached .given .1)) ∙ sym (c .before .credit .ensures) ∙ not-true (c .before .credit .result) (c .if1 .taken) in
+    ap printable (one-credit (a .cycle) (a .t2) i (c .before .before .before .reached .given .0 .0)
+    (c .before .before .before .reached .given .1)) ∙ sym (c .before .credit .ensures)
+    ∙ not-true (c .before .credit .result) (c .if1 .taken) in
     sym (printable-stops (creditLine (a .cycle) (a .t2)) i 8 (omega arith) here)
 
 loop-less-2 : tie.Need-loop-less-2 Inv-loop μ-loop
@@ -66,11 +69,14 @@ loop-less-2 c = search needs
 
 loop-again-2 : tie.Need-loop-again-2 Inv-loop μ-loop
 loop-again-2 c =
+    let at-loop = c .before .before .before .before .before .before .before in
     let a = c .before .before .before .before .before .before .before .before .args in
-    let i = c .before .before .before .before .before .before .before .loop .i in
-    let here : printable (creditLine (a .cycle) (a .t2) i) ≡ true =
-    ap printable (one-credit (a .cycle) (a .t2) i (c .before .before .before .reached .given .0 .0) (c .before .before .before .reached .given .1)) ∙ sym (c .before .credit .ensures) ∙ not-false (c .before .credit .result) (c .if1 .left) in
-    (omega arith, printable-more (creditLine (a .cycle) (a .t2)) i (c .before .before .before .before .before .before .before .loop .inv .1) here)
+    let i = at-loop .loop .i in
+    let here : printable (creditLine (a .cycle) (a .t2) i) ≡ true = ap printable
+    (one-credit (a .cycle) (a .t2) i (c .before .before .before .reached .given .0 .0)
+    (c .before .before .before .reached .given .1)) ∙ sym (c .before .credit .ensures)
+    ∙ not-false (c .before .credit .result) (c .if1 .left) in
+    (omega arith, printable-more (creditLine (a .cycle) (a .t2)) i (at-loop .loop .inv .1) here)
 
 returns-2 : tie.Need-returns-2 Inv-loop μ-loop
 returns-2 c =

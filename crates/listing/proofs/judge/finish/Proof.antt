@@ -15,7 +15,14 @@ returns c = rw (leb·zero (c .before .args .cycles), lt-leb (c .before .args .cy
 
 returns-2 : tie.Need-returns-2
 unfolding valuesOf allInRange printable inRange
-returns-2 c = rw (leb·zero (c .before .args .cycles), le-leb (c .before .args .cycles) 1000000000 (omega arith), leb·zero (c .before .args .flits), and-true, and-true)
+returns-2 c = rw (
+  leb·zero (c .before .args .cycles),
+  le-leb (c .before .args .cycles) 1000000000 (omega arith),
+  leb·zero
+      (c .before .args .flits),
+  and-true,
+  and-true,
+)
 
 pub finish-spec : {M : Type 1} → statement M
 finish-spec = tie.close (tie.spec returns returns-2)

@@ -58,7 +58,9 @@ returns c =
     let a = c .before .before .before .before .before .before .before .before .args in
     let i = c .before .before .before .before .before .before .before .loop .i in
     let here : printable (flitLine (a .cycle) (a .t2) i) ≡ false =
-    ap printable (one-flit (a .cycle) (a .t2) i (c .before .before .before .left .given .0 .0) (c .before .before .before .left .given .1)) ∙ sym (c .before .flit .ensures) ∙ not-true (c .before .flit .result) (c .if1 .taken) in
+    ap printable (one-flit (a .cycle) (a .t2) i (c .before .before .before .left .given .0 .0)
+    (c .before .before .before .left .given .1)) ∙ sym (c .before .flit .ensures)
+    ∙ not-true (c .before .flit .result) (c .if1 .taken) in
     sym (printable-stops (flitLine (a .cycle) (a .t2)) i 8 (omega arith) here)
 
 loop-less-2 : tie.Need-loop-less-2 Inv-loop μ-loop
@@ -66,11 +68,13 @@ loop-less-2 c = search needs
 
 loop-again-2 : tie.Need-loop-again-2 Inv-loop μ-loop
 loop-again-2 c =
+    let at-loop = c .before .before .before .before .before .before .before in
     let a = c .before .before .before .before .before .before .before .before .args in
-    let i = c .before .before .before .before .before .before .before .loop .i in
-    let here : printable (flitLine (a .cycle) (a .t2) i) ≡ true =
-    ap printable (one-flit (a .cycle) (a .t2) i (c .before .before .before .left .given .0 .0) (c .before .before .before .left .given .1)) ∙ sym (c .before .flit .ensures) ∙ not-false (c .before .flit .result) (c .if1 .left) in
-    (omega arith, printable-more (flitLine (a .cycle) (a .t2)) i (c .before .before .before .before .before .before .before .loop .inv .1) here)
+    let i = at-loop .loop .i in
+    let here : printable (flitLine (a .cycle) (a .t2) i) ≡ true = ap printable
+    (one-flit (a .cycle) (a .t2) i (c .before .before .before .left .given .0 .0) (c .before .before .before .left .given .1))
+    ∙ sym (c .before .flit .ensures) ∙ not-false (c .before .flit .result) (c .if1 .left) in
+    (omega arith, printable-more (flitLine (a .cycle) (a .t2)) i (at-loop .loop .inv .1) here)
 
 returns-2 : tie.Need-returns-2 Inv-loop μ-loop
 returns-2 c =

@@ -19,11 +19,28 @@ returns-2 c = rw (le-leb 1 (c .before .before .args .number) (omega arith), lt-l
 
 returns-3 : tie.Need-returns-3
 unfolding valuesOf allInRange printable inRange
-returns-3 c = rw (le-leb 1 (c .before .before .before .args .number) (omega arith), le-leb (c .before .before .before .args .number) 10 (omega arith), leb·zero (c .before .before .before .args .cycles), lt-leb (c .before .before .before .args .cycles) 1000000000 (omega arith))
+returns-3 c = rw (
+  le-leb 1 (c .before .before .before .args .number) (omega arith),
+  le-leb (c .before .before .before .args .number) 10
+      (omega arith),
+  leb·zero (c .before .before .before .args .cycles),
+  lt-leb (c .before .before .before .args .cycles) 1000000000
+      (omega arith),
+)
 
 returns-4 : tie.Need-returns-4
 unfolding valuesOf allInRange printable inRange
-returns-4 c = rw (le-leb 1 (c .before .before .before .args .number) (omega arith), le-leb (c .before .before .before .args .number) 10 (omega arith), leb·zero (c .before .before .before .args .cycles), le-leb (c .before .before .before .args .cycles) 1000000000 (omega arith), leb·zero (c .before .before .before .args .place), and-true, and-true)
+returns-4 c = rw (
+  le-leb 1 (c .before .before .before .args .number) (omega arith),
+  le-leb (c .before .before .before .args .number) 10
+      (omega arith),
+  leb·zero (c .before .before .before .args .cycles),
+  le-leb (c .before .before .before .args .cycles) 1000000000
+      (omega arith),
+  leb·zero (c .before .before .before .args .place),
+  and-true,
+  and-true,
+)
 
 pub refusal-spec : {M : Type 1} → statement M
 refusal-spec = tie.close (tie.spec returns returns-2 returns-3 returns-4)

@@ -18,14 +18,17 @@ bounds c = credit-in (c .args .cycle) (c .args .input) (c .args .vc) (c .pre .0)
 
 -- the room after the line's start
 roomy : (c : tie.After-start) → Roomy (c .start .last .0) (c .start .result) 5
-roomy c = let x = c .before .before .before in room-left (x .args .out .now) (x .args .at) 11 (x .pre .2) (x .good .0 .0) (c .start .kept .0) (c .start .ensures .1)
+roomy c = let x = c .before .before .before in room-left (x .args .out .now) (x .args .at) 11 (x .pre .2) (x .good .0 .0)
+    (c .start .kept .0) (c .start .ensures .1)
 
 -- the bytes after the start and its space
 abbrev bytes : tie.After-slice-known2 → List ℕ
 bytes c = let a = c .before .before .before .before .before .args in (48 + a .input) ∷ 32 ∷ (48 + a .vc) ∷ 10 ∷ []
 
 -- and when k of them are stored
-stored : (c : tie.After-slice-known2) (k : ℕ) → Roomy (stores (set (c .before .before .start .last .0) (c .before .before .start .result) 32) (c .before .before .start .result) 1 (take k (bytes c))) (c .before .before .start .result) 5
+stored : (c : tie.After-slice-known2) (k : ℕ) → Roomy (stores
+    (set (c .before .before .start .last .0) (c .before .before .start .result) 32) (c .before .before .start .result) 1
+    (take k (bytes c))) (c .before .before .start .result) 5
 stored c k = room-stored (roomy (c .before .before)) 32 (take k (bytes c))
 
 start-requires : tie.Need-start-requires
@@ -70,7 +73,12 @@ add-result : tie.Need-add-result
 add-result c = place-fits (roomy (c .before .before)) 5 tt
 
 -- the start, then five bytes
-laid : (c : tie.After-slice-known2) → Laid (c .before .before .before .before .before .args .out .now) (c .before .before .before .before .before .args .at) (print (credit (c .before .before .before .before .before .args .cycle) (c .before .before .before .before .before .args .input) (c .before .before .before .before .before .args .vc))) (stores (set (c .before .before .start .last .0) (c .before .before .start .result) 32) (c .before .before .start .result) 1 (bytes c)) (c .before .before .start .result + 5)
+laid : (c : tie.After-slice-known2) → Laid (c .before .before .before .before .before .args .out .now)
+    (c .before .before .before .before .before .args .at) (print
+    (credit (c .before .before .before .before .before .args .cycle) (c .before .before .before .before .before .args .input)
+    (c .before .before .before .before .before .args .vc))) (stores
+    (set (c .before .before .start .last .0) (c .before .before .start .result) 32) (c .before .before .start .result) 1 (bytes c))
+    (c .before .before .start .result + 5)
 laid c =
     let x = c .before .before .before .before .before in
     let started = c .before .before .start in

@@ -21,11 +21,13 @@ slice-write-out-2 : tie.Need-slice-write-out-2
 slice-write-out-2 c = simp length-set (omega arith)
 
 decimal-requires : tie.Need-decimal-requires
-decimal-requires c κs = let bounds = finish-in (c .before .before .args .cycles) (c .before .before .args .flits) (c .before .before .pre .0) in (omega arith, simp length-set (omega arith))
+decimal-requires c κs = let bounds = finish-in (c .before .before .args .cycles) (c .before .before .args .flits)
+    (c .before .before .pre .0) in (omega arith, simp length-set (omega arith))
 
 slice-write-out-3 : tie.Need-slice-write-out-3
 slice-write-out-3 c =
-    let kept : length (c .before .before .decimal .last .0) ≡ length (c .before .before .before .before .before .args .out .now) = c .before .before .decimal .kept .0 ∙ simp length-set in
+    let kept : length (c .before .before .decimal .last .0) ≡ length
+    (c .before .before .before .before .before .args .out .now) = c .before .before .decimal .kept .0 ∙ simp length-set in
     omega arith
 
 add-decimal : tie.Need-add-decimal
@@ -33,20 +35,28 @@ add-decimal c = search needs
 
 decimal-requires-2 : tie.Need-decimal-requires-2
 decimal-requires-2 c κs =
-    let bounds = finish-in (c .before .before .before .before .before .before .args .cycles) (c .before .before .before .before .before .before .args .flits) (c .before .before .before .before .before .before .pre .0) in
-    let kept : length (c .before .before .before .decimal .last .0) ≡ length (c .before .before .before .before .before .before .args .out .now) = c .before .before .before .decimal .kept .0 ∙ simp length-set in
+    let start = c .before .before .before .before .before .before in
+    let bounds = finish-in (start .args .cycles) (start .args .flits) (start .pre .0) in
+    let kept : length (c .before .before .before .decimal .last .0)
+    ≡ length (start .args .out .now) = c .before .before .before .decimal .kept .0 ∙ simp length-set in
     (omega arith, simp length-set (omega arith))
 
 slice-write-out-4 : tie.Need-slice-write-out-4
 slice-write-out-4 c =
-    let kept : length (c .before .before .decimal2 .last .0) ≡ length (c .before .before .before .before .before .before .before .before .before .args .out .now) = c .before .before .decimal2 .kept .0 ∙ simp length-set (c .before .before .before .before .before .before .decimal .kept .0 ∙ simp length-set) in
+    let kept : length (c .before .before .decimal2 .last .0) ≡ length
+    (c .before .before .before .before .before .before .before .before .before .args .out .now) =
+    c .before .before .decimal2 .kept .0 ∙ simp length-set
+    (c .before .before .before .before .before .before .decimal .kept .0 ∙ simp length-set) in
     omega arith
 
 add-result : tie.Need-add-result
 add-result c = search needs
 
 -- the letter, the numbers, what stands between and after them
-laid : (c : tie.After-slice-known3) → Laid (c .before .before .before .before .before .before .before .before .before .args .out .now) 0 (print (finish (c .before .before .before .before .before .before .before .before .before .args .cycles) (c .before .before .before .before .before .before .before .before .before .args .flits))) (set (c .before .before .decimal2 .last .0) (c .before .before .decimal2 .result) 10) (c .before .before .decimal2 .result + 1)
+laid : (c : tie.After-slice-known3) → Laid (c .before .before .before .before .before .before .before .before .before .args .out .now) 0
+    (print (finish (c .before .before .before .before .before .before .before .before .before .args .cycles)
+    (c .before .before .before .before .before .before .before .before .before .args .flits)))
+    (set (c .before .before .decimal2 .last .0) (c .before .before .decimal2 .result) 10) (c .before .before .decimal2 .result + 1)
 laid c =
     let a = c .before .before .before .before .before .before .before .before .before .args in
     let first = c .before .before .before .before .before .before .decimal in

@@ -32,11 +32,14 @@ copy-requires c κs =
     (p .1 .ten, p .1 .shown, simp length-set (omega arith))
 
 -- the letter and the space, then the digits
-laid : (c : tie.After-slice-known2) → Laid (c .before .before .before .before .before .args .out .now) (c .before .before .before .before .before .args .at) (c .before .before .before .before .before .args .letter ∷ 32 ∷ decimal (c .before .before .before .before .before .args .cycle)) (c .before .before .copy .last .0) (c .before .before .copy .result)
+laid : (c : tie.After-slice-known2) → Laid (c .before .before .before .before .before .args .out .now)
+    (c .before .before .before .before .before .args .at) (c .before .before .before .before .before .args .letter ∷ 32 ∷ decimal
+    (c .before .before .before .before .before .args .cycle)) (c .before .before .copy .last .0) (c .before .before .copy .result)
 laid c =
     let a = c .before .before .before .before .before .args in
     let p = c .before .before .before .before .before .pre in
-    laid-more (laid-stores (a .out .now) (a .at) (a .letter) (32 ∷ [])) (laid-as (c .before .before .copy .ensures) (p .1 .stands (omega arith)))
+    laid-more (laid-stores (a .out .now) (a .at) (a .letter) (32 ∷ []))
+    (laid-as (c .before .before .copy .ensures) (p .1 .stands (omega arith)))
 
 same-length : tie.Need-same-length
 same-length c = laid-length (laid c)

@@ -5,7 +5,7 @@ use mathlib.Core.List.{List}
 use borrow.Author.Needs.{needs}
 use Rattle.state.specs.declared.InputVc.{InputVc}
 use Rattle.state.specs.declared.OutputVc.{OutputVc}
-use Rattle.rules.specs.Allocation.{Names}
+use Rattle.rules.specs.Allocation.{Vcs}
 use Rattle.router.specs.Grants.{grantAt}
 use Rattle.router.proofs.Binding.{bindings-apart}
 use Rattle.router.proofs.allocation.bind.Statement.{statement}
@@ -14,7 +14,7 @@ use Rattle.router.proofs.allocation.bind.Tie as tie
 returns : tie.Need-returns
 returns c =
     let a = c .before .before .before .before .args in
-    ap₂ {C = Names} (λ (x : List InputVc) (y : List OutputVc). record { inputs = x; outputs = y }) (c .before .bind-inputs .ensures)
+    ap₂ {C = Vcs} (λ (x : List InputVc) (y : List OutputVc). record { inputs = x; outputs = y }) (c .before .bind-inputs .ensures)
     (c .bind-outputs .ensures)
     ∙ bindings-apart (a .config) (grantAt (a .made)) (record { inputs = a .before .inputs; outputs = a .before .outputs })
 

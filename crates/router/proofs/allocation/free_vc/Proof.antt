@@ -27,14 +27,16 @@ mul-output : tie.Need-mul-output Inv-loop μ-loop
 mul-output c =
     let a = c .before .before .before .before .args in
     let p = c .before .before .before .before .pre in
-    let fits = channel-fits (a .config .ports) (a .config .vcs) (a .o) (c .before .before .before .loop .w) (p .0) (search needs) (p .1) (p .2) in
+    let fits = channel-fits (a .config .ports) (a .config .vcs) (a .o) (c .before .before .before .loop .w) (p .0) (search needs) (p .1)
+    (p .2) in
     let e = c .number .ensures in record { fits = omega arith }
 
 array-copy-out-output : tie.Need-array-copy-out-output Inv-loop μ-loop
 array-copy-out-output c =
     let a = c .before .before .before .before .args in
     let p = c .before .before .before .before .pre in
-    let fits = channel-fits (a .config .ports) (a .config .vcs) (a .o) (c .before .before .before .loop .w) (p .0) (search needs) (p .1) (p .2) in
+    let fits = channel-fits (a .config .ports) (a .config .vcs) (a .o) (c .before .before .before .loop .w) (p .0) (search needs) (p .1)
+    (p .2) in
     let e = c .number .ensures in omega arith
 
 returns : tie.Need-returns Inv-loop μ-loop

@@ -40,25 +40,27 @@ returns-2 c =
 add-t11 : tie.Need-add-t11
 unfolding asks
 add-t11 c =
-    let a = c .before .before .before .before .before .before .before .before .before .args in
-    let p = c .before .before .before .before .before .before .before .before .before .pre in
+    let start = c .before .before .before .before .before .before .before .before .before in
+    let a = start .args in
+    let p = start .pre in
     let e = c .before .pick .given in
     let s = c .before .before .before .choose in
     let few = channels-fit (a .config .ports) (a .config .vcs) (p .1) (p .2) in
-    let w = winner-below (a .config .arbiter) (a .config .ports * a .config .vcs) (a .set) (ofWide (a .arbiter)) (s .result) (e .0 .0) (s .ensures)
-    (e .1) in
+    let w = winner-below (a .config .arbiter) (a .config .ports * a .config .vcs) (a .set) (ofWide (a .arbiter)) (s .result) (e .0 .0)
+    (s .ensures) (e .1) in
     record { fits = omega arith }
 
 cast-t14 : tie.Need-cast-t14
 unfolding asks
 cast-t14 c =
-    let a = c .before .before .before .before .before .before .before .before .before .args in
-    let p = c .before .before .before .before .before .before .before .before .before .pre in
+    let start = c .before .before .before .before .before .before .before .before .before in
+    let a = start .args in
+    let p = start .pre in
     let e = c .before .pick .given in
     let s = c .before .before .before .choose in
     let few = channels-fit (a .config .ports) (a .config .vcs) (p .1) (p .2) in
-    let w = winner-below (a .config .arbiter) (a .config .ports * a .config .vcs) (a .set) (ofWide (a .arbiter)) (s .result) (e .0 .0) (s .ensures)
-    (e .1) in
+    let w = winner-below (a .config .arbiter) (a .config .ports * a .config .vcs) (a .set) (ofWide (a .arbiter)) (s .result) (e .0 .0)
+    (s .ensures) (e .1) in
     record { fits = omega arith }
 
 returns-3 : tie.Need-returns-3
@@ -69,7 +71,8 @@ returns-3 c =
     let winner = (choice 32 (a .config .arbiter) (a .config .ports * a .config .vcs) (bit (a .set)) (ofWide (a .arbiter))) in
     let s = c .before .before .before .choose in
     let e = c .before .pick .given in
-    grant-winner (a .config .vcs) (f .result) (freeVc (a .config) (a .outputs) (a .o)) (f .ensures) (s .result) winner (e .0 .0) (s .ensures) (e .1)
+    grant-winner (a .config .vcs) (f .result) (freeVc (a .config) (a .outputs) (a .o)) (f .ensures) (s .result) winner (e .0 .0)
+    (s .ensures) (e .1)
     (c .before .before .before .before .before .before .if1 .left)
 
 pub grant-spec : {M : Type 1} → statement M

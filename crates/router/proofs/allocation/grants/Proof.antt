@@ -7,7 +7,7 @@ use lib.ListN.{length, length-set}
 use borrow.Author.Needs.{needs}
 use Rattle.router.specs.Grants.{grantAt}
 use Rattle.router.proofs.Granting.{grantTo, grant-unasked, granted-more}
-use Rattle.router.proofs.Numbers.{fewer, more}
+use Rattle.router.proofs.Numbers.{more}
 use Rattle.router.proofs.allocation.grants.Statement.{statement}
 use Rattle.router.proofs.allocation.grants.Tie as tie
 
@@ -29,7 +29,8 @@ loop-again c =
       more (a .config .ports) (l .o) (c .before .before .if1 .taken),
       length-set (l .made) (l .o) (c .no-grant .result) ∙ l .inv .1,
       granted-more (grantTo (a .config) (a .outputs) (a .t3) (a .t4)) (l .made) (l .o) (c .no-grant .result) (search needs) (l .inv .2)
-          (grant-unasked (a .config) (a .outputs) (a .t3) (a .t4) (l .o) (c .no-grant .result) (c .no-grant .ensures) (c .before .if2 .taken)),
+          (grant-unasked (a .config) (a .outputs) (a .t3) (a .t4) (l .o) (c .no-grant .result) (c .no-grant .ensures)
+          (c .before .if2 .taken)),
     )
 
 loop-again-2 : tie.Need-loop-again-2 Inv-loop μ-loop

@@ -16,56 +16,123 @@ use Rattle.router.proofs.blocks.blocks.Statement.{statement}
 use Rattle.router.proofs.blocks.blocks.Tie as tie
 
 abbrev Inv-loop : tie.InvT-loop
-Inv-loop config part first count store₀ wire₀ home₀ out₀ went₀ from₀ left₀ store wire home out went from left =
+Inv-loop config part first count store₀ wire₀ home₀ out₀ went₀ from₀ left₀ store wire home out run from left =
     (from ≤ length part)
-    × (goesOn part left (record { used = from; writing = writingOf config went store wire home out })
+    × (goesOn part left (record { used = from; writing = writingOf config run store wire home out })
     ≡ goesOn part count (record { used = first; writing = writingOf config went₀ store₀ wire₀ home₀ out₀ }))
-    × Ongoing (writingOf config went store wire home out) × (length out ≡ length out₀)
+    × Ongoing (writingOf config run store wire home out) × (length out ≡ length out₀)
 
 abbrev μ-loop : tie.MeasureT-loop
-μ-loop config part first count store₀ wire₀ home₀ out₀ went₀ from₀ left₀ store wire home out went from left = left
+μ-loop config part first count store₀ wire₀ home₀ out₀ went₀ from₀ left₀ store wire home out run from left = left
+
+-- The places, each from the one behind it.
+abbrev before-shared-slice-known : tie.After-shared-slice-known Inv-loop μ-loop → tie.Start Inv-loop μ-loop
+before-shared-slice-known c = c .before
+
+abbrev before-loop : tie.At-loop Inv-loop μ-loop → tie.After-shared-slice-known Inv-loop μ-loop
+before-loop c = c .before .before
+
+abbrev before-in-loop : tie.In-loop Inv-loop μ-loop → tie.At-loop Inv-loop μ-loop
+before-in-loop c = c .before
+
+abbrev before-else1 : tie.Else1 Inv-loop μ-loop → tie.In-loop Inv-loop μ-loop
+before-else1 c = c .before
+
+abbrev before-has-room : tie.After-has-room Inv-loop μ-loop → tie.Else1 Inv-loop μ-loop
+before-has-room c = c .before .before
+
+abbrev before-else2 : tie.Else2 Inv-loop μ-loop → tie.After-has-room Inv-loop μ-loop
+before-else2 c = c .before
+
+abbrev before-block-end : tie.After-block-end Inv-loop μ-loop → tie.Else2 Inv-loop μ-loop
+before-block-end c = c .before
+
+abbrev before-block-arg5 : tie.After-block-arg5 Inv-loop μ-loop → tie.After-block-end Inv-loop μ-loop
+before-block-arg5 c = c .before .before .before .before .before
+
+abbrev before-slice-known2 : tie.After-slice-known2 Inv-loop μ-loop → tie.After-block-arg5 Inv-loop μ-loop
+before-slice-known2 c = c .before .before .before
+
+abbrev start-loop : tie.At-loop Inv-loop μ-loop → tie.Start Inv-loop μ-loop
+start-loop c = before-shared-slice-known (before-loop c)
+
+abbrev loop-else1 : tie.Else1 Inv-loop μ-loop → tie.At-loop Inv-loop μ-loop
+loop-else1 c = before-in-loop (before-else1 c)
+
+abbrev loop-has-room : tie.After-has-room Inv-loop μ-loop → tie.At-loop Inv-loop μ-loop
+loop-has-room c = loop-else1 (before-has-room c)
+
+abbrev loop-else2 : tie.Else2 Inv-loop μ-loop → tie.At-loop Inv-loop μ-loop
+loop-else2 c = loop-has-room (before-else2 c)
 
 -- the call so far
 abbrev sofar : tie.At-loop Inv-loop μ-loop → Call
-sofar c = record { used = c .loop .from; writing = writingOf (c .before .before .before .args .config) (c .loop .went) (c .loop .store) (c .loop .wire) (c .loop .home) (c .loop .out) }
+sofar c =
+    record {
+      used = c .loop .from;
+      writing = writingOf (start-loop c .args .config) (c .loop .run) (c .loop .store) (c .loop .wire) (c .loop .home) (c .loop .out);
+    }
 
 loop-holds : tie.Need-loop-holds Inv-loop μ-loop
 loop-holds c = (c .before .before .pre .1, refl, c .before .before .pre .0, refl)
 
 returns : tie.Need-returns Inv-loop μ-loop
-returns c = sym (goes-over (c .before .before .before .before .before .args .part .now) (c .before .before .loop .left) (sofar (c .before .before)) (c .if1 .taken)) ∙ c .before .before .loop .inv .1
+returns c =
+    sym (goes-over (start-loop (before-in-loop (c .before)) .args .part .now) (c .before .before .loop .left)
+    (sofar (c .before .before)) (c .if1 .taken)) ∙ c .before .before .loop .inv .1
 
 returns-2 : tie.Need-returns-2 Inv-loop μ-loop
 returns-2 c =
-    sym (goes-full (c .before .before .before .before .before .before .before .before .args .part .now) (c .before .before .before .before .before .loop .left) (sofar (c .before .before .before .before .before)) (c .before .before .before .if1 .left)
-    (not-false _ (sym (c .before .has-room .ensures .0) ∙ not-true (c .before .has-room .result) (c .if2 .taken)))) ∙ c .before .before .before .before .before .loop .inv .1
+    let at-else1 = before-has-room (c .before) in
+    let at-loop = loop-else1 at-else1 in
+    let start = start-loop at-loop in
+    sym (goes-full (start .args .part .now) (at-loop .loop .left) (sofar at-loop) (at-else1 .if1 .left)
+    (not-false _ (sym (c .before .has-room .ensures .0) ∙ not-true (c .before .has-room .result) (c .if2 .taken))))
+    ∙ at-loop .loop .inv .1
 
 block-end-requires : tie.Need-block-end-requires Inv-loop μ-loop
-block-end-requires c κs = c .before .before .before .before .before .loop .inv .0
+block-end-requires c κs = loop-else2 c .loop .inv .0
 
 block-requires : tie.Need-block-requires Inv-loop μ-loop
-block-requires c κs = let o = c .before .before .before .before .before .before .before .before .before .before .before .loop .inv .2 (c .before .before .before .before .before .before .before .before .before .if1 .left) in (o .1, o .0)
+block-requires c κs =
+    let at-else1 = before-has-room (before-else2 (before-block-end (before-block-arg5 c))) in
+    let at-loop = loop-else1 at-else1 in
+    let o = at-loop .loop .inv .2 (at-else1 .if1 .left) in
+    (o .1, o .0)
 
 -- one block more
 loop-again : tie.Need-loop-again Inv-loop μ-loop
 loop-again c =
-    let part = c .before .before .before .before .before .before .before .before .before .before .before .before .before .before .before .before .before .args .part .now in
-    let w = sofar (c .before .before .before .before .before .before .before .before .before .before .before .before .before .before) .writing in
-    let o = c .before .before .before .before .before .before .before .before .before .before .before .before .before .before .loop .inv .2 (c .before .before .before .before .before .before .before .before .before .before .before .before .if1 .left) in
-    let e = c .before .before .before .before .before .before .before .before .block-end .ensures .0 in
-    let f = c .before .before .block .ensures ∙ ap (λ (block : List ℕ). blockTaken block w) (piece-is part (c .before .before .before .before .before .before .before .before .before .before .before .before .before .before .loop .from) (c .before .before .before .before .before .before .before .before .block-end .result) e) in (
-      c .before .before .before .before .before .before .before .before .block-end .ensures .1 .0,
-      ap₂ (λ (used : ℕ) (v : Writing). goesOn part (c .before .before .before .before .before .before .before .before .before .before .before .before .before .before .loop .left - 1) (record { used = used; writing = v })) e f
-          ∙ goes-more part (c .before .before .before .before .before .before .before .before .before .before .before .before .before .before .loop .left) (sofar (c .before .before .before .before .before .before .before .before .before .before .before .before .before .before)) (c .before .before .before .before .before .before .before .before .before .before .before .before .before .loop-test .taken) (c .before .before .before .before .before .before .before .before .before .before .before .before .if1 .left)
-          (not-true _ (sym (c .before .before .before .before .before .before .before .before .before .before .has-room .ensures .0) ∙ not-false (c .before .before .before .before .before .before .before .before .before .before .has-room .result) (c .before .before .before .before .before .before .before .before .before .if2 .left)))
-          ∙ c .before .before .before .before .before .before .before .before .before .before .before .before .before .before .loop .inv .1,
-      λ _. subst (λ (v : Writing). GoesOn v × (v .night .place .configured ≡ true)) (sym f)
-          (block-goes-on (blockAt part (c .before .before .before .before .before .before .before .before .before .before .before .before .before .before .loop .from)) (piece-bytes 512 (c .before .before .before .before .before .before .before .before .before .before .before .before .before .before .loop .from) part (λ i. c .before .before .before .before .before .before .before .before .before .before .before .before .before .before .before .before .shared-slice-known .given i .fits)) w (o .1) (o .0)),
-      (let l = c .before .before .before .before .before .before .before .before .before .before .before .before .before .before .loop .inv .3 in search needs),
+    let at-block-end = before-block-arg5 (before-slice-known2 c) in
+    let at-else2 = before-block-end at-block-end in
+    let at-has-room = before-else2 at-else2 in
+    let at-else1 = before-has-room at-has-room in
+    let at-in-loop = before-else1 at-else1 in
+    let at-shared-slice-known = before-loop (before-in-loop at-in-loop) in
+    let at-loop = before-in-loop at-in-loop in
+    let start = before-shared-slice-known at-shared-slice-known in
+    let part = start .args .part .now in
+    let w = sofar at-loop .writing in
+    let o = at-loop .loop .inv .2 (at-else1 .if1 .left) in
+    let e = at-block-end .block-end .ensures .0 in
+    let f = c .before .before .block .ensures ∙ ap (λ (block : List ℕ). blockTaken block w)
+    (piece-is part (at-loop .loop .from) (at-block-end .block-end .result) e) in (
+      at-block-end .block-end .ensures .1 .0,
+      ap₂ (λ (used : ℕ) (v : Writing). goesOn part (at-loop .loop .left - 1)
+          (record { used = used; writing = v })) e f ∙ goes-more part (at-loop .loop .left) (sofar at-loop)
+          (at-in-loop .loop-test .taken) (at-else1 .if1 .left) (not-true _
+          (sym (at-has-room .has-room .ensures .0) ∙ not-false (at-has-room .has-room .result) (at-else2 .if2 .left)))
+          ∙ at-loop .loop .inv .1,
+      λ _. subst (λ (v : Writing). GoesOn v × (v .run .place .configured ≡ true)) (sym f)
+          (block-goes-on (blockAt part (at-loop .loop .from)) (piece-bytes 512 (at-loop .loop .from) part
+          (λ i. at-shared-slice-known .shared-slice-known .given i .fits)) w (o .1) (o .0)),
+      (let l = at-loop .loop .inv .3 in search needs),
     )
 
 returns-3 : tie.Need-returns-3 Inv-loop μ-loop
-returns-3 c = sym (goes-none (c .before .before .before .before .args .part .now) (c .before .loop .left) (sofar (c .before)) (omega arith)) ∙ c .before .loop .inv .1
+returns-3 c =
+    sym (goes-none (start-loop (c .before) .args .part .now) (c .before .loop .left) (sofar (c .before)) (omega arith))
+    ∙ c .before .loop .inv .1
 
 pub blocks-spec : {M : Type 1} → statement M
 blocks-spec =

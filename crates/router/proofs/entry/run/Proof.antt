@@ -8,7 +8,7 @@ use native.Mathlib.Nat.{le-refl}
 use native.Mathlib.Omega.{arith}
 use borrow.Author.Needs.{needs}
 use borrow.Author.Tests.{not-true, not-false}
-use Rattle.standing.specs.Night.{nightSound}
+use Rattle.runs.specs.Run.{runSound}
 use Rattle.router.specs.Running.{Writing, lacksBlockRoom, blockAt, blockTaken, answered, goesOn}
 use Rattle.router.specs.Inside.{Within, Ongoing}
 use Rattle.router.proofs.Onward.{goes-more, piece-is, block-on}
@@ -16,23 +16,87 @@ use Rattle.router.proofs.RunLaws.{run-unsound, run-full, run-goes, room
 use Rattle.router.proofs.entry.run.Statement.{statement}
 use Rattle.router.proofs.entry.run.Tie as tie
 
+-- The places, each from the one behind it.
+abbrev before-is-sound : tie.After-is-sound → tie.Start
+before-is-sound c = c .before .before .before
+
+abbrev before-else1 : tie.Else1 → tie.After-is-sound
+before-else1 c = c .before
+
+abbrev before-else2 : tie.Else2 → tie.Else1
+before-else2 c = c .before .before .before
+
+abbrev before-then2 : tie.Then2 → tie.Else1
+before-then2 c = c .before .before .before
+
+abbrev before-blocks-in : tie.After-blocks-in → tie.Else2
+before-blocks-in c = c .before
+
+abbrev before-else3 : tie.Else3 → tie.After-blocks-in
+before-else3 c = c .before .before
+
+abbrev before-else4 : tie.Else4 → tie.Else3
+before-else4 c = c .before
+
+abbrev before-block-end : tie.After-block-end → tie.Else4
+before-block-end c = c .before
+
+abbrev before-slice-known2 : tie.After-slice-known2 → tie.After-blocks-in
+before-slice-known2 c = c .before .before .before .before .before .before
+
+abbrev before-begin : tie.After-begin → tie.After-block-end
+before-begin c = c .before .before .before
+
+abbrev before-slice-known3 : tie.After-slice-known3 → tie.Else3
+before-slice-known3 c = c .before .before .before .before .before
+
+abbrev before-next : tie.After-next → tie.After-begin
+before-next c = c .before .before .before
+
+abbrev before-slice-known5 : tie.After-slice-known5 → tie.After-next
+before-slice-known5 c = c .before .before .before .before
+
+abbrev start-else1 : tie.Else1 → tie.Start
+start-else1 c = before-is-sound (before-else1 c)
+
+abbrev start-else2 : tie.Else2 → tie.Start
+start-else2 c = start-else1 (before-else2 c)
+
+abbrev else2-else3 : tie.Else3 → tie.Else2
+else2-else3 c = before-blocks-in (before-else3 c)
+
+abbrev else2-else4 : tie.Else4 → tie.Else2
+else2-else4 c = else2-else3 (before-else4 c)
+
 returns : tie.Need-returns
 returns c =
-    run-unsound (c .before .before .before .before .args .night) (c .before .before .before .before .args .part .now) (c .before .before .before .before .args .buf .now) (c .before .before .before .before .args .at) (sym (c .before .is-sound .ensures) ∙ not-true (c .before .is-sound .result) (c .if1 .taken))
+    let start = before-is-sound (c .before) in
+    run-unsound (start .args .run) (start .args .part .now) (start .args .buf .now) (start .args .at)
+    (sym (c .before .is-sound .ensures) ∙ not-true (c .before .is-sound .result) (c .if1 .taken))
 
 -- what passed both tests
-sound : (c : tie.Else2) → nightSound (c .before .before .before .before .before .before .before .args .night) ≡ true
-sound c = sym (c .before .before .before .before .is-sound .ensures) ∙ not-false (c .before .before .before .before .is-sound .result) (c .before .before .before .if1 .left)
+sound : (c : tie.Else2) → runSound (start-else2 c .args .run) ≡ true
+sound c =
+    let at-else1 = before-else2 c in
+    let at-is-sound = before-else1 at-else1 in
+    sym (at-is-sound .is-sound .ensures) ∙ not-false (at-is-sound .is-sound .result) (at-else1 .if1 .left)
 
-room : (c : tie.Else2) → lacksBlockRoom (c .before .before .before .before .before .before .before .args .buf .now) (c .before .before .before .before .before .before .before .args .at) ≡ false
+room : (c : tie.Else2) → lacksBlockRoom (start-else2 c .args .buf .now) (start-else2 c .args .at) ≡ false
 room c = not-true _ (sym (c .before .has-room .ensures .0) ∙ not-false (c .before .has-room .result) (c .if2 .left))
 
-inside : (c : tie.Else2) → Within (c .before .before .before .before .before .before .before .args .at) (c .before .before .before .before .before .before .before .args .buf .now)
-inside c = room-within (c .before .before .before .before .before .before .before .args .night) (c .before .before .before .before .before .before .before .args .part .now) (c .before .before .before .before .before .before .before .args .buf .now) (c .before .before .before .before .before .before .before .args .at) (room c) (c .before .has-room .ensures .1)
+inside : (c : tie.Else2) → Within (start-else2 c .args .at) (start-else2 c .args .buf .now)
+inside c =
+    let start = start-else2 c in
+    room-within (start .args .run) (start .args .part .now) (start .args .buf .now) (start .args .at) (room c)
+    (c .before .has-room .ensures .1)
 
 returns-2 : tie.Need-returns-2
 returns-2 c =
-    run-full (c .before .before .before .before .before .before .before .args .night) (c .before .before .before .before .before .before .before .args .part .now) (c .before .before .before .before .before .before .before .args .buf .now) (c .before .before .before .before .before .before .before .args .at) (sym (c .before .before .before .before .is-sound .ensures) ∙ not-false (c .before .before .before .before .is-sound .result) (c .before .before .before .if1 .left))
+    let at-else1 = before-then2 c in
+    let at-is-sound = before-else1 at-else1 in
+    let start = before-is-sound at-is-sound in
+    run-full (start .args .run) (start .args .part .now) (start .args .buf .now) (start .args .at)
+    (sym (at-is-sound .is-sound .ensures) ∙ not-false (at-is-sound .is-sound .result) (at-else1 .if1 .left))
     (not-false _ (sym (c .before .has-room .ensures .0) ∙ not-true (c .before .has-room .result) (c .if2 .taken)))
 
 blocks-in-requires : tie.Need-blocks-in-requires
@@ -43,52 +107,91 @@ go-requires c κs = (λ e. absurd (true≢false (sym (c .before .if3 .taken) ∙
 
 returns-3 : tie.Need-returns-3
 returns-3 c =
-    c .before .before .go .ensures ∙ run-goes (c .before .before .before .before .before .before .before .before .before .before .before .before .before .before .args .night) (c .before .before .before .before .before .before .before .before .before .before .before .before .before .before .args .part .now) (c .before .before .before .before .before .before .before .before .before .before .before .before .before .before .args .buf .now) (c .before .before .before .before .before .before .before .before .before .before .before .before .before .before .args .at) (sound (c .before .before .before .before .before .before .before)) (room (c .before .before .before .before .before .before .before)) _ (c .before .before .before .before .before .before .blocks-in .ensures)
+    let at-blocks-in = before-slice-known2 c in
+    let at-else2 = before-blocks-in at-blocks-in in
+    let start = start-else2 at-else2 in
+    c .before .before .go .ensures ∙ run-goes (start .args .run) (start .args .part .now) (start .args .buf .now) (start .args .at)
+    (sound at-else2) (room at-else2) _ (at-blocks-in .blocks-in .ensures)
 
 go-requires-2 : tie.Need-go-requires-2
-go-requires-2 c κs = (
-  configured-ongoing (c .before .before .before .before .before .before .before .before .before .before .before .before .args .night) (c .before .before .before .before .before .before .before .before .before .before .before .before .args .part .now) (c .before .before .before .before .before .before .before .before .before .before .before .before .args .buf .now) (c .before .before .before .before .before .before .before .before .before .before .before .before .args .at) (sound (c .before .before .before .before .before)) (c .before .if4 .taken) (inside (c .before .before .before .before .before)),
-  omega arith,
-  le-refl _,
-)
+go-requires-2 c κs =
+    let at-else2 = else2-else3 (c .before .before) in
+    let start = start-else2 at-else2 in (
+      configured-ongoing (start .args .run) (start .args .part .now) (start .args .buf .now) (start .args .at) (sound at-else2)
+          (c .before .if4 .taken) (inside at-else2),
+      omega arith,
+      le-refl _,
+    )
 
 returns-4 : tie.Need-returns-4
 returns-4 c =
-    c .before .before .go2 .ensures ∙ run-goes (c .before .before .before .before .before .before .before .before .before .before .before .before .before .before .before .args .night) (c .before .before .before .before .before .before .before .before .before .before .before .before .before .before .before .args .part .now) (c .before .before .before .before .before .before .before .before .before .before .before .before .before .before .before .args .buf .now) (c .before .before .before .before .before .before .before .before .before .before .before .before .before .before .before .args .at) (sound (c .before .before .before .before .before .before .before .before)) (room (c .before .before .before .before .before .before .before .before)) _ (c .before .before .before .before .before .before .before .blocks-in .ensures)
+    let at-blocks-in = before-else3 (before-slice-known3 c) in
+    let at-else2 = before-blocks-in at-blocks-in in
+    let start = start-else2 at-else2 in
+    c .before .before .go2 .ensures ∙ run-goes (start .args .run) (start .args .part .now) (start .args .buf .now) (start .args .at)
+    (sound at-else2) (room at-else2) _ (at-blocks-in .blocks-in .ensures)
 
 -- the run as it is handed in, and that it is before the configuration block
 abbrev handed : tie.Start → Writing
-handed c = record { night = c .args .night; at = c .args .at; buffer = c .args .buf .now }
+handed c = record { run = c .args .run; at = c .args .at; buffer = c .args .buf .now }
 
-none-yet : (c : tie.Else4) → (c .before .before .before .before .before .before .before .before .before .before .before .args .night .router .cycle ≡ 0) × (c .before .before .before .before .before .before .before .before .before .before .before .args .night .flits ≡ 0)
-none-yet c = unconfigured-none (c .before .before .before .before .before .before .before .before .before .before .before .args .night) (c .before .before .before .before .before .before .before .before .before .before .before .args .part .now) (c .before .before .before .before .before .before .before .before .before .before .before .args .buf .now) (c .before .before .before .before .before .before .before .before .before .before .before .args .at) (sound (c .before .before .before .before)) (c .if4 .left) (c .before .if3 .left)
+none-yet : (c : tie.Else4) → (start-else2 (else2-else4 c) .args .run .router .cycle ≡ 0)
+    × (start-else2 (else2-else4 c) .args .run .flits ≡ 0)
+none-yet c =
+    let at-else2 = else2-else4 c in
+    let start = start-else2 at-else2 in
+    unconfigured-none (start .args .run) (start .args .part .now) (start .args .buf .now) (start .args .at) (sound at-else2)
+    (c .if4 .left) (c .before .if3 .left)
 
 begin-requires : tie.Need-begin-requires
-begin-requires c κs = (c .before .before .before .if4 .left, c .before .before .before .before .if3 .left, none-yet (c .before .before .before) .0, inside (c .before .before .before .before .before .before .before))
+begin-requires c κs =
+    let at-else4 = before-block-end (c .before .before) in
+    let at-else3 = before-else4 at-else4 in
+    let at-else2 = else2-else3 at-else3 in
+    (at-else4 .if4 .left, at-else3 .if3 .left, none-yet at-else4 .0, inside at-else2)
 
 sub-go : tie.Need-sub-go
-sub-go c = let e = c .before .before .before .before .before .before .before .before .before .before .blocks-in .ensures in omega (arith, e)
+sub-go c =
+    let at-blocks-in = before-else3 (before-else4 (before-block-end (before-begin (before-next c)))) in
+    let e = at-blocks-in .blocks-in .ensures in
+    omega (arith, e)
 
 go-requires-3 : tie.Need-go-requires-3
 go-requires-3 c κs =
-    let part = c .before .before .before .before .before .before .before .before .before .before .before .before .before .before .before .before .before .before .before .args .part .now in
-    let f = c .before .before .before .before .begin .ensures ∙ ap (λ (block : List ℕ). blockTaken block (handed (c .before .before .before .before .before .before .before .before .before .before .before .before .before .before .before .before .before .before .before))) (piece-is part 0 (c .before .before .before .before .before .before .before .block-end .result) (c .before .before .before .before .before .before .before .block-end .ensures .0)) in (
-      subst Ongoing (sym f) (begun-ongoing (blockAt part 0) (handed (c .before .before .before .before .before .before .before .before .before .before .before .before .before .before .before .before .before .before .before)) (c .before .before .before .before .before .before .before .before .if4 .left) (none-yet (c .before .before .before .before .before .before .before .before) .1) (inside (c .before .before .before .before .before .before .before .before .before .before .before .before))),
-      c .before .before .before .before .before .before .before .block-end .ensures .1 .0,
-      subst (λ (w : Writing). c .before .before .before .before .before .before .before .before .before .before .before .before .before .before .before .before .before .before .before .args .at ≤ w .at) (sym f) (block-on (blockAt part 0) (handed (c .before .before .before .before .before .before .before .before .before .before .before .before .before .before .before .before .before .before .before))),
+    let at-begin = before-next (c .before) in
+    let at-block-end = before-begin at-begin in
+    let at-else4 = before-block-end at-block-end in
+    let at-else2 = else2-else4 at-else4 in
+    let start = start-else2 at-else2 in
+    let part = start .args .part .now in
+    let f = at-begin .begin .ensures ∙ ap (λ (block : List ℕ). blockTaken block (handed start))
+    (piece-is part 0 (at-block-end .block-end .result) (at-block-end .block-end .ensures .0)) in (
+      subst Ongoing (sym f) (begun-ongoing (blockAt part 0) (handed start) (at-else4 .if4 .left) (none-yet at-else4 .1)
+          (inside at-else2)),
+      at-block-end .block-end .ensures .1 .0,
+      subst (λ (w : Writing). start .args .at ≤ w .at) (sym f)
+          (block-on (blockAt part 0) (handed start)),
     )
 
 returns-5 : tie.Need-returns-5
 returns-5 c =
-    let part = c .before .before .before .before .before .before .before .before .before .before .before .before .before .before .before .before .before .before .before .before .before .before .args .part .now in
-    let count = c .before .before .before .before .before .before .before .before .before .before .before .before .before .before .blocks-in .result in
-    let e = c .before .before .before .before .before .before .before .before .before .before .block-end .ensures .0 in
-    let g = c .before .before .before .before .before .before .before .before .before .before .before .before .before .before .blocks-in .ensures in
-    let f = c .before .before .before .before .before .before .before .begin .ensures ∙ ap (λ (block : List ℕ). blockTaken block (handed (c .before .before .before .before .before .before .before .before .before .before .before .before .before .before .before .before .before .before .before .before .before .before))) (piece-is part 0 (c .before .before .before .before .before .before .before .before .before .before .block-end .result) e) in
-    c .before .before .go3 .ensures
-    ∙ ap₂ (λ (used : ℕ) (w : Writing). answered (c .before .before .before .before .before .before .before .before .before .before .before .before .before .before .before .before .before .before .before .before .before .before .args .at) (goesOn part (count - 1) (record { used = used; writing = w }))) e f
-    ∙ ap (answered (c .before .before .before .before .before .before .before .before .before .before .before .before .before .before .before .before .before .before .before .before .before .before .args .at)) (goes-more part count (record { used = 0; writing = handed (c .before .before .before .before .before .before .before .before .before .before .before .before .before .before .before .before .before .before .before .before .before .before) }) (omega (arith, g)) (c .before .before .before .before .before .before .before .before .before .before .before .before .if3 .left) (room (c .before .before .before .before .before .before .before .before .before .before .before .before .before .before .before)))
-    ∙ run-goes (c .before .before .before .before .before .before .before .before .before .before .before .before .before .before .before .before .before .before .before .before .before .before .args .night) part (c .before .before .before .before .before .before .before .before .before .before .before .before .before .before .before .before .before .before .before .before .before .before .args .buf .now) (c .before .before .before .before .before .before .before .before .before .before .before .before .before .before .before .before .before .before .before .before .before .before .args .at) (sound (c .before .before .before .before .before .before .before .before .before .before .before .before .before .before .before)) (room (c .before .before .before .before .before .before .before .before .before .before .before .before .before .before .before)) count g
+    let at-begin = before-next (before-slice-known5 c) in
+    let at-block-end = before-begin at-begin in
+    let at-else3 = before-else4 (before-block-end at-block-end) in
+    let at-blocks-in = before-else3 at-else3 in
+    let at-else2 = before-blocks-in at-blocks-in in
+    let start = start-else2 at-else2 in
+    let part = start .args .part .now in
+    let count = at-blocks-in .blocks-in .result in
+    let e = at-block-end .block-end .ensures .0 in
+    let g = at-blocks-in .blocks-in .ensures in
+    let f = at-begin .begin .ensures ∙ ap (λ (block : List ℕ). blockTaken block (handed start))
+    (piece-is part 0 (at-block-end .block-end .result) e) in
+    c .before .before .go3 .ensures ∙ ap₂ (λ (used : ℕ) (w : Writing). answered (start .args .at)
+    (goesOn part (count - 1) (record { used = used; writing = w }))) e f
+    ∙ ap (answered (start .args .at)) (goes-more part count (record { used = 0; writing = handed start }) (omega (arith, g))
+    (at-else3 .if3 .left) (room at-else2)) ∙ run-goes (start .args .run) part (start .args .buf .now) (start .args .at)
+    (sound at-else2) (room at-else2) count g
 
 pub run-spec : {M : Type 1} → statement M
 run-spec =

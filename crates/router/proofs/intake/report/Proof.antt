@@ -33,7 +33,8 @@ reached-requires : tie.Need-reached-requires Inv-loop μ-loop
 reached-requires c κs = tt
 
 mul-senders : tie.Need-mul-senders Inv-loop μ-loop
-mul-senders c = let h0 = c .before .before .if1 .taken in let h1 = c .before .before .before .before .before .pre in record { fits = omega arith }
+mul-senders c = let h0 = c .before .before .if1 .taken in let h1 = c .before .before .before .before .before .pre in
+    record { fits = omega arith }
 
 array-set-from-senders : tie.Need-array-set-from-senders Inv-loop μ-loop
 array-set-from-senders c = let h0 = c .before .before .if1 .taken in let h1 = c .before .before .before .before .before .pre in omega arith
@@ -42,12 +43,17 @@ add-i : tie.Need-add-i Inv-loop μ-loop
 add-i c = let h0 = c .before .before .if1 .taken in let h1 = c .before .before .before .before .before .pre in record { fits = omega arith }
 
 loop-less : tie.Need-loop-less Inv-loop μ-loop
-loop-less c = fewer (c .before .before .before .before .before .args .config .ports) (c .before .before .before .before .loop .i) (c .before .before .if1 .taken)
+loop-less c = fewer (c .before .before .before .before .before .args .config .ports) (c .before .before .before .before .loop .i)
+    (c .before .before .if1 .taken)
 
 loop-again : tie.Need-loop-again Inv-loop μ-loop
 loop-again c =
-    let l = c .before .before .before .before .loop in
-    (more (c .before .before .before .before .before .args .config .ports) (c .before .before .before .before .loop .i) (c .before .before .if1 .taken), report-again (c .before .before .before .before .before .args .home .now) _ (l .senders) (c .reached .result) (l .i) (l .inv .1) (c .reached .ensures))
+    let start = c .before .before .before .before .before in
+    let l = c .before .before .before .before .loop in (
+      more (start .args .config .ports) (c .before .before .before .before .loop .i) (c .before .before .if1 .taken),
+      report-again
+          (start .args .home .now) _ (l .senders) (c .reached .result) (l .i) (l .inv .1) (c .reached .ensures),
+    )
 
 returns : tie.Need-returns Inv-loop μ-loop
 unfolding reported
@@ -60,4 +66,5 @@ returns c =
 pub report-spec : {M : Type 1} → statement M
 report-spec =
     tie.close
-    (tie.spec Inv-loop μ-loop loop-holds cast-if1 element-copy-out-reached reached-requires mul-senders array-set-from-senders add-i loop-less loop-again returns)
+    (tie.spec Inv-loop μ-loop loop-holds cast-if1 element-copy-out-reached reached-requires mul-senders array-set-from-senders add-i
+    loop-less loop-again returns)

@@ -18,39 +18,103 @@ Inv-loop config part paid next₀ next = (next ≤ config .ports) × Left (noSen
 abbrev μ-loop : tie.MeasureT-loop
 μ-loop config part paid next₀ next = config .ports - next
 
+-- The places, each from the one behind it.
+abbrev before-loop : tie.At-loop Inv-loop μ-loop → tie.Start Inv-loop μ-loop
+before-loop c = c .before .before
+
+abbrev before-then1 : tie.Then1 Inv-loop μ-loop → tie.At-loop Inv-loop μ-loop
+before-then1 c = c .before .before
+
+abbrev before-kind-of : tie.After-kind-of Inv-loop μ-loop → tie.Then1 Inv-loop μ-loop
+before-kind-of c = c .before
+
+abbrev before-else2 : tie.Else2 Inv-loop μ-loop → tie.After-kind-of Inv-loop μ-loop
+before-else2 c = c .before
+
+abbrev before-vc-of : tie.After-vc-of Inv-loop μ-loop → tie.Else2 Inv-loop μ-loop
+before-vc-of c = c .before
+
+abbrev before-wide : tie.After-wide Inv-loop μ-loop → tie.After-vc-of Inv-loop μ-loop
+before-wide c = c .before
+
+abbrev before-number : tie.After-number Inv-loop μ-loop → tie.After-wide Inv-loop μ-loop
+before-number c = c .before
+
+abbrev before-else4 : tie.Else4 Inv-loop μ-loop → tie.After-number Inv-loop μ-loop
+before-else4 c = c .before .before .before .before
+
+abbrev before-then4 : tie.Then4 Inv-loop μ-loop → tie.After-number Inv-loop μ-loop
+before-then4 c = c .before .before .before .before
+
+abbrev vc-of-number : tie.After-number Inv-loop μ-loop → tie.After-vc-of Inv-loop μ-loop
+vc-of-number c = before-wide (before-number c)
+
+-- the array has its length
+given : (c : tie.Start Inv-loop μ-loop) → length (c .args .t2) ≡ 32
+given c = search (needs, length-any)
+
 loop-holds : tie.Need-loop-holds Inv-loop μ-loop
 loop-holds c = (search needs, left-all _ _)
 
 -- no flit comes
 loop-again : tie.Need-loop-again Inv-loop μ-loop
 loop-again c =
-    let l = c .before .before .before .before .loop in
-    let a = c .before .before .before .before .before .before .args in (
+    let l = before-then1 (before-kind-of (c .before)) .loop in
+    let a = before-loop (before-then1 (before-kind-of (c .before))) .args in (
       more (a .config .ports) (l .next) (c .before .before .if1 .taken),
-      left-next _ _ _ (c .before .before .if1 .taken) (l .inv .1) (sym (credit-none _ _ _ _ _ (c .before .kind-of .ensures) (c .if2 .taken))),
+      left-next _ _ _ (c .before .before .if1 .taken) (l .inv .1)
+          (sym (credit-none _ _ _ _ _ (c .before .kind-of .ensures) (c .if2 .taken))),
     )
 
 -- a flit on a VC that there is not
 returns : tie.Need-returns Inv-loop μ-loop
 returns c =
-    let l = c .before .before .before .before .before .before .before .before .loop in
-    let a = c .before .before .before .before .before .before .before .before .before .before .args in
-    let long : length (a .t2) ≡ 32 = search (needs, length-any) in
-    left-found _ _ _ (c .before .before .before .before .before .before .if1 .taken) (c .before .before .before .before .before .before .before .before .before .before .pre .0) (l .inv .1) (sym (credit-out _ _ _ _ _ (c .before .before .before .before .before .kind-of .ensures) (c .before .before .before .before .if2 .left) _ (c .before .before .wide .ensures .0 ∙ c .before .before .before .vc-of .ensures) _ (c .before .number .ensures) (rw long (c .if3 .taken))))
+    let at-vc-of = vc-of-number (c .before) in
+    let at-else2 = before-vc-of at-vc-of in
+    let at-kind-of = before-else2 at-else2 in
+    let at-then1 = before-kind-of at-kind-of in
+    let at-loop = before-then1 at-then1 in
+    let start = before-loop at-loop in
+    let l = at-loop .loop in
+    let a = start .args in
+    let long : length (a .t2) ≡ 32 = given start in
+    left-found _ _ _ (at-then1 .if1 .taken) (start .pre .0) (l .inv .1)
+    (sym (credit-out _ _ _ _ _ (at-kind-of .kind-of .ensures) (at-else2 .if2 .left) _
+    (c .before .before .wide .ensures .0 ∙ at-vc-of .vc-of .ensures) _ (c .before .number .ensures) (rw long (c .if3 .taken))))
 
 -- a flit on one that there is
 returns-2 : tie.Need-returns-2 Inv-loop μ-loop
 returns-2 c =
-    let l = c .before .before .before .before .before .before .before .before .before .before .before .loop in
-    let a = c .before .before .before .before .before .before .before .before .before .before .before .before .before .args in
-    left-found _ _ _ (c .before .before .before .before .before .before .before .before .before .if1 .taken) (c .before .before .before .before .before .before .before .before .before .before .before .before .before .pre .0) (l .inv .1) (sym (credit-in _ _ _ _ _ (c .before .before .before .before .before .before .before .before .kind-of .ensures) (c .before .before .before .before .before .before .before .if2 .left) _ (c .before .before .before .before .before .wide .ensures .0 ∙ c .before .before .before .before .before .before .vc-of .ensures) _ (c .before .before .before .before .number .ensures)) ∙ c .if4 .taken)
+    let at-number = before-then4 c in
+    let at-wide = before-number at-number in
+    let at-vc-of = before-wide at-wide in
+    let at-else2 = before-vc-of at-vc-of in
+    let at-kind-of = before-else2 at-else2 in
+    let at-then1 = before-kind-of at-kind-of in
+    let at-loop = before-then1 at-then1 in
+    let start = before-loop at-loop in
+    let l = at-loop .loop in
+    let a = start .args in
+    left-found _ _ _ (at-then1 .if1 .taken) (start .pre .0) (l .inv .1)
+    (sym (credit-in _ _ _ _ _ (at-kind-of .kind-of .ensures) (at-else2 .if2 .left) _
+    (at-wide .wide .ensures .0 ∙ at-vc-of .vc-of .ensures) _ (at-number .number .ensures)) ∙ c .if4 .taken)
 
 loop-again-2 : tie.Need-loop-again-2 Inv-loop μ-loop
 loop-again-2 c =
-    let l = c .before .before .before .before .before .before .before .before .before .before .before .loop in
-    let a = c .before .before .before .before .before .before .before .before .before .before .before .before .before .args in (
-      more (a .config .ports) (l .next) (c .before .before .before .before .before .before .before .before .before .if1 .taken),
-      left-next _ _ _ (c .before .before .before .before .before .before .before .before .before .if1 .taken) (l .inv .1) (sym (credit-in _ _ _ _ _ (c .before .before .before .before .before .before .before .before .kind-of .ensures) (c .before .before .before .before .before .before .before .if2 .left) _ (c .before .before .before .before .before .wide .ensures .0 ∙ c .before .before .before .before .before .before .vc-of .ensures) _ (c .before .before .before .before .number .ensures)) ∙ c .if4 .left),
+    let at-number = before-else4 c in
+    let at-wide = before-number at-number in
+    let at-vc-of = before-wide at-wide in
+    let at-else2 = before-vc-of at-vc-of in
+    let at-kind-of = before-else2 at-else2 in
+    let at-then1 = before-kind-of at-kind-of in
+    let at-loop = before-then1 at-then1 in
+    let start = before-loop at-loop in
+    let l = at-loop .loop in
+    let a = start .args in (
+      more (a .config .ports) (l .next) (at-then1 .if1 .taken),
+      left-next _ _ _ (at-then1 .if1 .taken) (l .inv .1)
+          (sym (credit-in _ _ _ _ _ (at-kind-of .kind-of .ensures) (at-else2 .if2 .left) _
+          (at-wide .wide .ensures .0 ∙ at-vc-of .vc-of .ensures) _ (at-number .number .ensures)) ∙ c .if4 .left),
     )
 
 returns-3 : tie.Need-returns-3 Inv-loop μ-loop

@@ -36,4 +36,5 @@ returns-2 c = left-none _ _ _ (c .loop-test .left) (c .before .loop .inv .1)
 
 pub first-wrong-row-spec : {M : Type 1} → statement M
 first-wrong-row-spec =
-    tie.close (tie.spec Inv-loop μ-loop loop-holds (λ c κs. search needs) returns (λ c. let h0 = c .if1 .left in record { fits = omega arith }) (λ c. search needs) loop-again returns-2)
+    tie.close (tie.spec Inv-loop μ-loop loop-holds (λ c κs. search needs) returns
+    (λ c. let h0 = c .if1 .left in record { fits = omega arith }) (λ c. search needs) loop-again returns-2)

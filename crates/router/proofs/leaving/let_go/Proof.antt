@@ -12,7 +12,8 @@ returns c =
     let row = getD (a .t2) (a .o) 0 in
     let input = c .before .before .before .before .less-one .ensures in
     let i = c .before .before .before .wide .ensures .0 in (
-      let-go-seen row (a .t3) (c .departed .ensures) input i (c .before .less-one2 .ensures) (c .before .before .before .before .before .before .before .front .ensures),
+      let-go-seen row (a .t3) (c .departed .ensures) input i (c .before .less-one2 .ensures)
+          (c .before .before .before .before .before .before .before .front .ensures),
       c .before .before .before .before .before .pop .ensures,
       let-go-home row (a .home .now) (a .t3) (a .config .back) input i,
     )

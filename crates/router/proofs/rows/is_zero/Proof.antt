@@ -35,4 +35,5 @@ returns-2 c = sym (every-passed _ _ _ (c .before .loop .inv .0) (c .loop-test .l
 
 pub is-zero-spec : {M : Type 1} → statement M
 is-zero-spec =
-    tie.close (tie.spec Inv-loop μ-loop (λ c. search needs) loop-holds (λ c. search needs) (λ c. search needs) returns (λ c. let h0 = c .if1 .left in record { fits = omega arith }) (λ c. search needs) loop-again returns-2)
+    tie.close (tie.spec Inv-loop μ-loop (λ c. search needs) loop-holds (λ c. search needs) (λ c. search needs) returns
+    (λ c. let h0 = c .if1 .left in record { fits = omega arith }) (λ c. search needs) loop-again returns-2)

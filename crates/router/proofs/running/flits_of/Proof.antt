@@ -17,16 +17,33 @@ loop-holds : tie.Need-loop-holds Inv-loop μ-loop
 loop-holds c = (omega arith, omega arith, count-none _)
 
 loop-again : tie.Need-loop-again Inv-loop μ-loop
-loop-again c = (omega arith, let l = c .before .before .before .before .loop .inv .1 in omega (arith, l), none-counted _ (c .before .before .before .before .loop .next) (c .before .before .before .before .loop .count) (c .enum-told2 .given .1) (c .before .before .before .before .loop .inv .2))
+loop-again c =
+    let at-loop = c .before .before .before .before in (
+      omega arith,
+      let l = at-loop .loop .inv .1 in omega (arith, l),
+      none-counted _ (at-loop .loop .next) (at-loop .loop .count)
+          (c .enum-told2 .given .1) (at-loop .loop .inv .2),
+    )
 
 add-count : tie.Need-add-count Inv-loop μ-loop
-add-count c = let l = c .before .before .before .before .loop .inv .0 in let m = c .before .before .before .before .loop .inv .1 in record { fits = omega (arith, l, m) }
+add-count c = let l = c .before .before .before .before .loop .inv .0 in let m = c .before .before .before .before .loop .inv .1 in
+    record { fits = omega (arith, l, m) }
 
 loop-again-2 : tie.Need-loop-again-2 Inv-loop μ-loop
-loop-again-2 c = (omega arith, let l = c .before .before .before .before .loop .inv .1 in omega (arith, l), one-counted _ (c .before .before .before .before .loop .next) (c .before .before .before .before .loop .count) _ (c .enum-told .given .1) (c .before .before .before .before .loop .inv .2))
+loop-again-2 c =
+    let at-loop = c .before .before .before .before in (
+      omega arith,
+      let l = at-loop .loop .inv .1 in omega (arith, l),
+      one-counted _ (at-loop .loop .next) (at-loop .loop .count) _
+          (c .enum-told .given .1) (at-loop .loop .inv .2),
+    )
 
 returns : tie.Need-returns Inv-loop μ-loop
-returns c = (λ cycle. counted (c .before .before .before .args .reply) cycle (c .before .loop .next) (c .before .loop .count) (omega arith) (c .before .loop .inv .2), let l = c .before .loop .inv .1 in omega (arith, l))
+returns c = (
+  λ cycle. counted (c .before .before .before .args .reply) cycle (c .before .loop .next) (c .before .loop .count)
+      (omega arith) (c .before .loop .inv .2),
+  let l = c .before .loop .inv .1 in omega (arith, l),
+)
 
 pub flits-of-spec : {M : Type 1} → statement M
 flits-of-spec =

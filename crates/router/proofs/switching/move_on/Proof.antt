@@ -46,13 +46,16 @@ loop-again c =
     )
 
 mul-arbiter : tie.Need-mul-arbiter Inv-loop μ-loop
-mul-arbiter c = let h0 = c .if2 .left in let h1 = c .before .if1 .taken in let h2 = c .before .before .before .before .pre in record { fits = omega arith }
+mul-arbiter c = let h0 = c .if2 .left in let h1 = c .before .if1 .taken in let h2 = c .before .before .before .before .pre in
+    record { fits = omega arith }
 
 array-copy-out-arbiter : tie.Need-array-copy-out-arbiter Inv-loop μ-loop
-array-copy-out-arbiter c = let h0 = c .if2 .left in let h1 = c .before .if1 .taken in let h2 = c .before .before .before .before .pre in omega arith
+array-copy-out-arbiter c = let h0 = c .if2 .left in let h1 = c .before .if1 .taken in let h2 = c .before .before .before .before .pre in
+    omega arith
 
 sub-moved : tie.Need-sub-moved Inv-loop μ-loop
-sub-moved c = let h0 = c .before .if2 .left in let h1 = c .before .before .if1 .taken in let h2 = c .before .before .before .before .before .pre in omega arith
+sub-moved c = let h0 = c .before .if2 .left in let h1 = c .before .before .if1 .taken in
+    let h2 = c .before .before .before .before .before .pre in omega arith
 
 cast-moved : tie.Need-cast-moved Inv-loop μ-loop
 cast-moved c =
@@ -66,21 +69,28 @@ moved-requires : tie.Need-moved-requires Inv-loop μ-loop
 moved-requires c κs = search needs
 
 mul-arbiters : tie.Need-mul-arbiters Inv-loop μ-loop
-mul-arbiters c = let h0 = c .before .before .if2 .left in let h1 = c .before .before .before .if1 .taken in let h2 = c .before .before .before .before .before .before .pre in record { fits = omega arith }
+mul-arbiters c = let h0 = c .before .before .if2 .left in let h1 = c .before .before .before .if1 .taken in
+    let h2 = c .before .before .before .before .before .before .pre in record { fits = omega arith }
 
 array-set-from-arbiters : tie.Need-array-set-from-arbiters Inv-loop μ-loop
-array-set-from-arbiters c = let h0 = c .before .before .if2 .left in let h1 = c .before .before .before .if1 .taken in let h2 = c .before .before .before .before .before .before .pre in omega arith
+array-set-from-arbiters c = let h0 = c .before .before .if2 .left in let h1 = c .before .before .before .if1 .taken in
+    let h2 = c .before .before .before .before .before .before .pre in omega arith
 
 loop-less-2 : tie.Need-loop-less-2 Inv-loop μ-loop
-loop-less-2 c = fewer (c .before .before .before .before .before .before .args .config .ports) (c .before .before .before .before .before .loop .next) (c .before .before .before .if1 .taken)
+loop-less-2 c = fewer (c .before .before .before .before .before .before .args .config .ports)
+    (c .before .before .before .before .before .loop .next) (c .before .before .before .if1 .taken)
 
 loop-again-2 : tie.Need-loop-again-2 Inv-loop μ-loop
 loop-again-2 c =
-    let l = c .before .before .before .before .before .loop in
-    let a = c .before .before .before .before .before .before .args in (
-      more (c .before .before .before .before .before .before .args .config .ports) (c .before .before .before .before .before .loop .next) (c .before .before .before .if1 .taken),
-      over-again (l .next) (turn (a .config) (a .n) (a .t4)) (a .before) (l .arbiters) _ (l .inv .1)
-          (turn-moves (a .config) (a .n) (a .t4) (l .arbiters) (l .next) (c .before .before .if2 .left) (c .moved .result) (c .moved .ensures)),
+    let start = c .before .before .before .before .before .before in
+    let at-loop = c .before .before .before .before .before in
+    let l = at-loop .loop in
+    let a = start .args in (
+      more (start .args .config .ports) (at-loop .loop .next) (c .before .before .before .if1 .taken),
+      over-again (l .next)
+          (turn (a .config) (a .n) (a .t4)) (a .before) (l .arbiters) _ (l .inv .1)
+          (turn-moves (a .config) (a .n) (a .t4) (l .arbiters) (l .next) (c .before .before .if2 .left) (c .moved .result)
+          (c .moved .ensures)),
     )
 
 returns : tie.Need-returns Inv-loop μ-loop
@@ -94,4 +104,5 @@ returns c =
 pub move-on-spec : {M : Type 1} → statement M
 move-on-spec =
     tie.close
-    (tie.spec Inv-loop μ-loop loop-holds cast-if1 add-next array-read-pick loop-less loop-again mul-arbiter array-copy-out-arbiter sub-moved cast-moved moved-requires mul-arbiters array-set-from-arbiters loop-less-2 loop-again-2 returns)
+    (tie.spec Inv-loop μ-loop loop-holds cast-if1 add-next array-read-pick loop-less loop-again mul-arbiter array-copy-out-arbiter
+    sub-moved cast-moved moved-requires mul-arbiters array-set-from-arbiters loop-less-2 loop-again-2 returns)

@@ -20,8 +20,7 @@ enum-told c = search needs
 
 returns : tie.Need-returns
 unfolding asks
-returns c =
-    nobody-named (c .before .before .choose .result) _ (c .enum-told .given .1) (c .before .before .choose .ensures)
+returns c = nobody-named (c .before .before .choose .result) _ (c .enum-told .given .1) (c .before .before .choose .ensures)
 
 -- a winner is below the room
 low : (c : tie.After-known-told) → c .before .pick .given .0 .0 < 8

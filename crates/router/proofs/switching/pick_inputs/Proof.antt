@@ -41,16 +41,19 @@ pick-requires : tie.Need-pick-requires Inv-loop μ-loop
 pick-requires c κs = tt
 
 array-write-picks : tie.Need-array-write-picks Inv-loop μ-loop
-array-write-picks c = let h0 = c .before .before .if1 .taken in let h1 = c .before .before .before .before .before .before .pre .0 in omega arith
+array-write-picks c = let h0 = c .before .before .if1 .taken in let h1 = c .before .before .before .before .before .before .pre .0 in
+    omega arith
 
 shr-left : tie.Need-shr-left Inv-loop μ-loop
 shr-left c = let h = c .before .before .before .before .before .before .pre .1 in omega arith
 
 add-i : tie.Need-add-i Inv-loop μ-loop
-add-i c = let h0 = c .before .before .if1 .taken in let h1 = c .before .before .before .before .before .before .pre .0 in record { fits = omega arith }
+add-i c = let h0 = c .before .before .if1 .taken in let h1 = c .before .before .before .before .before .before .pre .0 in
+    record { fits = omega arith }
 
 loop-less : tie.Need-loop-less Inv-loop μ-loop
-loop-less c = fewer (c .before .before .before .before .before .before .args .config .ports) (c .before .before .before .before .loop .i) (c .before .before .if1 .taken)
+loop-less c = fewer (c .before .before .before .before .before .before .args .config .ports)
+    (c .before .before .before .before .loop .i) (c .before .before .if1 .taken)
 
 loop-again : tie.Need-loop-again Inv-loop μ-loop
 loop-again c =
@@ -59,7 +62,8 @@ loop-again c =
     let left : l .left ≡ a .ready / 2 ^ (l .i * a .config .vcs) = l .inv .2 in
     let e : named (c .pick .result) ≡ inputChoice (a .config) (a .ready) (a .t3) (l .i) = c .pick .ensures ∙ rw left in
     let long : l .i < length (l .picks) = let k = l .inv .1 in omega arith in (
-      more (c .before .before .before .before .before .before .args .config .ports) (c .before .before .before .before .loop .i) (c .before .before .if1 .taken),
+      more (c .before .before .before .before .before .before .args .config .ports) (c .before .before .before .before .loop .i)
+          (c .before .before .if1 .taken),
       length-set (l .picks) (l .i) (c .pick .result) ∙ l .inv .1,
       ap (λ (x : ℕ). x / 2 ^ a .config .vcs) left ∙ shifted (a .ready) (l .i) (a .config .vcs),
       picks-again (inputChoice (a .config) (a .ready) (a .t3)) (l .picks) (l .i) (c .pick .result) long (l .inv .3) e,
@@ -74,4 +78,5 @@ returns c i h =
 pub pick-inputs-spec : {M : Type 1} → statement M
 pick-inputs-spec =
     tie.close
-    (tie.spec Inv-loop μ-loop cast-n loop-holds cast-if1 mul-arbiter array-copy-out-arbiter pick-requires array-write-picks shr-left add-i loop-less loop-again returns)
+    (tie.spec Inv-loop μ-loop cast-n loop-holds cast-if1 mul-arbiter array-copy-out-arbiter pick-requires array-write-picks shr-left
+    add-i loop-less loop-again returns)

@@ -44,26 +44,33 @@ pick-requires : tie.Need-pick-requires Inv-loop μ-loop
 pick-requires c κs = tt
 
 array-write-picks : tie.Need-array-write-picks Inv-loop μ-loop
-array-write-picks c = let h0 = c .before .before .before .if1 .taken in let h1 = c .before .before .before .before .before .before .before .pre in omega arith
+array-write-picks c = let h0 = c .before .before .before .if1 .taken in
+    let h1 = c .before .before .before .before .before .before .before .pre in omega arith
 
 add-o : tie.Need-add-o Inv-loop μ-loop
-add-o c = let h0 = c .before .before .before .if1 .taken in let h1 = c .before .before .before .before .before .before .before .pre in record { fits = omega arith }
+add-o c = let h0 = c .before .before .before .if1 .taken in let h1 = c .before .before .before .before .before .before .before .pre in
+    record { fits = omega arith }
 
 loop-less : tie.Need-loop-less Inv-loop μ-loop
-loop-less c = fewer (c .before .before .before .before .before .before .before .args .config .ports) (c .before .before .before .before .before .loop .o) (c .before .before .before .if1 .taken)
+loop-less c = fewer (c .before .before .before .before .before .before .before .args .config .ports)
+    (c .before .before .before .before .before .loop .o) (c .before .before .before .if1 .taken)
 
 loop-again : tie.Need-loop-again Inv-loop μ-loop
 loop-again c =
-    let l = c .before .before .before .before .before .loop in
-    let a = c .before .before .before .before .before .before .before .args in
-    let p = c .before .before .before .before .before .before .before .pre in
+    let start = c .before .before .before .before .before .before .before in
+    let at-loop = c .before .before .before .before .before in
+    let l = at-loop .loop in
+    let a = start .args in
+    let p = start .pre in
     let w = c .before .column in
-    let e : named (c .pick .result) ≡ outputChoice (a .config) (a .table .now) (a .t3) (l .o) =
-    c .pick .ensures ∙ column-choice (a .config) (a .table .now) (a .t3) (l .o) (w .result) p (w .ensures) in
+    let e : named (c .pick .result) ≡ outputChoice (a .config) (a .table .now) (a .t3) (l .o) = c .pick .ensures
+    ∙ column-choice (a .config) (a .table .now) (a .t3) (l .o) (w .result) p (w .ensures) in
     let long : l .o < length (l .picks) = let k = l .inv .1 in omega arith in (
-      more (c .before .before .before .before .before .before .before .args .config .ports) (c .before .before .before .before .before .loop .o) (c .before .before .before .if1 .taken),
-      length-set (l .picks) (l .o) (c .pick .result) ∙ l .inv .1,
-      picks-again (outputChoice (a .config) (a .table .now) (a .t3)) (l .picks) (l .o) (c .pick .result) long (l .inv .2) e,
+      more (start .args .config .ports) (at-loop .loop .o) (c .before .before .before .if1 .taken),
+      length-set (l .picks) (l .o)
+          (c .pick .result) ∙ l .inv .1,
+      picks-again (outputChoice (a .config) (a .table .now) (a .t3)) (l .picks) (l .o)
+          (c .pick .result) long (l .inv .2) e,
     )
 
 returns : tie.Need-returns Inv-loop μ-loop
@@ -75,4 +82,5 @@ returns c o h =
 pub pick-outputs-spec : {M : Type 1} → statement M
 pick-outputs-spec =
     tie.close
-    (tie.spec Inv-loop μ-loop cast-n loop-holds cast-if1 mul-arbiter array-copy-out-arbiter column-requires pick-requires array-write-picks add-o loop-less loop-again returns)
+    (tie.spec Inv-loop μ-loop cast-n loop-holds cast-if1 mul-arbiter array-copy-out-arbiter column-requires pick-requires
+    array-write-picks add-o loop-less loop-again returns)

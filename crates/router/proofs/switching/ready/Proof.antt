@@ -12,10 +12,30 @@ use Rattle.router.proofs.switching.ready.Statement.{statement}
 use Rattle.router.proofs.switching.ready.Tie as tie
 
 abbrev Inv-loop : tie.InvT-loop
-Inv-loop config inputs outputs set₀ next₀ set next = (next ≤ config .ports * config .vcs) × (set ≡ wordOf (readyAt config inputs outputs) next)
+Inv-loop config inputs outputs set₀ next₀ set next = (next ≤ config .ports * config .vcs)
+    × (set ≡ wordOf (readyAt config inputs outputs) next)
 
 abbrev μ-loop : tie.MeasureT-loop
 μ-loop config inputs outputs set₀ next₀ set next = config .ports * config .vcs - next
+
+-- The places, each from the one behind it.
+abbrev before-loop : tie.At-loop Inv-loop μ-loop → tie.Start Inv-loop μ-loop
+before-loop c = c .before
+
+abbrev before-else1 : tie.Else1 Inv-loop μ-loop → tie.At-loop Inv-loop μ-loop
+before-else1 c = c .before .before .before
+
+abbrev before-waits-for : tie.After-waits-for Inv-loop μ-loop → tie.At-loop Inv-loop μ-loop
+before-waits-for c = c .before .before .before .before .before
+
+abbrev before-else3 : tie.Else3 Inv-loop μ-loop → tie.After-waits-for Inv-loop μ-loop
+before-else3 c = c .before .before .before .before
+
+abbrev before-then3 : tie.Then3 Inv-loop μ-loop → tie.After-waits-for Inv-loop μ-loop
+before-then3 c = c .before .before .before .before
+
+abbrev loop-else3 : tie.Else3 Inv-loop μ-loop → tie.At-loop Inv-loop μ-loop
+loop-else3 c = before-waits-for (before-else3 c)
 
 loop-holds : tie.Need-loop-holds Inv-loop μ-loop
 loop-holds c = (search needs, word-none (readyAt (c .args .config) (c .args .t2) (c .args .t3)))
@@ -23,8 +43,8 @@ loop-holds c = (search needs, word-none (readyAt (c .args .config) (c .args .t2)
 -- it is not bound, or bound past the array, or nothing is queued
 loop-again : tie.Need-loop-again Inv-loop μ-loop
 loop-again c =
-    let l = c .before .before .before .before .before .before .loop in
-    let a = c .before .before .before .before .before .before .before .args in
+    let l = before-waits-for (c .before) .loop in
+    let a = before-loop (before-waits-for (c .before)) .args in
     let long : length (a .t3) ≡ 32 = search (needs, length-any) in
     let w = c .before .waits-for in (
       search needs,
@@ -35,10 +55,13 @@ loop-again c =
 -- no credit
 loop-again-2 : tie.Need-loop-again-2 Inv-loop μ-loop
 loop-again-2 c =
-    let l = c .before .before .before .before .before .before .before .before .before .loop in
-    let a = c .before .before .before .before .before .before .before .before .before .before .args in
+    let at-waits-for = before-then3 c in
+    let at-loop = before-waits-for at-waits-for in
+    let start = before-loop at-loop in
+    let l = at-loop .loop in
+    let a = start .args in
     let long : length (a .t3) ≡ 32 = search (needs, length-any) in
-    let w = c .before .before .before .before .waits-for in (
+    let w = at-waits-for .waits-for in (
       search needs,
       word-again (readyAt (a .config) (a .t2) (a .t3)) (l .next) (l .set) (l .inv .1)
           (w .ensures (a .t3) long ∙ spent (a .t3) (w .result) (c .if3 .taken)),
@@ -46,18 +69,21 @@ loop-again-2 c =
 
 add-set : tie.Need-add-set Inv-loop μ-loop
 add-set c =
-    let l = c .before .before .before .before .before .before .before .before .before .loop in
-    let a = c .before .before .before .before .before .before .before .before .before .before .args in
+    let l = loop-else3 c .loop in
+    let a = before-loop (loop-else3 c) .args in
     let h : l .next < 32 = search needs in
     record { fits = word-fits (readyAt (a .config) (a .t2) (a .t3)) (l .next) (l .set) (l .inv .1) h }
 
 loop-again-3 : tie.Need-loop-again-3 Inv-loop μ-loop
 loop-again-3 c =
-    let l = c .before .before .before .before .before .before .before .before .before .loop in
-    let a = c .before .before .before .before .before .before .before .before .before .before .args in
+    let at-waits-for = before-else3 c in
+    let at-loop = before-waits-for at-waits-for in
+    let start = before-loop at-loop in
+    let l = at-loop .loop in
+    let a = start .args in
     let long : length (a .t3) ≡ 32 = search (needs, length-any) in
     let h : l .next < 32 = search needs in
-    let w = c .before .before .before .before .waits-for in (
+    let w = at-waits-for .waits-for in (
       search needs,
       word-with (readyAt (a .config) (a .t2) (a .t3)) (l .next) (l .set) (l .inv .1) h
           (w .ensures (a .t3) long ∙ unspent (a .t3) (w .result) (c .if3 .left)),
@@ -65,8 +91,8 @@ loop-again-3 c =
 
 returns : tie.Need-returns Inv-loop μ-loop
 returns c =
-    let l = c .before .before .before .loop in
-    let a = c .before .before .before .before .args in
+    let l = before-else1 c .loop in
+    let a = before-loop (before-else1 c) .args in
     let e : l .next ≡ a .config .ports * a .config .vcs = let t = c .if1 .left in omega arith in
     l .inv .1 ∙ ap (wordOf (readyAt (a .config) (a .t2) (a .t3))) e
 

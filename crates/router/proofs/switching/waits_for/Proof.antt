@@ -1,9 +1,9 @@
 -- `router::switching::waits_for` meets its contract.
 -- Assumes nothing.
-use mathlib.Core.Path.{_≡_, sym, ap₂, _∙_}
+use mathlib.Core.Path.{sym, ap₂, _∙_}
 use native.Mathlib.Omega.{arith}
 use borrow.Author.Needs.{needs}
-use Rattle.state.specs.Views.{channel}
+use Rattle.state.specs.Views.{channelNumber}
 use Rattle.router.proofs.Readiness.{empty-waits, unbound-waits, credit-decides, no-credit-past}
 use Rattle.router.proofs.switching.waits_for.Statement.{statement}
 use Rattle.router.proofs.switching.waits_for.Tie as tie
@@ -23,8 +23,9 @@ returns-3 c outputs long =
     let a = c .before .before .before .before .before .before .before .before .args in
     let to = c .before .before .before .before .binding .given in
     let n = c .number in
-    let e = n .ensures ∙ ap₂ (channel (a .config)) (c .before .before .wide .ensures .0) (c .before .wide2 .ensures .0) in
-    sym (credit-decides (a .config) outputs (a .input) (to .0 .0) (to .1) (c .before .before .before .before .before .before .if1 .left) (n .result) e)
+    let e = n .ensures ∙ ap₂ (channelNumber (a .config)) (c .before .before .wide .ensures .0) (c .before .wide2 .ensures .0) in
+    sym (credit-decides (a .config) outputs (a .input) (to .0 .0) (to .1) (c .before .before .before .before .before .before .if1 .left)
+    (n .result) e)
 
 pub waits-for-spec : {M : Type 1} → statement M
 waits-for-spec =

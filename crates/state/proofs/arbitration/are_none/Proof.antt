@@ -1,6 +1,6 @@
 -- `state::arbitration::are_none` meets its contract: sound over one requester is all zero.
 -- Assumes nothing.
-use mathlib.Core.Path.{_≡_, sym, ap, ap₂, _∙_}
+use mathlib.Core.Path.{sym, _∙_}
 use borrow.Author.Tests.{not-true, not-false}
 use Rattle.arbiter.specs.Arbiter as arbiter
 use Rattle.arbiter.specs.Arbiter.{ofNarrow, ofWide}
@@ -27,12 +27,13 @@ is-sound-requires-2 c κs = search needs
 returns-2 : tie.Need-returns-2
 unfolding noArbiters
 returns-2 c =
-    three-second (arbiterUnused 32 (ofWide (c .before .before .before .before .args .vcs))) (arbiterUnused 8 (ofNarrow
-    (c .before .before .before .before .args .input))) (arbiterUnused 8 (ofNarrow (c .before .before .before .before .args .output))) (sym
-    (one-unused-wide (c .before .before .before .before .args .vcs)) ∙ (sym (c .before .before .before .is-sound .ensures) ∙ not-false
-    (c .before .before .before .is-sound .result) (c .before .before .if1 .left))) (sym (one-unused-narrow
-    (c .before .before .before .before .args .input)) ∙ (sym (c .before .is-sound2 .ensures) ∙ not-true (c .before .is-sound2 .result)
-    (c .if2 .taken)))
+    let start = c .before .before .before .before in
+    three-second (arbiterUnused 32 (ofWide (start .args .vcs))) (arbiterUnused 8 (ofNarrow (start .args .input)))
+    (arbiterUnused 8 (ofNarrow (start .args .output))) (sym (one-unused-wide (start .args .vcs))
+    ∙ (sym (c .before .before .before .is-sound .ensures)
+    ∙ not-false (c .before .before .before .is-sound .result) (c .before .before .if1 .left)))
+    (sym (one-unused-narrow (start .args .input)) ∙ (sym (c .before .is-sound2 .ensures)
+    ∙ not-true (c .before .is-sound2 .result) (c .if2 .taken)))
 
 is-sound-requires-3 : tie.Need-is-sound-requires-3
 is-sound-requires-3 c κs = search needs
@@ -40,13 +41,14 @@ is-sound-requires-3 c κs = search needs
 returns-3 : tie.Need-returns-3
 unfolding noArbiters
 returns-3 c =
-    c .is-sound3 .ensures ∙ one-unused-narrow (c .before .before .before .before .before .args .output) ∙ three-third (arbiterUnused 32 (ofWide
-    (c .before .before .before .before .before .args .vcs))) (arbiterUnused 8 (ofNarrow (c .before .before .before .before .before .args .input)))
-    (arbiterUnused 8 (ofNarrow (c .before .before .before .before .before .args .output))) (sym (one-unused-wide
-    (c .before .before .before .before .before .args .vcs)) ∙ (sym (c .before .before .before .before .is-sound .ensures) ∙ not-false
-    (c .before .before .before .before .is-sound .result) (c .before .before .before .if1 .left))) (sym (one-unused-narrow
-    (c .before .before .before .before .before .args .input)) ∙ (sym (c .before .before .is-sound2 .ensures) ∙ not-false
-    (c .before .before .is-sound2 .result) (c .before .if2 .left)))
+    let start = c .before .before .before .before .before in
+    c .is-sound3 .ensures ∙ one-unused-narrow (start .args .output)
+    ∙ three-third (arbiterUnused 32 (ofWide (start .args .vcs))) (arbiterUnused 8 (ofNarrow (start .args .input)))
+    (arbiterUnused 8 (ofNarrow (start .args .output))) (sym (one-unused-wide (start .args .vcs))
+    ∙ (sym (c .before .before .before .before .is-sound .ensures)
+    ∙ not-false (c .before .before .before .before .is-sound .result) (c .before .before .before .if1 .left)))
+    (sym (one-unused-narrow (start .args .input)) ∙ (sym (c .before .before .is-sound2 .ensures)
+    ∙ not-false (c .before .before .is-sound2 .result) (c .before .if2 .left)))
 
 pub are-none-spec : {M : Type 1} → statement M
 are-none-spec =

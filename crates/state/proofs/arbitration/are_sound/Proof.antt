@@ -1,9 +1,8 @@
 -- `state::arbitration::are_sound` meets its contract: the ports passed so far pass.
 -- Assumes nothing.
-use native.Mathlib.Omega.{arith}
-use mathlib.Core.Path.{_≡_, sym, ap, ap₂, _∙_}
-use Prim.Native.Nat.{ℕ, _≤_, _<_, _*_, _-_}
-use mathlib.Core.Bool.{Bool, true, false}
+use mathlib.Core.Path.{_≡_, sym, _∙_}
+use Prim.Native.Nat.{ℕ, _≤_, _-_}
+use mathlib.Core.Bool.{true}
 use borrow.Author.Tests.{not-true, not-false}
 use lib.ListN.{getD}
 use Rattle.base.specs.Search.{every}
@@ -29,7 +28,7 @@ cast-end c = search needs
 loop-holds : tie.Need-loop-holds Inv-loop μ-loop
 loop-holds c = (
   search needs,
-  c .before .pre .ports,
+  c .before .pre .ports .1,
   every-none (λ (j : ℕ). portArbiters (c .before .args .config) (getD (c .before .args .t2) j pastWide)
       (getD (c .before .args .t3) j pastNarrow) (getD (c .before .args .t4) j pastNarrow)),
 )

@@ -1,9 +1,8 @@
 -- `state::arbitration::are_unused` meets its contract: the ports passed so far have no arbiters.
 -- Assumes nothing.
-use native.Mathlib.Omega.{arith}
-use mathlib.Core.Path.{_≡_, sym, ap, ap₂, _∙_}
-use Prim.Native.Nat.{ℕ, _≤_, _<_, _*_, _-_}
-use mathlib.Core.Bool.{Bool, true, false}
+use mathlib.Core.Path.{_≡_, sym, _∙_}
+use Prim.Native.Nat.{_≤_, _-_}
+use mathlib.Core.Bool.{true}
 use borrow.Author.Tests.{not-true, not-false}
 use Rattle.base.specs.Search.{every}
 use borrow.Author.Needs.{needs}
@@ -26,7 +25,7 @@ cast-i c = search needs
 loop-holds : tie.Need-loop-holds Inv-loop μ-loop
 loop-holds c = (
   search needs,
-  c .before .pre .ports,
+  c .before .pre .ports .1,
   none-below (c .before .args .config .ports) (c .before .args .t2) (c .before .args .t3)
       (c .before .args .t4),
 )
@@ -63,8 +62,10 @@ returns c =
     (c .before .before .before .before .before .before .before .before .args .config .ports)
     (c .before .before .before .before .before .before .before .before .args .t2)
     (c .before .before .before .before .before .before .before .before .args .t3)
-    (c .before .before .before .before .before .before .before .before .args .t4) (c .before .before .before .before .before .before .loop .i)
-    (c .before .before .before .before .before .before .loop .inv .0) ∙ (sym (c .before .are-none .ensures) ∙ not-true (c .before .are-none .result)
+    (c .before .before .before .before .before .before .before .before .args .t4)
+    (c .before .before .before .before .before .before .loop .i)
+    (c .before .before .before .before .before .before .loop .inv .0)
+    ∙ (sym (c .before .are-none .ensures) ∙ not-true (c .before .are-none .result)
     (c .if1 .taken)))
 
 add-i : tie.Need-add-i Inv-loop μ-loop
@@ -81,11 +82,13 @@ loop-again c = (
       (c .before .before .before .before .before .before .before .before .args .config .ports)
       (c .before .before .before .before .before .before .before .before .args .t2)
       (c .before .before .before .before .before .before .before .before .args .t3)
-      (c .before .before .before .before .before .before .before .before .args .t4)) (c .before .before .before .before .before .before .loop .inv .2)
+      (c .before .before .before .before .before .before .before .before .args .t4))
+      (c .before .before .before .before .before .before .loop .inv .2)
       (none-is (c .before .before .before .before .before .before .before .before .args .config .ports)
       (c .before .before .before .before .before .before .before .before .args .t2)
       (c .before .before .before .before .before .before .before .before .args .t3)
-      (c .before .before .before .before .before .before .before .before .args .t4) (c .before .before .before .before .before .before .loop .i)
+      (c .before .before .before .before .before .before .before .before .args .t4)
+      (c .before .before .before .before .before .before .loop .i)
       (c .before .before .before .before .before .before .loop .inv .0) ∙ (sym (c .before .are-none .ensures) ∙ not-false
       (c .before .are-none .result) (c .if1 .left))),
 )
@@ -93,8 +96,10 @@ loop-again c = (
 returns-2 : tie.Need-returns-2 Inv-loop μ-loop
 unfolding arbitersUnused noArbiters
 returns-2 c =
-    sym (every-passed 8 (c .before .loop .i) (noneFrom (c .before .before .before .args .config .ports) (c .before .before .before .args .t2)
-    (c .before .before .before .args .t3) (c .before .before .before .args .t4)) (c .before .loop .inv .1) (search needs) (c .before .loop .inv .2))
+    sym (every-passed 8 (c .before .loop .i) (noneFrom (c .before .before .before .args .config .ports)
+    (c .before .before .before .args .t2)
+    (c .before .before .before .args .t3) (c .before .before .before .args .t4)) (c .before .loop .inv .1) (search needs)
+    (c .before .loop .inv .2))
 
 pub are-unused-spec : {M : Type 1} → statement M
 are-unused-spec =

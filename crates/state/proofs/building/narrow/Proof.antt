@@ -1,17 +1,17 @@
 -- `state::building::narrow` meets its contract: the places passed are filled.
 -- Assumes nothing.
 use Prim.Native.Nat.{_≤_, _-_}
-use mathlib.Core.Path.{_≡_, refl, ap, _∙_}
+use mathlib.Core.Path.{_≡_, ap, _∙_}
 use native.Mathlib.Omega.{arith}
-use lib.ListN.{replicate}
 use borrow.Author.Needs.{needs}
-use Rattle.state.specs.Fresh.{filled, asNarrow}
+use Rattle.arbiter.specs.Arbiter.{asNarrow}
+use Rattle.state.specs.Fresh.{filled, zeroNarrow}
 use Rattle.state.proofs.Filled.{filled-again}
 use Rattle.state.proofs.building.narrow.Statement.{statement}
 use Rattle.state.proofs.building.narrow.Tie as tie
 
 abbrev Inv-loop : tie.InvT-loop
-Inv-loop ports code n used made₀ i₀ made i = (i ≤ ports) × (made ≡ filled i 8 used (record { pointer = 0; rows = replicate 8 0 }))
+Inv-loop ports code n used made₀ i₀ made i = (i ≤ ports) × (made ≡ filled i 8 used zeroNarrow)
 
 abbrev μ-loop : tie.MeasureT-loop
 μ-loop ports code n used made₀ i₀ made i = ports - i
@@ -36,15 +36,19 @@ loop-less c = search needs
 
 loop-again : tie.Need-loop-again Inv-loop μ-loop
 loop-again c =
-    let l = c .before .loop in
-    (search needs, filled-again (l .made) (c .before .before .fresh .result) (record { pointer = 0; rows = replicate 8 0 }) 8 (l .i) (omega arith) (l .inv .1))
+    let l = c .before .loop in (
+      search needs,
+      filled-again (l .made) (c .before .before .fresh .result) zeroNarrow 8 (l .i)
+          (omega arith) (l .inv .1),
+    )
 
 returns : tie.Need-returns Inv-loop μ-loop
 returns c =
     let l = c .before .loop in
     let end : l .i ≡ c .before .before .before .args .ports = omega arith in
-    l .inv .1 ∙ ap (λ k. filled k 8 (c .before .before .fresh .result) (record { pointer = 0; rows = replicate 8 0 })) end
-    ∙ ap (λ a. filled (c .before .before .before .args .ports) 8 (asNarrow a) (record { pointer = 0; rows = replicate 8 0 })) (c .before .before .fresh .ensures)
+    l .inv .1 ∙ ap (λ k. filled k 8 (c .before .before .fresh .result) zeroNarrow) end
+    ∙ ap (λ a. filled (c .before .before .before .args .ports) 8 (asNarrow a) zeroNarrow)
+    (c .before .before .fresh .ensures)
 
 pub narrow-spec : {M : Type 1} → statement M
 narrow-spec =

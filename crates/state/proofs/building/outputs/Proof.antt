@@ -1,7 +1,7 @@
 -- `state::building::outputs` meets its contract: the places passed are filled.
 -- Assumes nothing.
 use Prim.Native.Nat.{_≤_, _-_}
-use mathlib.Core.Path.{_≡_, refl, ap, _∙_}
+use mathlib.Core.Path.{_≡_, ap, _∙_}
 use native.Mathlib.Omega.{arith}
 use borrow.Author.Needs.{needs}
 use Rattle.state.specs.Fresh.{filled, freshOutput}
@@ -32,8 +32,11 @@ loop-less c = search needs
 
 loop-again : tie.Need-loop-again Inv-loop μ-loop
 loop-again c =
-    let l = c .before .loop in
-    (search needs, filled-again (l .made) (freshOutput (c .before .before .args .credit)) (freshOutput 0) 32 (l .y) (omega arith) (l .inv .1))
+    let l = c .before .loop in (
+      search needs,
+      filled-again (l .made) (freshOutput (c .before .before .args .credit)) (freshOutput 0) 32 (l .y) (omega arith)
+          (l .inv .1),
+    )
 
 returns : tie.Need-returns Inv-loop μ-loop
 returns c =

@@ -1,17 +1,17 @@
 -- `state::building::wide` meets its contract: the places passed are filled.
 -- Assumes nothing.
 use Prim.Native.Nat.{_≤_, _-_}
-use mathlib.Core.Path.{_≡_, refl, ap, _∙_}
+use mathlib.Core.Path.{_≡_, ap, _∙_}
 use native.Mathlib.Omega.{arith}
-use lib.ListN.{replicate}
 use borrow.Author.Needs.{needs}
-use Rattle.state.specs.Fresh.{filled, asWide}
+use Rattle.arbiter.specs.Arbiter.{asWide}
+use Rattle.state.specs.Fresh.{filled, zeroWide}
 use Rattle.state.proofs.Filled.{filled-again}
 use Rattle.state.proofs.building.wide.Statement.{statement}
 use Rattle.state.proofs.building.wide.Tie as tie
 
 abbrev Inv-loop : tie.InvT-loop
-Inv-loop ports code n used made₀ i₀ made i = (i ≤ ports) × (made ≡ filled i 8 used (record { pointer = 0; rows = replicate 32 0 }))
+Inv-loop ports code n used made₀ i₀ made i = (i ≤ ports) × (made ≡ filled i 8 used zeroWide)
 
 abbrev μ-loop : tie.MeasureT-loop
 μ-loop ports code n used made₀ i₀ made i = ports - i
@@ -36,15 +36,19 @@ loop-less c = search needs
 
 loop-again : tie.Need-loop-again Inv-loop μ-loop
 loop-again c =
-    let l = c .before .loop in
-    (search needs, filled-again (l .made) (c .before .before .fresh .result) (record { pointer = 0; rows = replicate 32 0 }) 8 (l .i) (omega arith) (l .inv .1))
+    let l = c .before .loop in (
+      search needs,
+      filled-again (l .made) (c .before .before .fresh .result) zeroWide 8 (l .i)
+          (omega arith) (l .inv .1),
+    )
 
 returns : tie.Need-returns Inv-loop μ-loop
 returns c =
     let l = c .before .loop in
     let end : l .i ≡ c .before .before .before .args .ports = omega arith in
-    l .inv .1 ∙ ap (λ k. filled k 8 (c .before .before .fresh .result) (record { pointer = 0; rows = replicate 32 0 })) end
-    ∙ ap (λ a. filled (c .before .before .before .args .ports) 8 (asWide a) (record { pointer = 0; rows = replicate 32 0 })) (c .before .before .fresh .ensures)
+    l .inv .1 ∙ ap (λ k. filled k 8 (c .before .before .fresh .result) zeroWide) end
+    ∙ ap (λ a. filled (c .before .before .before .args .ports) 8 (asWide a) zeroWide)
+    (c .before .before .fresh .ensures)
 
 pub wide-spec : {M : Type 1} → statement M
 wide-spec =

@@ -1,13 +1,10 @@
 -- `state::channels::are_credits_whole` meets its contract: what is counted is added up.
 -- Assumes nothing.
 use native.Mathlib.Omega.{arith}
-use mathlib.Core.Path.{_≡_, sym, ap, ap₂, _∙_}
-use lib.ListN.{length}
 use mir.Syntax.{w8}
 use mir.Val.{Fits}
 use Rattle.state.proofs.Places.{wire-few, home-few}
 use borrow.Author.Needs.{needs}
-use Rattle.state.specs.Views.{flat, total, wireOf, homeOf}
 use Rattle.state.proofs.Clauses.{credits-are}
 use Rattle.state.proofs.channels.are_credits_whole.Statement.{statement}
 use Rattle.state.proofs.channels.are_credits_whole.Tie as tie
@@ -74,10 +71,10 @@ cast-result c = search needs
 
 returns : tie.Need-returns
 returns c =
-    credits-are (c .before .before .before .before .before .args .config) (c .before .before .before .before .before .args .wire .now)
-    (c .before .before .before .before .before .args .home .now) (c .before .before .before .before .before .args .i)
-    (c .before .before .before .before .before .args .v) (c .before .before .before .before .before .args .input)
-    (c .before .before .on-wire .result) (c .before .going-home .result) (c .before .before .on-wire .ensures) (c .before .going-home .ensures)
+    let start = c .before .before .before .before .before in
+    credits-are (start .args .config) (start .args .wire .now) (start .args .home .now) (start .args .i) (start .args .v)
+    (start .args .input) (c .before .before .on-wire .result) (c .before .going-home .result) (c .before .before .on-wire .ensures)
+    (c .before .going-home .ensures)
 
 pub are-credits-whole-spec : {M : Type 1} → statement M
 are-credits-whole-spec =

@@ -1,9 +1,8 @@
 -- `state::channels::are_empty_behind` meets its contract: the slots passed so far pass.
 -- Assumes nothing.
-use native.Mathlib.Omega.{arith}
-use mathlib.Core.Path.{_≡_, sym, ap, ap₂, _∙_}
-use Prim.Native.Nat.{ℕ, _≤_, _<_, _*_, _-_}
-use mathlib.Core.Bool.{Bool, true, false}
+use mathlib.Core.Path.{_≡_, sym}
+use Prim.Native.Nat.{_≤_, _-_}
+use mathlib.Core.Bool.{true}
 use Rattle.base.specs.Search.{every}
 use borrow.Author.Needs.{needs}
 use Rattle.state.proofs.Tests.{every-more, every-below, every-fails}
@@ -49,7 +48,8 @@ loop-again c = (
   every-more (c .before .before .before .loop .k) (emptyBehind (c .before .before .before .before .args .base)
       (c .before .before .before .before .args .queued) (c .before .before .before .before .args .store .now))
       (c .before .before .before .loop .inv .1) (behind-zero (c .before .before .before .before .args .base)
-      (c .before .before .before .before .args .queued) (c .before .before .before .before .args .store .now) (c .before .before .before .loop .k)
+      (c .before .before .before .before .args .queued) (c .before .before .before .before .args .store .now)
+      (c .before .before .before .loop .k)
       (c .if1 .left)),
 )
 

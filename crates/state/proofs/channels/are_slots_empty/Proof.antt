@@ -1,9 +1,8 @@
 -- `state::channels::are_slots_empty` meets its contract: the channels passed so far pass.
 -- Assumes nothing.
-use native.Mathlib.Omega.{arith}
-use mathlib.Core.Path.{_≡_, sym, ap, ap₂, _∙_}
-use Prim.Native.Nat.{ℕ, _≤_, _<_, _*_, _-_}
-use mathlib.Core.Bool.{Bool, true, false}
+use mathlib.Core.Path.{_≡_, sym, _∙_}
+use Prim.Native.Nat.{ℕ, _≤_, _*_, _-_}
+use mathlib.Core.Bool.{true}
 use borrow.Author.Tests.{not-true, not-false}
 use lib.ListN.{getD}
 use Rattle.base.specs.Search.{every}
@@ -16,14 +15,18 @@ use Rattle.state.proofs.channels.are_slots_empty.Statement.{statement}
 use Rattle.state.proofs.channels.are_slots_empty.Tie as tie
 
 abbrev Inv-loop : tie.InvT-loop
-Inv-loop store inputs x₀ x = (x ≤ 32) × (every x (λ (y : ℕ). every 16 (emptyBehind (16 * y) (getD inputs y (freshInput 0) .queued) store)) ≡ true)
+Inv-loop store inputs x₀ x = (x ≤ 32) × (every x (λ (y : ℕ). every 16
+    (emptyBehind (16 * y) (getD inputs y (freshInput 0) .queued) store)) ≡ true)
 
 abbrev μ-loop : tie.MeasureT-loop
 μ-loop store inputs x₀ x = 32 - x
 
 loop-holds : tie.Need-loop-holds Inv-loop μ-loop
-loop-holds c =
-    (search needs, every-none (λ (y : ℕ). every 16 (emptyBehind (16 * y) (getD (c .args .t1) y (freshInput 0) .queued) (c .args .store .now))))
+loop-holds c = (
+  search needs,
+  every-none (λ (y : ℕ). every 16 (emptyBehind (16 * y) (getD (c .args .t1) y (freshInput 0) .queued)
+      (c .args .store .now))),
+)
 
 mul-input : tie.Need-mul-input Inv-loop μ-loop
 mul-input c = search needs
@@ -41,7 +44,8 @@ returns : tie.Need-returns Inv-loop μ-loop
 unfolding slotsEmpty
 returns c =
     every-fails 32 (c .before .before .before .before .loop .x) (λ (y : ℕ). every 16 (emptyBehind (16 * y) (getD
-    (c .before .before .before .before .before .args .t1) y (freshInput 0) .queued) (c .before .before .before .before .before .args .store .now)))
+    (c .before .before .before .before .before .args .t1) y (freshInput 0) .queued)
+    (c .before .before .before .before .before .args .store .now)))
     (search needs) (sym (c .before .are-empty-behind .ensures) ∙ not-true (c .before .are-empty-behind .result) (c .if1 .taken))
 
 add-x : tie.Need-add-x Inv-loop μ-loop
@@ -54,8 +58,10 @@ loop-again : tie.Need-loop-again Inv-loop μ-loop
 loop-again c = (
   search needs,
   every-more (c .before .before .before .before .loop .x) (λ (y : ℕ). every 16 (emptyBehind (16 * y) (getD
-      (c .before .before .before .before .before .args .t1) y (freshInput 0) .queued) (c .before .before .before .before .before .args .store .now)))
-      (c .before .before .before .before .loop .inv .1) (sym (c .before .are-empty-behind .ensures) ∙ not-false (c .before .are-empty-behind .result)
+      (c .before .before .before .before .before .args .t1) y (freshInput 0) .queued)
+      (c .before .before .before .before .before .args .store .now)))
+      (c .before .before .before .before .loop .inv .1) (sym (c .before .are-empty-behind .ensures)
+      ∙ not-false (c .before .are-empty-behind .result)
       (c .if1 .left)),
 )
 

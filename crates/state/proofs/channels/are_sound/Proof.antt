@@ -1,9 +1,8 @@
 -- `state::channels::are_sound` meets its contract: the ports passed so far pass.
 -- Assumes nothing.
-use native.Mathlib.Omega.{arith}
-use mathlib.Core.Path.{_≡_, sym, ap, ap₂, _∙_}
-use Prim.Native.Nat.{ℕ, _≤_, _<_, _*_, _-_}
-use mathlib.Core.Bool.{Bool, true, false}
+use mathlib.Core.Path.{_≡_, sym, _∙_}
+use Prim.Native.Nat.{ℕ, _≤_, _-_}
+use mathlib.Core.Bool.{true}
 use borrow.Author.Tests.{not-true, not-false}
 use Rattle.base.specs.Search.{every}
 use borrow.Author.Needs.{needs}
@@ -31,7 +30,8 @@ is-port-sound-requires c κs = (c .before .before .before .pre .0, search needs,
 
 returns : tie.Need-returns Inv-loop μ-loop
 returns c =
-    every-fails (c .before .before .before .before .before .args .config .ports) (c .before .before .before .before .loop .i) (λ (i : ℕ). every
+    every-fails (c .before .before .before .before .before .args .config .ports) (c .before .before .before .before .loop .i)
+    (λ (i : ℕ). every
     (c .before .before .before .before .before .args .config .vcs) (channelSound (c .before .before .before .before .before .args .config)
     (c .before .before .before .before .before .args .inputs) (c .before .before .before .before .before .args .outputs)
     (c .before .before .before .before .before .args .store .now) (c .before .before .before .before .before .args .wire .now)
@@ -58,7 +58,8 @@ loop-again c = (
 returns-2 : tie.Need-returns-2 Inv-loop μ-loop
 returns-2 c =
     sym (every-passed (c .before .before .before .args .config .ports) (c .before .before .loop .i) (λ (i : ℕ). every
-    (c .before .before .before .args .config .vcs) (channelSound (c .before .before .before .args .config) (c .before .before .before .args .inputs)
+    (c .before .before .before .args .config .vcs) (channelSound (c .before .before .before .args .config)
+    (c .before .before .before .args .inputs)
     (c .before .before .before .args .outputs) (c .before .before .before .args .store .now) (c .before .before .before .args .wire .now)
     (c .before .before .before .args .home .now) i)) (c .before .before .loop .inv .0) (search needs) (c .before .before .loop .inv .1))
 

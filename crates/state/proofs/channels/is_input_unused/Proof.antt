@@ -1,6 +1,6 @@
 -- `state::channels::is_input_unused` meets its contract, test by test.
 -- Assumes nothing.
-use mathlib.Core.Path.{_≡_, sym, ap, ap₂, _∙_}
+use mathlib.Core.Path.{_≡_}
 use borrow.Author.Needs.{needs}
 use Rattle.state.specs.declared.Binding.the-variants.{Unbound}
 use Rattle.state.proofs.Clauses.{input-credit-left, input-open, input-unused}

@@ -1,7 +1,7 @@
 -- `state::flits::may_come` meets its contract.
 -- Assumes nothing.
-use mathlib.Core.Path.{_≡_, sym, ap, ap₂, _∙_}
-use mathlib.Core.Bool.{true, false, not, xor}
+use mathlib.Core.Path.{sym, ap₂, _∙_}
+use mathlib.Core.Bool.{xor}
 use borrow.Author.Needs.{needs}
 use Rattle.state.proofs.Reading.{comes-inside, comes-between}
 use Rattle.state.proofs.flits.may_come.Statement.{statement}

@@ -1,6 +1,6 @@
 -- `state::flits::stays_open` meets its contract.
 -- Assumes nothing.
-use mathlib.Core.Path.{_≡_, sym, ap, ap₂, _∙_}
+use mathlib.Core.Path.{ap}
 use mathlib.Core.Bool.{not}
 use borrow.Author.Needs.{needs}
 use Rattle.state.proofs.flits.stays_open.Statement.{statement}

@@ -3,9 +3,8 @@
 use native.Mathlib.Omega.{arith}
 use mathlib.Core.Path.{_≡_, sym, ap, ap₂, _∙_}
 use Prim.Native.Nat.{ℕ, _≤_, _-_, _+_}
-use lib.ListN.{length}
 use borrow.Author.Needs.{needs}
-use Rattle.state.specs.Views.{places, flat, total, onVc, toVc, wirePlace, homePlace, wireOf, homeOf}
+use Rattle.state.specs.Views.{places, total, toVc, homePlace, homeOf}
 use Rattle.state.proofs.Places.{credits-none, credits-more, one-credit}
 use Rattle.state.proofs.lines.going_home.Statement.{statement}
 use Rattle.state.proofs.lines.going_home.Tie as tie
@@ -20,8 +19,12 @@ cast-end : tie.Need-cast-end Inv-loop μ-loop
 cast-end c = search needs
 
 loop-holds : tie.Need-loop-holds Inv-loop μ-loop
-loop-holds c =
-    (search needs, search needs, credits-none (λ k. toVc (c .before .args .v) (homePlace (c .before .args .home .now) k (c .before .args .i))))
+loop-holds c = (
+  search needs,
+  search needs,
+  credits-none (λ k. toVc (c .before .args .v)
+      (homePlace (c .before .args .home .now) k (c .before .args .i))),
+)
 
 mul-credits-for : tie.Need-mul-credits-for Inv-loop μ-loop
 mul-credits-for c = search needs
@@ -37,8 +40,9 @@ credits-for-requires c κs = search needs
 
 add-count : tie.Need-add-count Inv-loop μ-loop
 add-count c =
-    let o = one-credit (c .before .before .before .before .before .args .v) (homePlace (c .before .before .before .before .before .args .home .now)
-    (c .before .before .before .loop .k) (c .before .before .before .before .before .args .i)) in let e = c .credits-for .ensures in
+    let start = c .before .before .before .before .before in
+    let o = one-credit (start .args .v) (homePlace (start .args .home .now) (c .before .before .before .loop .k) (start .args .i)) in
+    let e = c .credits-for .ensures in
     record { fits = omega arith }
 
 add-k : tie.Need-add-k Inv-loop μ-loop
@@ -49,7 +53,8 @@ loop-less c = search needs
 
 loop-again : tie.Need-loop-again Inv-loop μ-loop
 loop-again c =
-    let o = one-credit (c .before .before .before .before .before .args .v) (homePlace (c .before .before .before .before .before .args .home .now)
+    let o = one-credit (c .before .before .before .before .before .args .v)
+    (homePlace (c .before .before .before .before .before .args .home .now)
     (c .before .before .before .loop .k) (c .before .before .before .before .before .args .i)) in let e = c .credits-for .ensures in (
       search needs,
       omega arith,
@@ -61,9 +66,10 @@ loop-again c =
 returns : tie.Need-returns Inv-loop μ-loop
 unfolding homeOf
 returns c =
-    let end : c .before .loop .k ≡ c .before .before .before .args .config .back = omega arith in
-    c .before .loop .inv .2 ∙ ap (λ (n : ℕ). total (places n (λ k. toVc (c .before .before .before .args .v) (homePlace
-    (c .before .before .before .args .home .now) k (c .before .before .before .args .i))))) end
+    let start = c .before .before .before in
+    let end : c .before .loop .k ≡ start .args .config .back = omega arith in
+    c .before .loop .inv .2 ∙ ap (λ (n : ℕ). total (places n (λ k. toVc (start .args .v)
+    (homePlace (start .args .home .now) k (start .args .i))))) end
 
 pub going-home-spec : {M : Type 1} → statement M
 going-home-spec =

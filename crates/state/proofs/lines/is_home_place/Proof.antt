@@ -12,23 +12,23 @@ cast-if1 c = search needs
 returns : tie.Need-returns
 returns c =
     past-delay (c .before .before .args .config .back) (c .before .before .args .config .ports) (λ place. leb place
-    (c .before .before .args .config .vcs)) (c .before .before .args .k) (c .before .before .args .i) (c .before .before .args .place) (c .if1 .taken)
+    (c .before .before .args .config .vcs)) (c .before .before .args .k) (c .before .before .args .i) (c .before .before .args .place)
+    (c .if1 .taken)
 
 cast-if2 : tie.Need-cast-if2
 cast-if2 c = search needs
 
 returns-2 : tie.Need-returns-2
 returns-2 c =
-    past-ports (c .before .before .before .before .args .config .back) (c .before .before .before .before .args .config .ports) (λ place. leb place
-    (c .before .before .before .before .args .config .vcs)) (c .before .before .before .before .args .k)
-    (c .before .before .before .before .args .i) (c .before .before .before .before .args .place) (c .if2 .taken)
+    let start = c .before .before .before .before in
+    past-ports (start .args .config .back) (start .args .config .ports) (λ place. leb place (start .args .config .vcs)) (start .args .k)
+    (start .args .i) (start .args .place) (c .if2 .taken)
 
 returns-3 : tie.Need-returns-3
 returns-3 c =
-    place-used (c .before .before .before .before .before .args .config .back) (c .before .before .before .before .before .args .config .ports)
-    (λ place. leb place (c .before .before .before .before .before .args .config .vcs)) (c .before .before .before .before .before .args .k)
-    (c .before .before .before .before .before .args .i) (c .before .before .before .before .before .args .place)
-    (c .before .before .before .if1 .left) (c .before .if2 .left)
+    let start = c .before .before .before .before .before in
+    place-used (start .args .config .back) (start .args .config .ports) (λ place. leb place (start .args .config .vcs)) (start .args .k)
+    (start .args .i) (start .args .place) (c .before .before .before .if1 .left) (c .before .if2 .left)
 
 pub is-home-place-spec : {M : Type 1} → statement M
 is-home-place-spec = tie.close (tie.spec cast-if1 returns cast-if2 returns-2 returns-3)

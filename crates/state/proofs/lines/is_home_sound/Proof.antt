@@ -1,14 +1,13 @@
 -- `state::lines::is_home_sound` meets its contract: each place passed so far passes its test.
 -- Assumes nothing.
-use native.Mathlib.Omega.{arith}
-use mathlib.Core.Path.{_≡_, sym, ap, ap₂, _∙_}
-use mathlib.Core.Bool.{true, false}
+use mathlib.Core.Path.{_≡_, sym, _∙_}
+use mathlib.Core.Bool.{true}
 use Prim.Native.Nat.{_≤_, _-_}
 use lib.Dec.{leb}
 use borrow.Author.Tests.{not-true, not-false}
 use Rattle.base.specs.Search.{every}
 use borrow.Author.Needs.{needs}
-use Rattle.state.specs.Sound.{wirePlaceLegal, wireLegal, homeLegal}
+use Rattle.state.specs.Sound.{homeLegal}
 use Rattle.state.proofs.Tests.{every-none, every-more, every-passed, every-fails}
 use Rattle.state.proofs.Places.{lineSound, line-is}
 use Rattle.state.proofs.lines.is_home_sound.Statement.{statement}
@@ -38,10 +37,13 @@ unfolding homeLegal
 returns c =
     every-fails 64 (c .before .before .before .before .loop .m) (lineSound (c .before .before .before .before .before .args .config .back)
     (c .before .before .before .before .before .args .config .ports) (λ place. leb place
-    (c .before .before .before .before .before .args .config .vcs)) (c .before .before .before .before .before .args .home .now)) (search needs)
+    (c .before .before .before .before .before .args .config .vcs)) (c .before .before .before .before .before .args .home .now))
+    (search needs)
     (sym (c .before .is-home-place .ensures) ∙ not-true (c .before .is-home-place .result) (c .if1 .taken))
-    ∙ line-is (c .before .before .before .before .before .args .config .back) (c .before .before .before .before .before .args .config .ports)
-    (λ place. leb place (c .before .before .before .before .before .args .config .vcs)) (c .before .before .before .before .before .args .home .now)
+    ∙ line-is (c .before .before .before .before .before .args .config .back)
+    (c .before .before .before .before .before .args .config .ports)
+    (λ place. leb place (c .before .before .before .before .before .args .config .vcs))
+    (c .before .before .before .before .before .args .home .now)
     (c .before .before .before .before .before .pre .1) (c .before .before .before .before .before .pre .0)
 
 add-m : tie.Need-add-m Inv-loop μ-loop
@@ -64,8 +66,10 @@ returns-2 : tie.Need-returns-2 Inv-loop μ-loop
 unfolding homeLegal
 returns-2 c =
     sym (every-passed 64 (c .before .loop .m) (lineSound (c .before .before .args .config .back) (c .before .before .args .config .ports)
-    (λ place. leb place (c .before .before .args .config .vcs)) (c .before .before .args .home .now)) (c .before .loop .inv .0) (search needs)
-    (c .before .loop .inv .1)) ∙ line-is (c .before .before .args .config .back) (c .before .before .args .config .ports) (λ place. leb place
+    (λ place. leb place (c .before .before .args .config .vcs)) (c .before .before .args .home .now)) (c .before .loop .inv .0)
+    (search needs)
+    (c .before .loop .inv .1)) ∙ line-is (c .before .before .args .config .back) (c .before .before .args .config .ports)
+    (λ place. leb place
     (c .before .before .args .config .vcs)) (c .before .before .args .home .now) (c .before .before .pre .1) (c .before .before .pre .0)
 
 pub is-home-sound-spec : {M : Type 1} → statement M

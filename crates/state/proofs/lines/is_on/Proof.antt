@@ -1,7 +1,6 @@
 -- `state::lines::is_on` meets its contract.
 -- Assumes nothing.
 use lib.Dec.{eqb}
-use borrow.Author.Needs.{needs}
 use Rattle.state.specs.Views.{wireVc}
 use Rattle.state.proofs.Places.{none-there, some-there}
 use Rattle.state.proofs.lines.is_on.Statement.{statement}

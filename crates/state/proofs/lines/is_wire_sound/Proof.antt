@@ -1,14 +1,12 @@
 -- `state::lines::is_wire_sound` meets its contract: each place passed so far passes its test.
 -- Assumes nothing.
-use native.Mathlib.Omega.{arith}
-use mathlib.Core.Path.{_≡_, sym, ap, ap₂, _∙_}
-use mathlib.Core.Bool.{true, false}
+use mathlib.Core.Path.{_≡_, sym, _∙_}
+use mathlib.Core.Bool.{true}
 use Prim.Native.Nat.{_≤_, _-_}
-use lib.Dec.{leb}
 use borrow.Author.Tests.{not-true, not-false}
 use Rattle.base.specs.Search.{every}
 use borrow.Author.Needs.{needs}
-use Rattle.state.specs.Sound.{wirePlaceLegal, wireLegal, homeLegal}
+use Rattle.state.specs.Sound.{wirePlaceLegal, wireLegal}
 use Rattle.state.proofs.Tests.{every-none, every-more, every-passed, every-fails}
 use Rattle.state.proofs.Places.{lineSound, line-is}
 use Rattle.state.proofs.lines.is_wire_sound.Statement.{statement}
@@ -21,8 +19,11 @@ abbrev μ-loop : tie.MeasureT-loop
 μ-loop config wire m₀ m = 64 - m
 
 loop-holds : tie.Need-loop-holds Inv-loop μ-loop
-loop-holds c =
-    (search needs, every-none (lineSound (c .args .config .forward) (c .args .config .ports) (wirePlaceLegal (c .args .config)) (c .args .wire .now)))
+loop-holds c = (
+  search needs,
+  every-none (lineSound (c .args .config .forward) (c .args .config .ports) (wirePlaceLegal (c .args .config))
+      (c .args .wire .now)),
+)
 
 mul-is-wire-place : tie.Need-mul-is-wire-place Inv-loop μ-loop
 mul-is-wire-place c = search needs
@@ -36,11 +37,14 @@ is-wire-place-requires c κs = search needs
 returns : tie.Need-returns Inv-loop μ-loop
 unfolding wireLegal
 returns c =
-    every-fails 64 (c .before .before .before .before .loop .m) (lineSound (c .before .before .before .before .before .args .config .forward)
-    (c .before .before .before .before .before .args .config .ports) (wirePlaceLegal (c .before .before .before .before .before .args .config))
+    every-fails 64 (c .before .before .before .before .loop .m)
+    (lineSound (c .before .before .before .before .before .args .config .forward)
+    (c .before .before .before .before .before .args .config .ports)
+    (wirePlaceLegal (c .before .before .before .before .before .args .config))
     (c .before .before .before .before .before .args .wire .now)) (search needs) (sym (c .before .is-wire-place .ensures) ∙ not-true
     (c .before .is-wire-place .result) (c .if1 .taken))
-    ∙ line-is (c .before .before .before .before .before .args .config .forward) (c .before .before .before .before .before .args .config .ports)
+    ∙ line-is (c .before .before .before .before .before .args .config .forward)
+    (c .before .before .before .before .before .args .config .ports)
     (wirePlaceLegal (c .before .before .before .before .before .args .config)) (c .before .before .before .before .before .args .wire .now)
     (c .before .before .before .before .before .pre .1) (c .before .before .before .before .before .pre .0)
 
@@ -55,8 +59,10 @@ loop-again c = (
   search needs,
   every-more (c .before .before .before .before .loop .m) (lineSound
       (c .before .before .before .before .before .args .config .forward) (c .before .before .before .before .before .args .config .ports)
-      (wirePlaceLegal (c .before .before .before .before .before .args .config)) (c .before .before .before .before .before .args .wire .now))
-      (c .before .before .before .before .loop .inv .1) (sym (c .before .is-wire-place .ensures) ∙ not-false (c .before .is-wire-place .result)
+      (wirePlaceLegal (c .before .before .before .before .before .args .config))
+      (c .before .before .before .before .before .args .wire .now))
+      (c .before .before .before .before .loop .inv .1) (sym (c .before .is-wire-place .ensures)
+      ∙ not-false (c .before .is-wire-place .result)
       (c .if1 .left)),
 )
 

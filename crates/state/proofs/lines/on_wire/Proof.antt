@@ -5,7 +5,7 @@ use mathlib.Core.Path.{_≡_, sym, ap, ap₂, _∙_}
 use Prim.Native.Nat.{ℕ, _≤_, _-_, _+_}
 use lib.ListN.{length}
 use borrow.Author.Needs.{needs}
-use Rattle.state.specs.Views.{places, flat, total, onVc, toVc, wirePlace, homePlace, wireOf, homeOf}
+use Rattle.state.specs.Views.{places, flat, onVc, wirePlace, wireOf}
 use Rattle.state.proofs.Places.{flits-none, flits-more, one-flit}
 use Rattle.state.proofs.lines.on_wire.Statement.{statement}
 use Rattle.state.proofs.lines.on_wire.Tie as tie
@@ -20,8 +20,12 @@ cast-end : tie.Need-cast-end Inv-loop μ-loop
 cast-end c = search needs
 
 loop-holds : tie.Need-loop-holds Inv-loop μ-loop
-loop-holds c =
-    (search needs, search needs, flits-none (λ k. onVc (c .before .args .v) (wirePlace (c .before .args .wire .now) k (c .before .args .i))))
+loop-holds c = (
+  search needs,
+  search needs,
+  flits-none (λ k. onVc (c .before .args .v)
+      (wirePlace (c .before .args .wire .now) k (c .before .args .i))),
+)
 
 mul-flits-on : tie.Need-mul-flits-on Inv-loop μ-loop
 mul-flits-on c = search needs
@@ -40,8 +44,9 @@ flits-on-requires c κs = search needs
 
 add-count : tie.Need-add-count Inv-loop μ-loop
 add-count c =
-    let o = one-flit (c .before .before .before .before .before .args .v) (wirePlace (c .before .before .before .before .before .args .wire .now)
-    (c .before .before .before .loop .k) (c .before .before .before .before .before .args .i)) in let e = c .flits-on .ensures in
+    let start = c .before .before .before .before .before in
+    let o = one-flit (start .args .v) (wirePlace (start .args .wire .now) (c .before .before .before .loop .k) (start .args .i)) in
+    let e = c .flits-on .ensures in
     record { fits = omega arith }
 
 add-k : tie.Need-add-k Inv-loop μ-loop
@@ -52,7 +57,8 @@ loop-less c = search needs
 
 loop-again : tie.Need-loop-again Inv-loop μ-loop
 loop-again c =
-    let o = one-flit (c .before .before .before .before .before .args .v) (wirePlace (c .before .before .before .before .before .args .wire .now)
+    let o = one-flit (c .before .before .before .before .before .args .v)
+    (wirePlace (c .before .before .before .before .before .args .wire .now)
     (c .before .before .before .loop .k) (c .before .before .before .before .before .args .i)) in let e = c .flits-on .ensures in (
       search needs,
       omega arith,
@@ -64,9 +70,10 @@ loop-again c =
 returns : tie.Need-returns Inv-loop μ-loop
 unfolding wireOf
 returns c =
-    let end : c .before .loop .k ≡ c .before .before .before .args .config .forward = omega arith in
-    c .before .loop .inv .2 ∙ ap (λ (n : ℕ). length (flat (places n (λ k. onVc (c .before .before .before .args .v) (wirePlace
-    (c .before .before .before .args .wire .now) k (c .before .before .before .args .i)))))) end
+    let start = c .before .before .before in
+    let end : c .before .loop .k ≡ start .args .config .forward = omega arith in
+    c .before .loop .inv .2 ∙ ap (λ (n : ℕ). length (flat (places n
+    (λ k. onVc (start .args .v) (wirePlace (start .args .wire .now) k (start .args .i)))))) end
 
 pub on-wire-spec : {M : Type 1} → statement M
 on-wire-spec =

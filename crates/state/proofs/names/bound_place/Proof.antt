@@ -19,7 +19,8 @@ place-requires c κs = search needs
 
 returns-2 : tie.Need-returns-2
 returns-2 c =
-    bound-at (c .before .before .before .before .args .config) (c .before .before .before .before .args .binding) (c .before .before .binding .given .0 .0) (c .place .result) (c .before .before .binding .given .1) (c .place .ensures)
+    bound-at (c .before .before .before .before .args .config) (c .before .before .before .before .args .binding)
+    (c .before .before .binding .given .0 .0) (c .place .result) (c .before .before .binding .given .1) (c .place .ensures)
 
 pub bound-place-spec : {M : Type 1} → statement M
 bound-place-spec =

@@ -19,7 +19,8 @@ place-requires c κs = search needs
 
 returns-2 : tie.Need-returns-2
 returns-2 c =
-    held-at (c .before .before .before .before .args .config) (c .before .before .before .before .args .holder) (c .before .before .holder .given .0 .0) (c .place .result) (c .before .before .holder .given .1) (c .place .ensures)
+    held-at (c .before .before .before .before .args .config) (c .before .before .before .before .args .holder)
+    (c .before .before .holder .given .0 .0) (c .place .result) (c .before .before .holder .given .1) (c .place .ensures)
 
 pub held-place-spec : {M : Type 1} → statement M
 held-place-spec = tie.close (tie.spec enum-known-holder enum-told returns place-requires returns-2)

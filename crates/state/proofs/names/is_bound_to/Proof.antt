@@ -16,14 +16,14 @@ returns c = search needs
 
 returns-2 : tie.Need-returns-2
 returns-2 c =
-    bound-elsewhere (c .before .before .before .before .before .args .o) (c .before .before .before .before .before .args .w)
-    (c .before .before .before .before .before .args .binding) (c .before .before .before .binding .given .0 .0)
+    let start = c .before .before .before .before .before in
+    bound-elsewhere (start .args .o) (start .args .w) (start .args .binding) (c .before .before .before .binding .given .0 .0)
     (c .before .before .before .binding .given .1) (c .if1 .taken)
 
 returns-3 : tie.Need-returns-3
 returns-3 c =
-    bound-here (c .before .before .before .before .before .before .args .o) (c .before .before .before .before .before .before .args .w)
-    (c .before .before .before .before .before .before .args .binding) (c .before .before .before .before .binding .given .0 .0)
+    let start = c .before .before .before .before .before .before in
+    bound-here (start .args .o) (start .args .w) (start .args .binding) (c .before .before .before .before .binding .given .0 .0)
     (c .before .before .before .before .binding .given .1) (c .before .if1 .left)
 
 pub is-bound-to-spec : {M : Type 1} → statement M

@@ -16,14 +16,14 @@ returns c = search needs
 
 returns-2 : tie.Need-returns-2
 returns-2 c =
-    held-elsewhere (c .before .before .before .before .before .args .i) (c .before .before .before .before .before .args .v)
-    (c .before .before .before .before .before .args .holder) (c .before .before .before .holder .given .0 .0)
+    let start = c .before .before .before .before .before in
+    held-elsewhere (start .args .i) (start .args .v) (start .args .holder) (c .before .before .before .holder .given .0 .0)
     (c .before .before .before .holder .given .1) (c .if1 .taken)
 
 returns-3 : tie.Need-returns-3
 returns-3 c =
-    held-here (c .before .before .before .before .before .before .args .i) (c .before .before .before .before .before .before .args .v)
-    (c .before .before .before .before .before .before .args .holder) (c .before .before .before .before .holder .given .0 .0)
+    let start = c .before .before .before .before .before .before in
+    held-here (start .args .i) (start .args .v) (start .args .holder) (c .before .before .before .before .holder .given .0 .0)
     (c .before .before .before .before .holder .given .1) (c .before .if1 .left)
 
 pub is-held-by-spec : {M : Type 1} → statement M

@@ -1,7 +1,7 @@
 -- `state::packets::starts_inside` meets its contract, case by case.
 -- Assumes nothing.
 use native.Mathlib.Omega.{arith}
-use mathlib.Core.Path.{_≡_, sym, ap, ap₂, _∙_}
+use mathlib.Core.Path.{sym, ap, _∙_}
 use borrow.Author.Tests.{not-true, not-false}
 use mathlib.Core.Bool.{not}
 use lib.Dec.{eqb}
@@ -10,6 +10,22 @@ use borrow.Author.Needs.{needs}
 use Rattle.state.proofs.Reading.{start-empty, start-inside, start-front}
 use Rattle.state.proofs.packets.starts_inside.Statement.{statement}
 use Rattle.state.proofs.packets.starts_inside.Tie as tie
+
+-- The places, each from the one behind it.
+abbrev before-binding : tie.After-binding → tie.Start
+before-binding c = c .before .before
+
+abbrev before-else1 : tie.Else1 → tie.After-binding
+before-else1 c = c .before .before
+
+abbrev before-kind : tie.After-kind → tie.Else1
+before-kind c = c .before .before
+
+abbrev before-starts : tie.After-starts → tie.After-kind
+before-starts c = c .before
+
+abbrev before-struct-known : tie.After-struct-known → tie.After-starts
+before-struct-known c = c .before .before .before
 
 enum-known-binding : tie.Need-enum-known-binding
 enum-known-binding c = search needs
@@ -22,9 +38,9 @@ returns c = search needs
 
 returns-2 : tie.Need-returns-2
 returns-2 c =
-    start-empty (c .before .before .before .before .args .store .now) (c .before .before .before .before .args .base)
-    (c .before .before .before .before .args .queued) (c .before .before .before .before .args .binding) (c .before .before .binding .given .0 .0)
-    (c .before .before .binding .given .1) (c .if1 .taken)
+    let start = before-binding (c .before .before) in
+    start-empty (start .args .store .now) (start .args .base) (start .args .queued) (start .args .binding)
+    (c .before .before .binding .given .0 .0) (c .before .before .binding .given .1) (c .if1 .taken)
 
 mul-t10 : tie.Need-mul-t10
 mul-t10 c = search needs
@@ -40,34 +56,31 @@ starts-requires c κs = search needs
 
 returns-3 : tie.Need-returns-3
 returns-3 c =
-    start-inside (c .before .before .before .before .before .before .before .before .args .store .now)
-    (c .before .before .before .before .before .before .before .before .args .base)
-    (c .before .before .before .before .before .before .before .before .args .queued)
-    (c .before .before .before .before .before .before .before .before .args .binding)
-    (c .before .before .before .before .before .before .binding .given .0 .0) (c .before .before .before .before .before .before .binding .given .1)
-    (c .before .before .before .before .before .before .before .before .pre .1) (c .before .before .before .before .if1 .left)
-    (let l = c .before .before .before .before .before .before .before .before .pre .2 in
-    let b = c .before .before .before .before .before .before .before .before .pre .0 in omega arith) (ap startsKind (sym
-    (c .before .before .kind .ensures)) ∙ sym (c .before .starts .ensures) ∙ not-true (c .before .starts .result) (c .if2 .taken))
+    let at-else1 = before-kind (before-starts (c .before)) in
+    let at-binding = before-else1 at-else1 in
+    let start = before-binding at-binding in
+    start-inside (start .args .store .now) (start .args .base) (start .args .queued) (start .args .binding)
+    (at-binding .binding .given .0 .0) (at-binding .binding .given .1) (start .pre .1) (at-else1 .if1 .left)
+    (let l = start .pre .2 in let b = start .pre .0 in omega arith)
+    (ap startsKind (sym (c .before .before .kind .ensures)) ∙ sym (c .before .starts .ensures)
+    ∙ not-true (c .before .starts .result) (c .if2 .taken))
 
 destination-requires : tie.Need-destination-requires
 destination-requires c κs = search needs
 
 returns-4 : tie.Need-returns-4
 returns-4 c =
-    ap (λ d. not (eqb d (c .before .before .before .before .before .before .before .before .binding .given .0 .0 .output)))
-    (c .before .destination .ensures) ∙ start-front (c .before .before .before .before .before .before .before .before .before .before .args .store
-    .now) (c .before .before .before .before .before .before .before .before .before .before .args .base)
-    (c .before .before .before .before .before .before .before .before .before .before .args .queued)
-    (c .before .before .before .before .before .before .before .before .before .before .args .binding)
-    (c .before .before .before .before .before .before .before .before .binding .given .0 .0)
-    (c .before .before .before .before .before .before .before .before .binding .given .1)
-    (c .before .before .before .before .before .before .before .before .before .before .pre .1)
-    (c .before .before .before .before .before .before .if1 .left)
-    (let l = c .before .before .before .before .before .before .before .before .before .before .pre .2 in
-    let b = c .before .before .before .before .before .before .before .before .before .before .pre .0 in omega arith) (ap startsKind (sym
-    (c .before .before .before .before .kind .ensures)) ∙ sym (c .before .before .before .starts .ensures) ∙ not-false
-    (c .before .before .before .starts .result) (c .before .before .if2 .left))
+    let at-starts = before-struct-known c in
+    let at-kind = before-starts at-starts in
+    let at-else1 = before-kind at-kind in
+    let at-binding = before-else1 at-else1 in
+    let start = before-binding at-binding in
+    ap (λ d. not (eqb d (at-binding .binding .given .0 .0 .output))) (c .before .destination .ensures)
+    ∙ start-front (start .args .store .now) (start .args .base) (start .args .queued) (start .args .binding)
+    (at-binding .binding .given .0 .0) (at-binding .binding .given .1) (start .pre .1) (at-else1 .if1 .left)
+    (let l = start .pre .2 in let b = start .pre .0 in omega arith)
+    (ap startsKind (sym (at-kind .kind .ensures)) ∙ sym (at-starts .starts .ensures)
+    ∙ not-false (at-starts .starts .result) (c .before .before .if2 .left))
 
 pub starts-inside-spec : {M : Type 1} → statement M
 starts-inside-spec =

@@ -12,7 +12,12 @@ two-bytes-requires : tie.Need-two-bytes-requires
 two-bytes-requires c κs = search needs
 
 mul-result : tie.Need-mul-result
-mul-result c = omega (arith, c .two-bytes .ensures, two-lt (c .before .before .args .block .now) (c .before .before .args .from) (λ i. c .before .shared-slice-known .given i .fits))
+mul-result c = omega (
+  arith,
+  c .two-bytes .ensures,
+  two-lt (c .before .before .args .block .now) (c .before .before .args .from)
+      (λ i. c .before .shared-slice-known .given i .fits),
+)
 
 add-two-bytes : tie.Need-add-two-bytes
 add-two-bytes c = search needs
@@ -22,12 +27,15 @@ two-bytes-requires-2 c κs = search needs
 
 add-result : tie.Need-add-result
 add-result c =
+    let start = c .before .before .before in
     omega (
       arith,
       c .before .two-bytes .ensures,
       c .two-bytes2 .ensures,
-      two-lt (c .before .before .before .args .block .now) (c .before .before .before .args .from) (λ i. c .before .before .shared-slice-known .given i .fits),
-      two-lt (c .before .before .before .args .block .now) (c .before .before .before .args .from + 2) (λ i. c .before .before .shared-slice-known .given i .fits),
+      two-lt (start .args .block .now) (start .args .from)
+          (λ i. c .before .before .shared-slice-known .given i .fits),
+      two-lt (start .args .block .now) (start .args .from + 2)
+          (λ i. c .before .before .shared-slice-known .given i .fits),
     )
 
 returns : tie.Need-returns

@@ -27,7 +27,16 @@ wide-requires-2 : tie.Need-wide-requires-2
 wide-requires-2 c κs = search needs
 
 add-result : tie.Need-add-result
-add-result c = omega (arith, c .before .before .wide .ensures, c .wide2 .ensures, c .before .shared-slice-known3 .given (c .before .before .before .before .before .args .from), c .before .shared-slice-known3 .given (c .before .before .before .before .before .args .from + 1))
+add-result c =
+    let start = c .before .before .before .before .before in
+    omega (
+      arith,
+      c .before .before .wide .ensures,
+      c .wide2 .ensures,
+      c .before .shared-slice-known3 .given
+          (start .args .from),
+      c .before .shared-slice-known3 .given (start .args .from + 1),
+    )
 
 returns : tie.Need-returns
 returns c =

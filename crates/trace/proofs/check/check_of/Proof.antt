@@ -26,16 +26,20 @@ wide-requires c κs = search needs
 
 mul-sum : tie.Need-mul-sum Inv-loop μ-loop
 mul-sum c =
-    let small = weighed-le (c .before .before .before .before .before .args .block .now) (λ i. c .before .shared-slice-known2 .given i .fits) (c .before .before .before .loop .i) (search needs) in
+    let small = weighed-le (c .before .before .before .before .before .args .block .now)
+    (λ i. c .before .shared-slice-known2 .given i .fits) (c .before .before .before .loop .i) (search needs) in
     let w = c .before .before .before .loop .inv .1 in
     let e = ap₂ _*_ w (c .wide .ensures) in
     omega arith
 
 add-sum : tie.Need-add-sum Inv-loop μ-loop
 add-sum c =
-    let small = weights-le (c .before .before .before .before .before .args .block .now) (λ i. c .before .shared-slice-known2 .given i .fits) (c .before .before .before .loop .i + 1) (search needs) in
+    let small = weights-le (c .before .before .before .before .before .args .block .now)
+    (λ i. c .before .shared-slice-known2 .given i .fits) (c .before .before .before .loop .i + 1) (search needs) in
     let i = c .before .before .before .loop .inv in
-    let e = weights-more (c .before .before .before .before .before .args .block .now) (c .before .before .before .loop .i) (c .before .before .before .loop .sum) (c .before .before .before .loop .weight) (c .wide .result) (i .2) (i .1) (c .wide .ensures) in
+    let e = weights-more (c .before .before .before .before .before .args .block .now) (c .before .before .before .loop .i)
+    (c .before .before .before .loop .sum) (c .before .before .before .loop .weight) (c .wide .result) (i .2) (i .1)
+    (c .wide .ensures) in
     omega arith
 
 add-weight : tie.Need-add-weight Inv-loop μ-loop
@@ -49,11 +53,17 @@ loop-less c = search needs
 
 loop-again : tie.Need-loop-again Inv-loop μ-loop
 loop-again c =
-    let i = c .before .before .before .loop .inv in
-    (search needs, search needs, weights-more (c .before .before .before .before .before .args .block .now) (c .before .before .before .loop .i) (c .before .before .before .loop .sum) (c .before .before .before .loop .weight) (c .wide .result) (i .2) (i .1) (c .wide .ensures))
+    let i = c .before .before .before .loop .inv in (
+      search needs,
+      search needs,
+      weights-more (c .before .before .before .before .before .args .block .now)
+          (c .before .before .before .loop .i) (c .before .before .before .loop .sum) (c .before .before .before .loop .weight)
+          (c .wide .result) (i .2) (i .1) (c .wide .ensures),
+    )
 
 returns : tie.Need-returns Inv-loop μ-loop
-returns c = let i = c .before .loop .inv in weights-end (c .before .before .before .args .block .now) (c .before .loop .i) (c .before .loop .sum) (i .2) (omega arith)
+returns c = let i = c .before .loop .inv in weights-end (c .before .before .before .args .block .now) (c .before .loop .i)
+    (c .before .loop .sum) (i .2) (omega arith)
 
 pub check-of-spec : {M : Type 1} → statement M
 check-of-spec =

@@ -36,7 +36,12 @@ part-result-end-2 c = search needs
 
 returns-2 : tie.Need-returns-2
 unfolding cyclePart shows
-returns-2 c = rw (le-leb 512 (length (c .before .before .before .before .args .block .now)) (c .before .before .before .if1 .left), lt-leb (getD (c .before .before .before .before .args .block .now) 1 0) 7 (c .before .if2 .taken))
+returns-2 c = rw (
+  le-leb 512 (length (c .before .before .before .before .args .block .now))
+      (c .before .before .before .if1 .left),
+  lt-leb (getD (c .before .before .before .before .args .block .now) 1 0) 7
+      (c .before .if2 .taken),
+)
 
 cast-if3 : tie.Need-cast-if3
 cast-if3 c = search needs
@@ -52,7 +57,14 @@ part-result-end-3 c = search needs
 
 returns-3 : tie.Need-returns-3
 unfolding cyclePart shows
-returns-3 c = rw (le-leb 512 (length (c .before .before .before .before .before .args .block .now)) (c .before .before .before .before .if1 .left), le-leb (getD (c .before .before .before .before .before .args .block .now) 1 0) 7 (c .before .before .if2 .left), le-ltb (c .before .before .before .before .before .args .k) (getD (c .before .before .before .before .before .args .block .now) 1 0) (c .before .if3 .taken))
+returns-3 c = rw (
+  le-leb 512 (length (c .before .before .before .before .before .args .block .now))
+      (c .before .before .before .before .if1 .left),
+  le-leb (getD (c .before .before .before .before .before .args .block .now) 1 0) 7
+      (c .before .before .if2 .left),
+  le-ltb (c .before .before .before .before .before .args .k)
+      (getD (c .before .before .before .before .before .args .block .now) 1 0) (c .before .if3 .taken),
+)
 
 mul-from : tie.Need-mul-from
 mul-from c = search needs
@@ -74,7 +86,16 @@ part-result-end-4 c = search needs
 
 returns-4 : tie.Need-returns-4
 unfolding cyclePart shows
-returns-4 c = rw (le-leb 512 (length (c .before .before .before .before .before .args .block .now)) (c .before .before .before .before .if1 .left), le-leb (getD (c .before .before .before .before .before .args .block .now) 1 0) 7 (c .before .before .if2 .left), lt-ltb (c .before .before .before .before .before .args .k) (getD (c .before .before .before .before .before .args .block .now) 1 0) (c .before .if3 .left), add-sub-cancel-left (8 + 64 * c .before .before .before .before .before .args .k) 64)
+returns-4 c = rw (
+  le-leb 512 (length (c .before .before .before .before .before .args .block .now))
+      (c .before .before .before .before .if1 .left),
+  le-leb (getD (c .before .before .before .before .before .args .block .now) 1 0) 7
+      (c .before .before .if2 .left),
+  lt-ltb (c .before .before .before .before .before .args .k)
+      (getD (c .before .before .before .before .before .args .block .now) 1 0) (c .before .if3 .left),
+  add-sub-cancel-left
+      (8 + 64 * c .before .before .before .before .before .args .k) 64,
+)
 
 pub cycle-part-spec : {M : Type 1} → statement M
 cycle-part-spec =

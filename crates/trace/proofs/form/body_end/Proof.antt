@@ -29,11 +29,19 @@ add-result c = omega (arith, c .shared-slice-known2 .given 1)
 
 returns-2 : tie.Need-returns-2
 unfolding bodyEnd
-returns-2 c = rw (ne-eqb (getD (c .before .before .before .before .args .block .now) 0 0) 1 (c .before .before .if1 .left), eq-eqb (getD (c .before .before .before .before .args .block .now) 0 0) 2 (c .before .if2 .taken))
+returns-2 c = rw (
+  ne-eqb (getD (c .before .before .before .before .args .block .now) 0 0) 1 (c .before .before .if1 .left),
+  eq-eqb
+      (getD (c .before .before .before .before .args .block .now) 0 0) 2 (c .before .if2 .taken),
+)
 
 returns-3 : tie.Need-returns-3
 unfolding bodyEnd
-returns-3 c = rw (ne-eqb (getD (c .before .before .before .args .block .now) 0 0) 1 (c .before .if1 .left), ne-eqb (getD (c .before .before .before .args .block .now) 0 0) 2 (c .if2 .left))
+returns-3 c = rw (
+  ne-eqb (getD (c .before .before .before .args .block .now) 0 0) 1 (c .before .if1 .left),
+  ne-eqb
+      (getD (c .before .before .before .args .block .now) 0 0) 2 (c .if2 .left),
+)
 
 pub body-end-spec : {M : Type 1} → statement M
 body-end-spec =

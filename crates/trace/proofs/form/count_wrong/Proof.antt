@@ -20,11 +20,21 @@ returns c = rw (ne-eqb (getD (c .before .before .before .args .block .now) 0 0) 
 
 returns-2 : tie.Need-returns-2
 unfolding countWrong
-returns-2 c = rw (eq-eqb (getD (c .before .before .before .before .args .block .now) 0 0) 2 (c .before .if1 .left), lt-leb 1 (getD (c .before .before .before .before .args .block .now) 1 0) (c .if2 .taken))
+returns-2 c = rw (
+  eq-eqb (getD (c .before .before .before .before .args .block .now) 0 0) 2 (c .before .if1 .left),
+  lt-leb 1
+      (getD (c .before .before .before .before .args .block .now) 1 0) (c .if2 .taken),
+)
 
 returns-3 : tie.Need-returns-3
 unfolding countWrong
-returns-3 c = rw (eq-eqb (getD (c .before .before .before .before .args .block .now) 0 0) 2 (c .before .if1 .left), le-leb 1 (getD (c .before .before .before .before .args .block .now) 1 0) (c .if2 .left), not-leb (getD (c .before .before .before .before .args .block .now) 1 0) 7)
+returns-3 c = rw (
+  eq-eqb (getD (c .before .before .before .before .args .block .now) 0 0) 2 (c .before .if1 .left),
+  le-leb 1
+      (getD (c .before .before .before .before .args .block .now) 1 0) (c .if2 .left),
+  not-leb
+      (getD (c .before .before .before .before .args .block .now) 1 0) 7,
+)
 
 pub count-wrong-spec : {M : Type 1} → statement M
 count-wrong-spec =

@@ -17,7 +17,11 @@ returns c = rw (lt-leb 1 (getD (c .before .before .args .block .now) 0 0) (c .if
 
 returns-2 : tie.Need-returns-2
 unfolding kindWrong
-returns-2 c = rw (le-leb 1 (getD (c .before .before .args .block .now) 0 0) (c .if1 .left), not-leb (getD (c .before .before .args .block .now) 0 0) 3)
+returns-2 c = rw (
+  le-leb 1 (getD (c .before .before .args .block .now) 0 0) (c .if1 .left),
+  not-leb
+      (getD (c .before .before .args .block .now) 0 0) 3,
+)
 
 pub kind-wrong-spec : {M : Type 1} → statement M
 kind-wrong-spec = tie.close (tie.spec shared-slice-read-kind returns returns-2)

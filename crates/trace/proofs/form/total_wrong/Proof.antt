@@ -26,7 +26,8 @@ cast-result c = search needs
 
 returns-2 : tie.Need-returns-2
 unfolding totalWrong
-returns-2 c = rw (eq-eqb (getD (c .before .before .before .before .args .block .now) 0 0) 3 (c .before .if1 .left)) (ap (λ (n : ℕ). not (eqb n (c .before .before .before .before .args .cycles))) (c .four-bytes .ensures))
+returns-2 c = rw (eq-eqb (getD (c .before .before .before .before .args .block .now) 0 0) 3 (c .before .if1 .left))
+    (ap (λ (n : ℕ). not (eqb n (c .before .before .before .before .args .cycles))) (c .four-bytes .ensures))
 
 pub total-wrong-spec : {M : Type 1} → statement M
 total-wrong-spec =

@@ -23,12 +23,15 @@ body-end-requires : tie.Need-body-end-requires
 body-end-requires c κs = search needs
 
 are-zero-requires-2 : tie.Need-are-zero-requires-2
-are-zero-requires-2 c κs = let end = count-end (c .before .before .before .before .args .block .now) (c .before .before .before .before .pre .1) in (omega (arith, c .body-end .ensures), search needs)
+are-zero-requires-2 c κs = let end = count-end (c .before .before .before .before .args .block .now)
+    (c .before .before .before .before .pre .1) in (omega (arith, c .body-end .ensures), search needs)
 
 returns-2 : tie.Need-returns-2
 unfolding unusedWrong
-returns-2 c = rw (sym (c .before .before .before .are-zero .ensures) ∙ not-false (c .before .before .before .are-zero .result) (c .before .before .if1 .left))
-    (ap not (c .are-zero2 .ensures ∙ ap (λ (n : ℕ). zeros (c .before .before .before .before .before .args .block .now) n 510) (c .before .body-end .ensures)))
+returns-2 c = rw (sym (c .before .before .before .are-zero .ensures)
+    ∙ not-false (c .before .before .before .are-zero .result) (c .before .before .if1 .left))
+    (ap not (c .are-zero2 .ensures ∙ ap (λ (n : ℕ). zeros (c .before .before .before .before .before .args .block .now) n 510)
+    (c .before .body-end .ensures)))
 
 pub unused-wrong-spec : {M : Type 1} → statement M
 unused-wrong-spec =

@@ -12,33 +12,71 @@ returns c = rw (not-true (c .before .before .before .args .place .configured) (c
 
 returns-2 : tie.Need-returns-2
 unfolding goodPlace
-returns-2 c = rw (not-true (c .before .before .before .before .before .args .place .configured) (c .before .before .before .if1 .taken), c .before .before .if2 .left, ne-eqb (c .before .before .before .before .before .args .place .number) 0 (c .if3 .taken))
+returns-2 c = rw (
+  not-true (c .before .before .before .before .before .args .place .configured)
+      (c .before .before .before .if1 .taken),
+  c .before .before .if2 .left,
+  ne-eqb
+      (c .before .before .before .before .before .args .place .number) 0 (c .if3 .taken),
+)
 
 returns-3 : tie.Need-returns-3
 unfolding goodPlace
-returns-3 c = rw (not-true (c .before .before .before .before .before .args .place .configured) (c .before .before .before .if1 .taken), c .before .before .if2 .left, eq-eqb (c .before .before .before .before .before .args .place .number) 0 (c .if3 .left))
+returns-3 c = rw (
+  not-true (c .before .before .before .before .before .args .place .configured)
+      (c .before .before .before .if1 .taken),
+  c .before .before .if2 .left,
+  eq-eqb
+      (c .before .before .before .before .before .args .place .number) 0 (c .if3 .left),
+)
 
 returns-4 : tie.Need-returns-4
 unfolding goodPlace
-returns-4 c = rw (not-false (c .before .before .before .before .before .args .place .configured) (c .before .before .before .if1 .left), c .before .before .if4 .taken, lt-leb 2 (c .before .before .before .before .before .args .place .number) (c .if5 .taken))
+returns-4 c = rw (
+  not-false (c .before .before .before .before .before .args .place .configured)
+      (c .before .before .before .if1 .left),
+  c .before .before .if4 .taken,
+  lt-leb 2
+      (c .before .before .before .before .before .args .place .number) (c .if5 .taken),
+)
 
 may-hold-requires : tie.Need-may-hold-requires
 may-hold-requires c κs = search needs
 
 returns-5 : tie.Need-returns-5
 unfolding goodPlace
-returns-5 c = rw (not-false (c .before .before .before .before .before .before .before .args .place .configured) (c .before .before .before .before .before .if1 .left), c .before .before .before .before .if4 .taken, le-leb 2 (c .before .before .before .before .before .before .before .args .place .number) (c .before .before .if5 .left)) (c .may-hold .ensures)
+returns-5 c = rw (
+  not-false (c .before .before .before .before .before .before .before .args .place .configured)
+      (c .before .before .before .before .before .if1 .left),
+  c .before .before .before .before .if4 .taken,
+  le-leb 2
+      (c .before .before .before .before .before .before .before .args .place .number) (c .before .before .if5 .left),
+)
+    (c .may-hold .ensures)
 
 returns-6 : tie.Need-returns-6
 unfolding goodPlace
-returns-6 c = rw (not-false (c .before .before .before .before .before .args .place .configured) (c .before .before .before .if1 .left), c .before .before .if4 .left, lt-leb 1 (c .before .before .before .before .before .args .place .number) (c .if6 .taken))
+returns-6 c = rw (
+  not-false (c .before .before .before .before .before .args .place .configured)
+      (c .before .before .before .if1 .left),
+  c .before .before .if4 .left,
+  lt-leb 1
+      (c .before .before .before .before .before .args .place .number) (c .if6 .taken),
+)
 
 may-hold-requires-2 : tie.Need-may-hold-requires-2
 may-hold-requires-2 c κs = search needs
 
 returns-7 : tie.Need-returns-7
 unfolding goodPlace
-returns-7 c = rw (not-false (c .before .before .before .before .before .before .before .args .place .configured) (c .before .before .before .before .before .if1 .left), c .before .before .before .before .if4 .left, le-leb 1 (c .before .before .before .before .before .before .before .args .place .number) (c .before .before .if6 .left)) (c .may-hold2 .ensures)
+returns-7 c = rw (
+  not-false (c .before .before .before .before .before .before .before .args .place .configured)
+      (c .before .before .before .before .before .if1 .left),
+  c .before .before .before .before .if4 .left,
+  le-leb 1
+      (c .before .before .before .before .before .before .before .args .place .number) (c .before .before .if6 .left),
+)
+    (c .may-hold2 .ensures)
 
 pub is-good-spec : {M : Type 1} → statement M
 is-good-spec =
