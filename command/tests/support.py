@@ -42,6 +42,12 @@ exec "$@"
 """
 
 
+def signals_as_usual():
+    """In a child: none is ignored. A shell ignores SIGINT for what it runs in the background, and the command would go on doing so."""
+    for number in (signal.SIGHUP, signal.SIGINT, signal.SIGTERM):
+        signal.signal(number, signal.SIG_DFL)
+
+
 class Floor(unittest.TestCase):
     """A test on a floor of its own: `self.at` is a folder, `self.tree` the command's tree, `self.kit` the pretended kit."""
 
@@ -109,7 +115,8 @@ class Floor(unittest.TestCase):
 
     def start(self, *words, **how):
         """Starts the command in the floor's folder; standard error is kept."""
-        given = dict(cwd=self.at, env=self.surroundings, stdin=subprocess.DEVNULL, stdout=subprocess.PIPE, stderr=subprocess.PIPE)
+        given = dict(cwd=self.at, env=self.surroundings, stdin=subprocess.DEVNULL, stdout=subprocess.PIPE, stderr=subprocess.PIPE,
+                     preexec_fn=signals_as_usual)
         started = subprocess.Popen([os.path.join(self.tree, 'night-list'), *words], **{**given, **how})
         self.addCleanup(self.end, started)
         return started
