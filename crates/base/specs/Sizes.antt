@@ -29,9 +29,6 @@ sized p v d e f b code = record { ports = p; vcs = v; depth = d; downstream = e;
 abbrev pub noConfig : Config
 noConfig = sized 0 0 0 0 0 0 0
 
-abbrev pub withDepth : ℕ → Config → Config
-withDepth d c = sized (c .ports) (c .vcs) d (c .downstream) (c .forward) (c .back) (c .arbiter)
-
 abbrev pub withDownstream : ℕ → Config → Config
 withDownstream e c = sized (c .ports) (c .vcs) (c .depth) e (c .forward) (c .back) (c .arbiter)
 
