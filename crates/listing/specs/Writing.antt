@@ -22,9 +22,13 @@ pub record WriteOutcome : Type 0 where
 unfoldable pub put : List ℕ → ℕ → List ℕ → List ℕ
 put buffer place bytes = take place buffer ++ bytes ++ drop (place + length bytes) buffer
 
+-- fewer than n bytes from the named place, or place past the end
+abbrev pub lacks : ℕ → List ℕ → ℕ → Bool
+lacks n buffer place = ltb (length buffer) place || ltb (length buffer - place) n
+
 -- "fewer than 376 bytes from the named place, or place past the end"
 unfoldable pub lacksRoom : List ℕ → ℕ → Bool
-lacksRoom buffer place = ltb (length buffer) place || ltb (length buffer - place) room
+lacksRoom = lacks room
 
 -- "a refused write leaves the buffer and reports 0 bytes written"
 abbrev pub refusedWith : ℕ → List ℕ → WriteOutcome

@@ -9,16 +9,16 @@ ghost use mathlib.Core.List.{[], _∷_};
 ghost use Rattle.base.specs.Sizes.{mostPorts};
 ghost use Rattle.listing.specs.Lines.{credit as Line·credit, flit as Line·flit, finish as Line·finish, refusal as Line·refusal};
 ghost use Rattle.listing.specs.Lines.{printable, byPort, creditLine, flitLine, cycleLines};
-ghost use Rattle.listing.specs.Writing.{lacksRoom};
+ghost use Rattle.listing.specs.Writing.{lacks};
 
-// "fewer than 376 bytes from the named place, or place past the end"
-pub(crate) fn has_room(buf: &[u8], at: usize) -> bool
-    ensures { λ r. ⌜ r ≡ not (lacksRoom (now (buf .entry)) at) ⌝ }
+// Not "fewer than .. bytes from the named place, or place past the end": of as many as are asked for.
+pub fn has_room(buf: &[u8], at: usize, asked: usize) -> bool
+    ensures { λ r. ⌜ r ≡ not (lacks asked (now (buf .entry)) at) ⌝ }
 {
     if buf.len() < at {
         return false;
     }
-    base::ROOM <= buf.len() - at
+    asked <= buf.len() - at
 }
 
 fn credit(cycle: u64, input: u8, vc: u8) -> bool

@@ -5,6 +5,8 @@ mod digits;
 mod judge;
 mod lines;
 
+pub use judge::has_room;
+
 use base::Reply;
 ghost use mathlib.Core.Path.{_≡_};
 ghost use mathlib.Core.List.{[], _∷_};
@@ -26,7 +28,7 @@ pub fn write_cycle(buf: &mut [u8], at: usize, cycle: u64, reply: Reply) -> Writt
     if !judge::cycle(cycle, reply) {
         return Written::OutOfRange;
     }
-    if !judge::has_room(buf, at) {
+    if !judge::has_room(buf, at, base::ROOM) {
         return Written::NoRoom;
     }
     let bytes = lines::cycle(&mut buf[at..], cycle, reply);
@@ -40,7 +42,7 @@ pub fn write_end(buf: &mut [u8], at: usize, cycles: u64, flits: u64) -> Written
     if !judge::finish(cycles, flits) {
         return Written::OutOfRange;
     }
-    if !judge::has_room(buf, at) {
+    if !judge::has_room(buf, at, base::ROOM) {
         return Written::NoRoom;
     }
     let bytes = lines::finish(&mut buf[at..], cycles, flits);
@@ -54,7 +56,7 @@ pub fn write_refusal(buf: &mut [u8], at: usize, number: u8, cycles: u64, place: 
     if !judge::refusal(number, cycles, place) {
         return Written::OutOfRange;
     }
-    if !judge::has_room(buf, at) {
+    if !judge::has_room(buf, at, base::ROOM) {
         return Written::NoRoom;
     }
     let bytes = lines::refusal(&mut buf[at..], number, cycles, place);

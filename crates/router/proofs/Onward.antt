@@ -1,7 +1,7 @@
 -- Block after block of a part: when a call stops, when it goes on, and that its place only moves on.
 -- Assumes nothing.
 use mathlib.Core.Path.{_≡_, refl, ap, _∙_}
-use mathlib.Core.Bool.{Bool, true, false, cond, _||_}
+use mathlib.Core.Bool.{Bool, true, false, cond}
 use mathlib.Core.List.{List, [], _∷_}
 use mathlib.Core.Option.{Option, some, none}
 use Prim.Native.Nat.{ℕ, zero, suc, _+_, _-_, _≤_, _<_}
@@ -15,12 +15,9 @@ use Rattle.rules.specs.declared.Verdict.{Verdict}
 use Rattle.rules.specs.declared.Verdict.the-variants.{Accepted, Refused}
 use Rattle.rules.specs.Step.{stepOf}
 use Rattle.router.specs.Running.{Writing, wrote, endedBy, byVerdict, cycled, cyclesFrom, byOutcome, blockTaken, blockAt}
-use Rattle.router.specs.Running.{lacksBlockRoom, Call, goesOn}
+use Rattle.router.specs.Running.{lacksBlockRoom, Call, takes, stops, goesOn}
 
 module _ (part : List ℕ) (n : ℕ) (c : Call) where
-  abbrev next : Call
-  next = record { used = c .used + length (blockAt part (c .used)); writing = blockTaken (blockAt part (c .used)) (c .writing) }
-
   pub goes-none : n ≡ 0 → goesOn part n c ≡ c
   unfolding goesOn
   goes-none e = rw e
@@ -33,17 +30,14 @@ module _ (part : List ℕ) (n : ℕ) (c : Call) where
       go zero = refl
       go (suc m) = rw e
 
-  pub goes-full : c .writing .run .over ≡ false → lacksBlockRoom (c .writing .buffer) (c .writing .at) ≡ true → goesOn part n c ≡ c
-  unfolding goesOn
-  goes-full e f = go n
-    where
-      go : (m : ℕ) → goesOn part m c ≡ c
-      go zero = refl
-      go (suc m) = rw (e, f)
+pub goes-full : (part : List ℕ) (n : ℕ) (c : Call) → 0 < n → c .writing .run .over ≡ false
+    → lacksBlockRoom (c .writing .buffer) (c .writing .at) ≡ true → goesOn part n c ≡ stops c
+unfolding goesOn
+goes-full part (suc n) c l e f = rw (e, f)
 
 pub goes-more : (part : List ℕ) (n : ℕ) (c : Call) → 0 < n → c .writing .run .over ≡ false
     → lacksBlockRoom (c .writing .buffer) (c .writing .at) ≡ false
-    → goesOn part (n - 1) (next part n c) ≡ goesOn part n c
+    → goesOn part (n - 1) (takes part c) ≡ goesOn part n c
 unfolding goesOn
 goes-more part (suc n) c l e f = let g : suc n - 1 ≡ n = omega arith in rw (e, f, g)
 
@@ -105,10 +99,11 @@ pub goes-on : (part : List ℕ) (n : ℕ) (c : Call) → c .writing .at ≤ goes
 unfolding goesOn
 goes-on part zero c = le-refl _
 goes-on part (suc n) c =
-    either (c .writing .run .over || lacksBlockRoom (c .writing .buffer) (c .writing .at))
-    (le-trans (block-on (blockAt part (c .used)) (c .writing)) (goes-on part n (next part n c)))
+    either (c .writing .run .over) (lacksBlockRoom (c .writing .buffer) (c .writing .at))
+    (le-trans (block-on (blockAt part (c .used)) (c .writing)) (goes-on part n (takes part c)))
   where
-    either : (o : Bool) → c .writing .at ≤ goesOn part n (next part n c) .writing .at
-        → c .writing .at ≤ cond o c (goesOn part n (next part n c)) .writing .at
-    either true h = le-refl _
-    either false h = h
+    either : (o f : Bool) → c .writing .at ≤ goesOn part n (takes part c) .writing .at
+        → c .writing .at ≤ cond o c (cond f (stops c) (goesOn part n (takes part c))) .writing .at
+    either true f h = le-refl _
+    either false true h = le-refl _
+    either false false h = h

@@ -46,10 +46,10 @@ module _ (run : Run) (before : Parts) (apart : before ≡ partsOf (run .router))
   parts-ongoing o = subst (λ (p : Parts). Ongoing (inside p)) (sym apart) o
 
   -- the blocks of a call
-  pub parts-answer : (start used count first : ℕ) (part later store wire home : List ℕ) (after : RunParts) (t : Router)
+  pub parts-answer : (start used asks count first : ℕ) (part later store wire home : List ℕ) (after : RunParts) (t : Router)
       → t ≡ routerOf (run .router .config) (after .cycle) (after .parts) store wire home
-      → _≡_ {A = Call} (record { used = used; writing = writingOf (run .router .config) after store wire home later })
-      (goesOn part count (record { used = first; writing = inside before }))
+      → _≡_ {A = Call} (record { used = used; asks = asks; writing = writingOf (run .router .config) after store wire home later })
+      (goesOn part count (record { used = first; asks = 0; writing = inside before }))
       → _≡_ {A = CallOutcome}
       (record {
         ran =
@@ -58,11 +58,12 @@ module _ (run : Run) (before : Parts) (apart : before ≡ partsOf (run .router))
               run = record { router = t; place = after .place; flits = after .flits; over = after .over };
               used = used;
               written = after .at - start;
+              asks = asks;
             };
         buffer = later;
       })
-      (answered start (goesOn part count (record { used = first; writing = handed })))
-  parts-answer start used count first part later store wire home after t packed e =
+      (answered start (goesOn part count (record { used = first; asks = 0; writing = handed })))
+  parts-answer start used asks count first part later store wire home after t packed e =
       ap (λ (u : Router).
       record {
         ran =
@@ -71,8 +72,9 @@ module _ (run : Run) (before : Parts) (apart : before ≡ partsOf (run .router))
               run = record { router = u; place = after .place; flits = after .flits; over = after .over };
               used = used;
               written = after .at - start;
+              asks = asks;
             };
         buffer = later;
       }) packed
       ∙ ap (answered start)
-      (e ∙ ap (λ (p : Parts). goesOn part count (record { used = first; writing = inside p })) apart)
+      (e ∙ ap (λ (p : Parts). goesOn part count (record { used = first; asks = 0; writing = inside p })) apart)

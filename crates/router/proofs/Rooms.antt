@@ -1,27 +1,24 @@
 -- Room for a block's lines, and where blocks end in a part.
 -- Assumes nothing.
-use mathlib.Core.Path.{_≡_, sym, ap, _∙_}
-use mathlib.Core.Bool.{Bool, false, not, _||_}
+use mathlib.Core.Path.{_≡_}
+use mathlib.Core.Bool.{true, false}
 use mathlib.Core.List.{List}
 use Prim.Native.Nat.{ℕ, _+_, _-_, _≤_, _<_, min}
 use native.Mathlib.Nat.{min-eq-left, min-eq-right}
 use native.Mathlib.Omega.{arith}
-use lib.Dec.{leb, ltb}
 use lib.ListN.{length, drop, length-take, length-drop}
-use borrow.Author.Tests.{lt-ltb, le-ltb}
-use Rattle.listing.proofs.Ranges.{leb-not-ltb}
-use Rattle.router.specs.Running.{lacksBlockRoom, blockAt}
+use Rattle.listing.specs.Writing.{lacks}
+use Rattle.router.specs.Running.{blockRoom, lacksBlockRoom, blockAt}
 
+-- the tests of the room for a block, in the words of the rules
 module _ (buffer : List ℕ) (at : ℕ) where
-  pub no-place : length buffer < at → false ≡ not (lacksBlockRoom buffer at)
+  pub full : lacks blockRoom buffer at ≡ true → lacksBlockRoom buffer at ≡ true
   unfolding lacksBlockRoom
-  no-place l = ap (λ (b : Bool). not (b || ltb (length buffer - at) 3008)) (sym (lt-ltb (length buffer) at l))
+  full e = e
 
-  pub room-left : at ≤ length buffer → leb 3008 (length buffer - at) ≡ not (lacksBlockRoom buffer at)
+  pub roomy : lacks blockRoom buffer at ≡ false → lacksBlockRoom buffer at ≡ false
   unfolding lacksBlockRoom
-  room-left l =
-      leb-not-ltb 3008 (length buffer - at)
-      ∙ ap (λ (b : Bool). not (b || ltb (length buffer - at) 3008)) (sym (le-ltb (length buffer) at l))
+  roomy e = e
 
 module _ (part : List ℕ) (from : ℕ) where
   pub end-short : from ≤ length part → length part - from < 512 → length part ≡ from + length (blockAt part from)

@@ -9,7 +9,7 @@ use native.Mathlib.Omega.{arith}
 use lib.Dec.{eqb, leb, ltb}
 use lib.ListN.{length}
 use borrow.Author.Tests.{ltb-false, leb-true, eqb-true}
-use Rattle.base.specs.Numbers.{notSound, noRoom}
+use Rattle.base.specs.Numbers.{done, notSound, noRoom}
 use Rattle.base.proofs.Configurations.{legal-exact}
 use Rattle.base.proofs.Search.{both, neither}
 use Rattle.state.specs.Blank.{blank}
@@ -21,11 +21,13 @@ use Rattle.trace.specs.Blocks.{configOf}
 use Rattle.trace.specs.Place.{goodPlace, withoutCycles, mayHold}
 use Rattle.trace.specs.Judged.{BlockOutcome, judged}
 use Rattle.trace.proofs.Found.{FoundAs, refuses, configures, holds, ends, is-over, found-as}
+use Rattle.listing.specs.Writing.{lacksRoom}
 use Rattle.rules.proofs.Facts.{sound-legal}
 use Rattle.runs.specs.declared.Run.{Run}
 use Rattle.runs.specs.Run.{stoppedInside, placeRight, runSound}
-use Rattle.router.specs.Running.{Writing, wrote, endedBy, byOutcome, blockTaken, lacksBlockRoom, blocksIn, goesOn, refusedWith}
-use Rattle.router.specs.Running.{answered, ranOf}
+use Rattle.router.specs.Running.{Writing, wrote, endedBy, byOutcome, blockTaken, blockRoom, lacksBlockRoom, blocksIn, begins}
+use Rattle.router.specs.Running.{goesOn, CallOutcome, refusedWith, answered, ranOf}
+use Rattle.router.proofs.Onward.{goes-full}
 use Rattle.router.specs.Inside.{Within, Ongoing}
 
 module _ (n : Run) (part buffer : List ℕ) (at : ℕ) where
@@ -36,21 +38,28 @@ module _ (n : Run) (part buffer : List ℕ) (at : ℕ) where
   unfolding ranOf
   run-unsound e = rw e
 
-  pub run-full : runSound n ≡ true → lacksBlockRoom buffer at ≡ true → refusedWith noRoom n buffer ≡ ranOf n part buffer at
+  pub run-full : runSound n ≡ true → lacksRoom buffer at ≡ true → refusedWith noRoom n buffer ≡ ranOf n part buffer at
   unfolding ranOf
   run-full e f = rw (e, f)
 
-  pub run-goes : runSound n ≡ true → lacksBlockRoom buffer at ≡ false → (count : ℕ) → count ≡ blocksIn part
-      → answered at (goesOn part count (record { used = 0; writing = handed })) ≡ ranOf n part buffer at
+  pub run-goes : runSound n ≡ true → lacksRoom buffer at ≡ false → (count : ℕ) → count ≡ blocksIn part
+      → answered at (goesOn part count (begins handed)) ≡ ranOf n part buffer at
   unfolding ranOf
   run-goes e f count g = rw (e, f, g)
 
-  pub room-within : lacksBlockRoom buffer at ≡ false → length buffer < 18446744073709551616 → Within at buffer
-  unfolding lacksBlockRoom
-  room-within e s = record {
-    inside = ltb-false (length buffer) at (neither (ltb (length buffer) at) (ltb (length buffer - at) 3008) e .0);
-    short = s;
-  }
+  -- room for a line, but not for a block's: nothing is used, nothing written, and the room is asked for
+  pub run-asks : runSound n ≡ true → lacksRoom buffer at ≡ false → n .over ≡ false → lacksBlockRoom buffer at ≡ true
+      → _≡_ {A = CallOutcome} (record
+      { ran = record { number = done; run = n; used = 0; written = 0; asks = blockRoom }; buffer = buffer }) (ranOf n part buffer at)
+  run-asks e f o g =
+      let none : at - at ≡ 0 = omega arith in
+      ap (λ (m : ℕ). record { ran = record { number = done; run = n; used = 0; written = m; asks = blockRoom }; buffer = buffer })
+      (sym none)
+      ∙ ap (answered at) (sym (goes-full part (blocksIn part) (begins handed) (omega arith) o g)) ∙ run-goes e f (blocksIn part) refl
+
+  pub room-within : lacksRoom buffer at ≡ false → length buffer < 18446744073709551616 → Within at buffer
+  unfolding lacksRoom
+  room-within e s = record { inside = ltb-false (length buffer) at (neither (ltb (length buffer) at) _ e .0); short = s }
 
   -- after the configuration block
   pub configured-ongoing : runSound n ≡ true → n .place .configured ≡ true → Within at buffer → Ongoing handed

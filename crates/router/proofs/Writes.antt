@@ -46,11 +46,11 @@ module _ (b : List ℕ) (at : ℕ) (lines : List Line) (fit : Fitting lines) whe
   refused-fits l number = (omega arith, refl)
 
   pub written-fits : at ≤ length b → Fits (written b at lines)
-  unfolding written
+  unfolding written lacksRoom
   written-fits l = go (printable lines) refl (lacksRoom b at) refl
     where
       laid : printable lines ≡ true → lacksRoom b at ≡ false → at + length (text lines) ≤ length b
-      laid e f = let r = room-there b at (ap not f) in let s = fit e in omega arith
+      laid e f = let r = room-there room b at (ap not f) in let s = fit e in omega arith
 
       go : (p : Bool) → printable lines ≡ p → (q : Bool) → lacksRoom b at ≡ q
           → Fits (cond p (cond q (refusedWith noRoom b) (record

@@ -1,11 +1,10 @@
 -- The run entry: block after block of a file is judged, its cycles are stepped, and each cycle's lines, the E or the R line, are written
 -- (01, blocks, numbers and the list).
 -- Assumes nothing.
-use mathlib.Core.Bool.{Bool, true, cond, not, _||_}
+use mathlib.Core.Bool.{Bool, true, cond, not}
 use mathlib.Core.List.{List, [], _∷_}
 use mathlib.Core.Option.{Option, some, none}
 use Prim.Native.Nat.{ℕ, zero, suc, _+_, _-_, _*_, _/_}
-use lib.Dec.{ltb}
 use lib.ListN.{length, take, drop}
 use Rattle.base.specs.Numbers.{done, notSound, noRoom, room}
 use Rattle.state.specs.declared.Router.{Router}
@@ -15,7 +14,7 @@ use Rattle.trace.specs.Blocks.{blockLength, partAt}
 use Rattle.trace.specs.Judged.{Read, aConfiguration, someCycles, theEnd, noMore, judged}
 use Rattle.trace.specs.Judged as trace
 use Rattle.listing.specs.Lines.{Line, finish, refusal, cycleLines, flitLines}
-use Rattle.listing.specs.Writing.{written}
+use Rattle.listing.specs.Writing.{lacks, lacksRoom, written}
 use Rattle.rules.specs.declared.Verdict.{Verdict}
 use Rattle.rules.specs.declared.Verdict.the-variants.{Accepted, Refused}
 use Rattle.rules.specs.declared.Stepped.{Stepped}
@@ -101,22 +100,35 @@ abbrev pub blockRoom : ℕ
 blockRoom = 8 * room
 
 unfoldable pub lacksBlockRoom : List ℕ → ℕ → Bool
-lacksBlockRoom buffer at = ltb (length buffer) at || ltb (length buffer - at) blockRoom
+lacksBlockRoom = lacks blockRoom
 
--- how far a call has come
+-- how far a call has come: the bytes used, and the room that the next block asks for where it stopped for want of it, else 0
 pub record Call : Type 0 where
   pub used : ℕ
+  pub asks : ℕ
   pub writing : Writing
+
+abbrev pub begins : Writing → Call
+begins w = record { used = 0; asks = 0; writing = w }
+
+-- the next block of the part is taken
+abbrev pub takes : List ℕ → Call → Call
+takes part c =
+    record {
+      used = c .used + length (blockAt part (c .used));
+      asks = 0;
+      writing = blockTaken (blockAt part (c .used)) (c .writing);
+    }
+
+abbrev pub stops : Call → Call
+stops c = record { used = c .used; asks = blockRoom; writing = c .writing }
 
 -- at most n blocks more: until the run is over or the room is too little for a block
 unfoldable pub goesOn : List ℕ → ℕ → Call → Call
 goesOn part zero c = c
 goesOn part (suc n) c =
-    cond (c .writing .run .over || lacksBlockRoom (c .writing .buffer) (c .writing .at)) c
-    (goesOn part n (record {
-      used = c .used + length (blockAt part (c .used));
-      writing = blockTaken (blockAt part (c .used)) (c .writing);
-    }))
+    cond (c .writing .run .over) c
+    (cond (lacksBlockRoom (c .writing .buffer) (c .writing .at)) (stops c) (goesOn part n (takes part c)))
 
 -- what a call answers, and the buffer after it
 pub record CallOutcome : Type 0 where
@@ -125,18 +137,18 @@ pub record CallOutcome : Type 0 where
 
 -- a call that is refused leaves run and buffer
 abbrev pub refusedWith : ℕ → Run → List ℕ → CallOutcome
-refusedWith number n buffer = record { ran = record { number = number; run = n; used = 0; written = 0 }; buffer = buffer }
+refusedWith number n buffer = record { ran = record { number = number; run = n; used = 0; written = 0; asks = 0 }; buffer = buffer }
 
 abbrev pub answered : ℕ → Call → CallOutcome
 answered at c =
     record {
-      ran = record { number = done; run = c .writing .run; used = c .used; written = c .writing .at - at };
+      ran = record { number = done; run = c .writing .run; used = c .used; written = c .writing .at - at; asks = c .asks };
       buffer = c .writing .buffer;
     }
 
--- 2, then 11, then the blocks of the part
+-- 2, then 11 ("fewer than 376 bytes from the named place, or place past the end"), then the blocks of the part
 unfoldable pub ranOf : Run → List ℕ → List ℕ → ℕ → CallOutcome
 ranOf n part buffer at =
     cond (not (runSound n)) (refusedWith notSound n buffer)
-    (cond (lacksBlockRoom buffer at) (refusedWith noRoom n buffer)
-    (answered at (goesOn part (blocksIn part) (record { used = 0; writing = record { run = n; at = at; buffer = buffer } }))))
+    (cond (lacksRoom buffer at) (refusedWith noRoom n buffer)
+    (answered at (goesOn part (blocksIn part) (begins (record { run = n; at = at; buffer = buffer })))))

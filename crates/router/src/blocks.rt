@@ -4,16 +4,19 @@ use crate::running::RunParts;
 use base::Config;
 use base::ROOM;
 ghost use mathlib.Core.Path.{_≡_};
-ghost use mathlib.Core.Bool.{not};
 ghost use Prim.Native.Nat.{_+_, _-_, _/_, _≤_, _<_};
 ghost use lib.ListN.{length};
-ghost use Rattle.router.specs.Running.{lacksBlockRoom, blockAt, Call, goesOn};
+ghost use Rattle.router.specs.Running.{blockAt, Call, goesOn};
 ghost use Rattle.router.specs.Inside.{Ongoing, writingOf};
 
-// How far a call has come: the run, and the bytes of the part that were used.
+// A block holds at most 7 cycles, and a refused one has an R line: so many bytes from the place on, or no line of it is written.
+pub const BLOCK_ROOM: usize = 8 * ROOM;
+
+// How far a call has come: the run, the bytes of the part that were used, and `BLOCK_ROOM` where it stopped for want of it, else 0.
 pub struct RunAndUsed {
     pub run: RunParts,
     pub used: usize,
+    pub asks: usize,
 }
 
 // The blocks in so many bytes: the last may be shorter, and no bytes are one empty block.
@@ -25,16 +28,6 @@ pub(crate) fn blocks_in(bytes: usize) -> usize
         return 1;
     }
     1 + (bytes - 1) / 512
-}
-
-pub(crate) fn has_room(buf: &[u8], at: usize) -> bool
-    ensures { λ r. ⌜ r ≡ not (lacksBlockRoom (now (buf .entry)) at) ⌝ }
-    ensures short { λ r. ⌜ length (now (buf .entry)) < 18446744073709551616 ⌝ }
-{
-    if buf.len() < at {
-        return false;
-    }
-    8 * ROOM <= buf.len() - at
 }
 
 // Where the block from `from` on ends: 512 bytes on, or with the part.
@@ -65,10 +58,12 @@ pub(crate) fn blocks(
     requires { ⌜ Ongoing (writingOf config before (now store) (now wire) (now home) (now out)) × (first ≤ length (now part)) ⌝ }
     ensures { λ r. ⌜ _≡_ {A = Call} (record {
       used = r .used;
+      asks = r .asks;
       writing = writingOf config (r .run) (now (store .exit)) (now (wire .exit)) (now (home .exit)) (now (out .exit));
     })
         (goesOn (now (part .entry)) count (record {
           used = first;
+          asks = 0;
           writing = writingOf config before (now (store .entry)) (now (wire .entry)) (now (home .entry)) (now (out .entry));
         })) ⌝ }
 {
@@ -77,15 +72,27 @@ pub(crate) fn blocks(
     let mut left = count;
     while 0 < left {
         if run.over {
-            return RunAndUsed { run, used: from };
+            return RunAndUsed {
+                run,
+                used: from,
+                asks: 0,
+            };
         }
-        if !has_room(out, run.at) {
-            return RunAndUsed { run, used: from };
+        if !listing::has_room(out, run.at, BLOCK_ROOM) {
+            return RunAndUsed {
+                run,
+                used: from,
+                asks: BLOCK_ROOM,
+            };
         }
         let end = block_end(part, from);
         run = running::block(config, run, &part[from..end], store, wire, home, out);
         from = end;
         left -= 1;
     }
-    RunAndUsed { run, used: from }
+    RunAndUsed {
+        run,
+        used: from,
+        asks: 0,
+    }
 }

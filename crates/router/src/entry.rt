@@ -1,11 +1,13 @@
 // The run entry: the blocks of a part of a trace, their lines into the caller's buffer. The run handed in is tested once a call.
 use crate::blocks;
+use crate::blocks::BLOCK_ROOM;
 use crate::parts;
 use crate::running;
 use crate::running::RunParts;
 use base::DONE;
 use base::NO_ROOM;
 use base::NOT_SOUND;
+use base::ROOM;
 use runs::Run;
 use trace::Found;
 ghost use mathlib.Core.Path.{_≡_};
@@ -15,12 +17,15 @@ ghost use lib.ListN.{length};
 ghost use Rattle.router.specs.Running.{Writing, blockTaken, goesOn, CallOutcome, answered, ranOf};
 ghost use Rattle.router.specs.Inside.{Within, Ongoing};
 
-// What a call answers: the number, the run after it, how many bytes of the part were used, and how many were written.
+// What a call answers: the number, the run after it, how many bytes of the part were used, and how many were written. `asks` is
+// `BLOCK_ROOM` where the next block's lines might not have fitted, so that the call stopped before it, and else 0: all of the part was used
+// or the run is over.
 pub struct Ran {
     pub number: u8,
     pub run: Run,
     pub used: usize,
     pub written: usize,
+    pub asks: usize,
 }
 
 // After the configuration block: the run, and where the next line comes.
@@ -42,7 +47,7 @@ fn go(
     requires { ⌜ Ongoing (record { run = run; at = at; buffer = now buf }) × (first ≤ length (now part)) × (start ≤ at) ⌝ }
     ensures { λ r. ⌜ _≡_ {A = CallOutcome} (record { ran = r; buffer = now (buf .exit) })
         (answered start (goesOn (now (part .entry)) count (record
-        { used = first; writing = record { run = run; at = at; buffer = now (buf .entry) } }))) ⌝ }
+        { used = first; asks = 0; writing = record { run = run; at = at; buffer = now (buf .entry) } }))) ⌝ }
 {
     let router = run.router;
     let config = router.config;
@@ -81,6 +86,7 @@ fn go(
         },
         used: through.used,
         written: after.at - start,
+        asks: through.asks,
     }
 }
 
@@ -123,27 +129,30 @@ fn begin(run: Run, block: &[u8], buf: &mut [u8], at: usize) -> RunAndAt
     }
 }
 
+// A call that uses nothing and writes nothing.
+fn unmoved(number: u8, run: Run, asks: usize) -> Ran
+    ensures { λ r. ⌜ _≡_ {A = Ran} r (record { number = number; run = run; used = 0; written = 0; asks = asks }) ⌝ }
+{
+    Ran {
+        number,
+        run,
+        used: 0,
+        written: 0,
+        asks,
+    }
+}
+
 // A part of a trace, of any length: its blocks one after another, as long as the run is not over and there is room for a block's lines.
-// 2 where the run handed in is not sound, 11 where the buffer has no room from `at` on; such a call changes nothing.
+// 2 where the run handed in is not sound, 11 where the buffer has no room for a line from `at` on; such a call changes nothing.
 pub fn run(run: Run, part: &[u8], buf: &mut [u8], at: usize) -> Ran
     ensures { λ r. ⌜ _≡_ {A = CallOutcome} (record { ran = r; buffer = now (buf .exit) })
         (ranOf run (now (part .entry)) (now (buf .entry)) at) ⌝ }
 {
     if !runs::is_sound(run) {
-        return Ran {
-            number: NOT_SOUND,
-            run,
-            used: 0,
-            written: 0,
-        };
+        return unmoved(NOT_SOUND, run, 0);
     }
-    if !blocks::has_room(buf, at) {
-        return Ran {
-            number: NO_ROOM,
-            run,
-            used: 0,
-            written: 0,
-        };
+    if !listing::has_room(buf, at, ROOM) {
+        return unmoved(NO_ROOM, run, 0);
     }
     let count = blocks::blocks_in(part.len());
     let place = run.place;
@@ -152,6 +161,9 @@ pub fn run(run: Run, part: &[u8], buf: &mut [u8], at: usize) -> Ran
     }
     if place.configured {
         return go(run, part, 0, count, buf, at, at);
+    }
+    if !listing::has_room(buf, at, BLOCK_ROOM) {
+        return unmoved(DONE, run, BLOCK_ROOM);
     }
     let end = blocks::block_end(part, 0);
     let begun = begin(run, &part[0..end], buf, at);

@@ -15,6 +15,7 @@ mod rows;
 mod running;
 mod switching;
 
+pub use blocks::BLOCK_ROOM;
 pub use cycle::step;
 pub use entry::Ran;
 pub use entry::run;

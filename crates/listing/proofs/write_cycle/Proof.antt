@@ -5,6 +5,7 @@ use native.Mathlib.Omega.{arith}
 use lib.ListN.{length-take, length-drop}
 use borrow.Author.Tests.{not-true, not-false}
 use borrow.Author.Needs.{needs}
+use Rattle.base.specs.Numbers.{room}
 use Rattle.listing.specs.Lines.{cycleLines}
 use Rattle.listing.proofs.Lengths.{cycle-length}
 use Rattle.listing.proofs.Outcomes.{room-there, written-out-of-range, written-no-room, written-lines}
@@ -63,7 +64,7 @@ sub-cycle c =
     let a = before-cycle (cycle-else2 c) .args in
     omega (
       arith,
-      room-there (a .buf .now) (a .at) (sym (c .before .has-room .ensures)
+      room-there room (a .buf .now) (a .at) (sym (c .before .has-room .ensures)
           ∙ not-false (c .before .has-room .result) (c .if2 .left)),
     )
 
@@ -72,7 +73,7 @@ part-cycle-start c =
     let a = before-cycle (cycle-else2 c) .args in
     omega (
       arith,
-      room-there (a .buf .now) (a .at) (sym (c .before .has-room .ensures)
+      room-there room (a .buf .now) (a .at) (sym (c .before .has-room .ensures)
           ∙ not-false (c .before .has-room .result) (c .if2 .left)),
     )
 
@@ -89,7 +90,7 @@ cycle-requires-2 c κs =
       simp (length-take, length-drop)
           (omega (
             arith,
-            room-there (a .buf .now) (a .at) (sym (c .before .before .has-room .ensures)
+            room-there room (a .buf .now) (a .at) (sym (c .before .before .has-room .ensures)
                 ∙ not-false (c .before .before .has-room .result) (c .before .if2 .left)),
           )),
     )

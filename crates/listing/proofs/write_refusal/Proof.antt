@@ -8,6 +8,7 @@ use mathlib.Core.List.{[], _∷_}
 use Prim.Native.Nat.{_≤_}
 use lib.ListN.{length}
 use borrow.Author.Needs.{needs}
+use Rattle.base.specs.Numbers.{room}
 use Rattle.listing.specs.Lines.{refusal, text}
 use Rattle.listing.proofs.Ports.{text-one}
 use Rattle.listing.proofs.Stores.{laid-as}
@@ -68,7 +69,7 @@ sub-refusal c =
     let a = before-refusal (refusal-else2 c) .args in
     omega (
       arith,
-      room-there (a .buf .now) (a .at) (sym (c .before .has-room .ensures)
+      room-there room (a .buf .now) (a .at) (sym (c .before .has-room .ensures)
           ∙ not-false (c .before .has-room .result) (c .if2 .left)),
     )
 
@@ -77,7 +78,7 @@ part-refusal-start c =
     let a = before-refusal (refusal-else2 c) .args in
     omega (
       arith,
-      room-there (a .buf .now) (a .at) (sym (c .before .has-room .ensures)
+      room-there room (a .buf .now) (a .at) (sym (c .before .has-room .ensures)
           ∙ not-false (c .before .has-room .result) (c .if2 .left)),
     )
 
@@ -94,7 +95,7 @@ refusal-requires-2 c κs =
       simp (length-take, length-drop)
           (omega (
             arith,
-            room-there (a .buf .now) (a .at) (sym (c .before .before .has-room .ensures)
+            room-there room (a .buf .now) (a .at) (sym (c .before .before .has-room .ensures)
                 ∙ not-false (c .before .before .has-room .result) (c .before .if2 .left)),
           )),
     )

@@ -12,14 +12,15 @@ use Rattle.router.specs.Running.{Writing, blockAt, blockTaken, Call, goe
 use Rattle.router.specs.Inside.{GoesOn, Ongoing, writingOf}
 use Rattle.router.proofs.Going.{piece-bytes, block-goes-on}
 use Rattle.router.proofs.Onward.{goes-none, goes-over, goes-full, goes-more, piece-is}
+use Rattle.router.proofs.Rooms.{full, roomy}
 use Rattle.router.proofs.blocks.blocks.Statement.{statement}
 use Rattle.router.proofs.blocks.blocks.Tie as tie
 
 abbrev Inv-loop : tie.InvT-loop
 Inv-loop config part first count store₀ wire₀ home₀ out₀ went₀ from₀ left₀ store wire home out run from left =
     (from ≤ length part)
-    × (goesOn part left (record { used = from; writing = writingOf config run store wire home out })
-    ≡ goesOn part count (record { used = first; writing = writingOf config went₀ store₀ wire₀ home₀ out₀ }))
+    × (goesOn part left (record { used = from; asks = 0; writing = writingOf config run store wire home out })
+    ≡ goesOn part count (record { used = first; asks = 0; writing = writingOf config went₀ store₀ wire₀ home₀ out₀ }))
     × Ongoing (writingOf config run store wire home out) × (length out ≡ length out₀)
 
 abbrev μ-loop : tie.MeasureT-loop
@@ -70,6 +71,7 @@ abbrev sofar : tie.At-loop Inv-loop μ-loop → Call
 sofar c =
     record {
       used = c .loop .from;
+      asks = 0;
       writing = writingOf (start-loop c .args .config) (c .loop .run) (c .loop .store) (c .loop .wire) (c .loop .home) (c .loop .out);
     }
 
@@ -86,8 +88,9 @@ returns-2 c =
     let at-else1 = before-has-room (c .before) in
     let at-loop = loop-else1 at-else1 in
     let start = start-loop at-loop in
-    sym (goes-full (start .args .part .now) (at-loop .loop .left) (sofar at-loop) (at-else1 .if1 .left)
-    (not-false _ (sym (c .before .has-room .ensures .0) ∙ not-true (c .before .has-room .result) (c .if2 .taken))))
+    sym (goes-full (start .args .part .now) (at-loop .loop .left) (sofar at-loop) (before-else1 at-else1 .loop-test .taken)
+    (at-else1 .if1 .left)
+    (full _ _ (not-false _ (sym (c .before .has-room .ensures) ∙ not-true (c .before .has-room .result) (c .if2 .taken)))))
     ∙ at-loop .loop .inv .1
 
 block-end-requires : tie.Need-block-end-requires Inv-loop μ-loop
@@ -119,9 +122,9 @@ loop-again c =
     (piece-is part (at-loop .loop .from) (at-block-end .block-end .result) e) in (
       at-block-end .block-end .ensures .1 .0,
       ap₂ (λ (used : ℕ) (v : Writing). goesOn part (at-loop .loop .left - 1)
-          (record { used = used; writing = v })) e f ∙ goes-more part (at-loop .loop .left) (sofar at-loop)
-          (at-in-loop .loop-test .taken) (at-else1 .if1 .left) (not-true _
-          (sym (at-has-room .has-room .ensures .0) ∙ not-false (at-has-room .has-room .result) (at-else2 .if2 .left)))
+          (record { used = used; asks = 0; writing = v })) e f ∙ goes-more part (at-loop .loop .left) (sofar at-loop)
+          (at-in-loop .loop-test .taken) (at-else1 .if1 .left) (roomy _ _ (not-true _
+          (sym (at-has-room .has-room .ensures) ∙ not-false (at-has-room .has-room .result) (at-else2 .if2 .left))))
           ∙ at-loop .loop .inv .1,
       λ _. subst (λ (v : Writing). GoesOn v × (v .run .place .configured ≡ true)) (sym f)
           (block-goes-on (blockAt part (at-loop .loop .from)) (piece-bytes 512 (at-loop .loop .from) part
