@@ -5,9 +5,8 @@ mod digits;
 mod judge;
 mod lines;
 
-pub use judge::has_room;
-
 use base::Reply;
+pub use judge::has_room;
 ghost use mathlib.Core.Path.{_≡_};
 ghost use mathlib.Core.List.{[], _∷_};
 ghost use Rattle.listing.specs.Lines.{finish as Line·finish, refusal as Line·refusal, cycleLines};

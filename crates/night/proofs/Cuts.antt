@@ -1,14 +1,13 @@
 -- The blocks of some bytes: the first block, and the blocks of the rest.
 -- Assumes nothing.
 use mathlib.Core.Path.{_≡_, refl, sym, ap, subst, _∙_}
-use mathlib.Core.List.{List, [], _∷_}
-use Prim.Native.Nat.{ℕ, zero, suc, _+_, _*_, _≤_, _<_}
+use mathlib.Core.List.{List, [], _∷_, _++_}
+use Prim.Native.Nat.{ℕ, zero, suc, _+_, _≤_, _<_}
 use native.Mathlib.Nat.{not-suc-le-zero}
 use native.Mathlib.Omega.{arith}
 use lib.ListN.{length, take, drop, length-drop}
-use lib.Seq.{length-take-le, getD-drop}
+use lib.Seq.{getD-drop}
 use Rattle.trace.specs.Bytes.{AreBytes}
-use Rattle.router.specs.Running.{blocksIn}
 use Rattle.night.specs.File.{cutInto, blocksOf}
 
 -- cutting at most n or m blocks is the same where both are enough
@@ -39,13 +38,12 @@ first-block (b ∷ l) h =
     (cut-same (length l) (length (drop 512 (b ∷ l))) (drop 512 (b ∷ l)) (omega (arith, e)) (omega arith)
     ∙ ap blocksOf (sym (drop-taken 512 (b ∷ l))))
 
--- whole blocks are as many as they are, and a piece shorter than a block is one
-pub whole-blocks : (k : ℕ) (l : List ℕ) → 1 ≤ k → k * 512 ≤ length l → blocksIn (take (k * 512) l) * 512 ≤ k * 512
-whole-blocks k l a b = let e = length-take-le (k * 512) l b in omega (arith, e)
-
-pub last-block : (l : List ℕ) → length l < 512 → blocksIn l ≡ 1
-last-block l h = omega arith
-
 -- the bytes after some bytes are bytes
 pub drop-bytes : (u : ℕ) (l : List ℕ) → AreBytes l → AreBytes (drop u l)
 drop-bytes u l b i = subst (λ (m : ℕ). m < 256) (sym (getD-drop u l i 0)) (b (u + i))
+
+-- bytes behind bytes are bytes
+pub append-bytes : (k l : List ℕ) → AreBytes k → AreBytes l → AreBytes (k ++ l)
+append-bytes [] l a b i = b i
+append-bytes (x ∷ k) l a b zero = a zero
+append-bytes (x ∷ k) l a b (suc i) = append-bytes k l (λ j. a (suc j)) b i

@@ -23,17 +23,18 @@ use Rattle.state.proofs.FreshIsSound.{fresh-is-sound}
 use Rattle.trace.specs.Bytes.{AreBytes}
 use Rattle.trace.specs.declared.place.Place.{Place}
 use Rattle.trace.specs.Blocks.{kindOf, heldOf, configOf, blockLength}
-use Rattle.trace.specs.Place.{goodPlace}
+use Rattle.trace.specs.Place.{goodPlace, withoutCycles}
 use Rattle.trace.specs.Judged.{Read, aConfiguration, someCycles, theEnd, noMore, BlockOutcome, accepted, nextPlace, readOf, taken, judged}
 use Rattle.trace.specs.Way.{cyclesIn}
 use Rattle.trace.proofs.Exactness.{accepted-taken}
 use Rattle.trace.proofs.Found.{FoundAs, refuses, configures, holds, ends, is-over, found-as}
 use Rattle.trace.proofs.Places.{Good, nothing, after, good-is}
 use Rattle.trace.proofs.Ways.{accepted-leads-on}
+use Rattle.listing.specs.Writing.{lacksRoom}
 use Rattle.runs.specs.declared.Run.{Run}
 use Rattle.runs.specs.Run.{started, before, within, stoppedInside, placeRight, runSound}
 use Rattle.router.specs.Running.{Writing, wrote, onRun, withPlace, withRouter, finished, endedBy, cyclesFrom, byOutcome, blockTaken}
-use Rattle.router.specs.Running.{blocksIn, blockAt, lacksBlockRoom, Call, goesOn, refusedWith, answered, ranOf}
+use Rattle.router.specs.Running.{blocksIn, blockAt, lacksBlockRoom, Call, begins, takes, stops, goesOn, refusedWith, answered, ranOf}
 use Rattle.state.proofs.Legal.{sound-cycle}
 use Rattle.router.proofs.Going.{piece-bytes}
 use Rattle.night.proofs.Standing.{Stands, Ran, through, stopped, cycles-ran}
@@ -44,15 +45,15 @@ unfolding runSound started placeRight goodPlace freshRouter
 started-sound = ap₂ _&&_ (blank-exactly (freshRouter noConfig) .1 refl) refl
 
 -- the clauses behind the place, after the configuration block and before it
-abbrev behind : Bool → Run → Bool
+abbrev pub behind : Bool → Run → Bool
 behind configured n = cond configured (sound (n .router) && leb (n .flits) (n .router .config .ports * n .router .cycle))
     (blank (n .router) && eqb (n .flits) 0)
 
-record Led (n : Run) : Type 0 where
-  right : placeRight (n .place) (n .router .cycle) (n .over) ≡ true
-  rest : behind (n .place .configured) n ≡ true
+pub record Led (n : Run) : Type 0 where
+  pub right : placeRight (n .place) (n .router .cycle) (n .over) ≡ true
+  pub rest : behind (n .place .configured) n ≡ true
 
-led-is : (n : Run) → runSound n ≡ true → Led n
+pub led-is : (n : Run) → runSound n ≡ true → Led n
 unfolding runSound
 led-is n e = let b = both (placeRight (n .place) (n .router .cycle) (n .over)) (behind (n .place .configured) n) e in
     record { right = b .0; rest = b .1 }
@@ -66,7 +67,7 @@ good-right : (p : Place) (c : ℕ) (over : Bool) → goodPlace p c ≡ true → 
 unfolding placeRight
 good-right p c over e = rw e
 
-right-good : (p : Place) (c : ℕ) (over : Bool) → over ≡ false → placeRight p c over ≡ true → goodPlace p c ≡ true
+pub right-good : (p : Place) (c : ℕ) (over : Bool) → over ≡ false → placeRight p c over ≡ true → goodPlace p c ≡ true
 unfolding placeRight
 right-good p c over o e = go (goodPlace p c) (ap (λ (b : Bool). goodPlace p c || (b && stoppedInside p c)) (sym o) ∙ e)
   where
@@ -256,7 +257,7 @@ module _ (block : List ℕ) (bytes : AreBytes block) (w : Writing) (o : w .run .
       (good-right q (c + 0) (n .over) (leads (accepted theEnd q) e refl limit))
   found-led _ e (is-over a) = finished-led
 
-  block-led : Led (blockTaken block w .run)
+  pub block-led : Led (blockTaken block w .run)
   unfolding blockTaken
   block-led = found-led (judged p c block) refl (found-as p c block)
 
@@ -265,14 +266,12 @@ goes-led : (part : List ℕ) → AreBytes part → (n : ℕ) (c : Call) → Led 
 unfolding goesOn
 goes-led part bytes zero c led = led
 goes-led part bytes (suc n) c led = either (c .writing .run .over) refl (lacksBlockRoom (c .writing .buffer) (c .writing .at)) (λ o.
-    goes-led part bytes n following (block-led (blockAt part (c .used)) (piece-bytes blockLength (c .used) part bytes) (c .writing) o led))
+    goes-led part bytes n (takes part c)
+    (block-led (blockAt part (c .used)) (piece-bytes blockLength (c .used) part bytes) (c .writing) o led))
   where
-    following : Call
-    following = record { used = c .used + length (blockAt part (c .used)); writing = blockTaken (blockAt part (c .used)) (c .writing) }
-
     either : (b : Bool) → c .writing .run .over ≡ b → (full : Bool)
-        → (c .writing .run .over ≡ false → Led (goesOn part n following .writing .run))
-        → Led (cond (b || full) c (goesOn part n following) .writing .run)
+        → (c .writing .run .over ≡ false → Led (goesOn part n (takes part c) .writing .run))
+        → Led (cond b c (cond full (stops c) (goesOn part n (takes part c))) .writing .run)
     either true o full rest = led
     either false o true rest = led
     either false o false rest = rest o
@@ -281,13 +280,28 @@ goes-led part bytes (suc n) c led = either (c .writing .run .over) refl (lacksBl
 pub run-kept : (n : Run) (part buffer : List ℕ) (at : ℕ) → AreBytes part → runSound n ≡ true
     → runSound (ranOf n part buffer at .ran .run) ≡ true
 unfolding ranOf
-run-kept n part buffer at bytes e = go (runSound n) (lacksBlockRoom buffer at)
+run-kept n part buffer at bytes e = go (runSound n) (lacksRoom buffer at)
   where
     call : Call
-    call = goesOn part (blocksIn part) (record { used = 0; writing = record { run = n; at = at; buffer = buffer } })
+    call = goesOn part (blocksIn part) (begins (record { run = n; at = at; buffer = buffer }))
 
     go : (right full : Bool) → runSound (cond (not right) (refusedWith numbers.notSound n buffer)
         (cond full (refusedWith numbers.noRoom n buffer) (answered at call)) .ran .run) ≡ true
     go false full = e
     go true true = e
     go true false = led-holds (call .writing .run) (goes-led part bytes (blocksIn part) _ (led-is n e))
+
+-- a run that goes on has read no more than the configuration block, a block for each accepted cycle, and the end block
+pub place-early : (n : Run) → runSound n ≡ true → n .over ≡ false → n .place .number ≤ cycleLimit + 2
+place-early n e o = go (good-is (n .place) (n .router .cycle) (right-good (n .place) (n .router .cycle) (n .over) o (led-is n e .right)))
+  where
+    without : (p : Place) → withoutCycles p ≤ 2
+    without p = which (p .ended)
+      where
+        which : (b : Bool) → cond b 2 1 ≤ 2
+        which true = omega arith
+        which false = omega arith
+
+    go : Good (n .place) (n .router .cycle) → n .place .number ≤ cycleLimit + 2
+    go (nothing a b d z) = omega (arith, d)
+    go (after m a d h) = omega (arith, d, without (n .place), h .least, h .limit)

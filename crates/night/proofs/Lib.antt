@@ -6,10 +6,12 @@ pub mod Anywhere
 pub mod CycleLines
 pub mod BlockLines
 pub mod PartLines
+pub mod Standing
+pub mod Kept
+pub mod Used
 pub mod CallLines
 pub mod Accepting
 pub mod Moves
-pub mod Standing
-pub mod Kept
+pub mod Answers
 pub mod Night
 pub mod Histories

@@ -1,24 +1,23 @@
 -- The blocks of a part handed over print what the list has for them, block after block.
 -- Assumes nothing.
 use mathlib.Core.Path.{_≡_, refl, sym, ap, ap₂, subst, _∙_}
-use mathlib.Core.Bool.{Bool, true, false, cond, _||_}
+use mathlib.Core.Bool.{Bool, true, false, cond, not}
 use mathlib.Core.List.{List, []}
-use Prim.Native.Nat.{ℕ, zero, suc, _+_, _-_, _*_, _≤_}
+use Prim.Native.Nat.{ℕ, zero, suc, _+_, _-_, _*_, _≤_, _<_, min}
+use native.Mathlib.Nat.{le-refl}
 use native.Mathlib.Omega.{arith}
-use lib.Dec.{ltb}
-use lib.ListN.{length, take, drop, length-drop}
-use lib.Seq.{length-take-le, drop-drop}
-use borrow.Author.Tests.{ltb-false}
-use Rattle.base.proofs.Lists.{take-inside}
+use lib.ListN.{length, take, drop, length-take, length-drop}
+use lib.Seq.{drop-drop}
 use Rattle.base.specs.Numbers as numbers
-use Rattle.base.proofs.Search.{neither}
 use Rattle.state.specs.declared.Router.{Router}
 use Rattle.trace.specs.declared.place.Place.{Place}
 use Rattle.trace.specs.Bytes.{AreBytes}
 use Rattle.trace.specs.Place.{goodPlace}
 use Rattle.trace.specs.Rules.{placeUnsound, blockShort, checkWrong, bytesFollow, blockWrong, fieldWrong}
 use Rattle.trace.specs.Judged.{noMore, accepted, refused, taken, byField, judged}
-use Rattle.router.specs.Running.{Writing, blockTaken, blockAt, blockRoom, lacksBlockRoom, Call, goesOn}
+use Rattle.listing.proofs.Outcomes.{room-there}
+use Rattle.router.specs.Running.{Writing, blockTaken, blockAt, blockRoom, lacksBlockRoom, Call, takes, stops, goesOn}
+use Rattle.router.proofs.Onward.{used-on}
 use Rattle.router.proofs.Going.{piece-bytes}
 use Rattle.night.specs.File.{finishes, refuses, Printed, endsAt, blockThen, fileFrom, blocksOf}
 use Rattle.night.proofs.Added.{Prints, adds-within, prints-none, prints-both, prints-as}
@@ -29,9 +28,7 @@ use Rattle.night.proofs.BlockLines.{Ready, block-ready, block-prints}
 -- where the test finds it, a block's room is there
 pub block-room : (b : List ℕ) (at : ℕ) → lacksBlockRoom b at ≡ false → at + blockRoom ≤ length b
 unfolding lacksBlockRoom
-block-room b at e =
-    let n = neither (ltb (length b) at) (ltb (length b - at) blockRoom) e in
-    omega (arith, ltb-false (length b) at (n .0), ltb-false (length b - at) blockRoom (n .1))
+block-room b at e = room-there blockRoom b at (ap not e)
 
 -- the end of the input is judged as an empty block: 9 before the end block, the E line after it
 pub end-judged : (p : Place) (c : ℕ) → goodPlace p c ≡ true → judged p c []
@@ -81,50 +78,52 @@ module _ (left : List ℕ) (bytes : AreBytes left) where
       (leftIn (blockTaken b w .run) (from (u + length b)))) (sym e)
       (piece-prints w ready going there u h)
 
-  module _ (m : ℕ) (cut : m ≤ length left) where
-    abbrev part : List ℕ
-    part = take m left
-
+  -- the blocks of a part, as long as they are the blocks of these bytes
+  module _ (part : List ℕ) (are : AreBytes part) where
     abbrev block : Call → List ℕ
     block c = blockAt part (c .used)
-
-    abbrev next : Call → Call
-    next c = record { used = c .used + length (block c); writing = blockTaken (block c) (c .writing) }
 
     abbrev On : Call → Call → Type 0
     On c d = Prints (c .writing) (d .writing) (leftIn (c .writing .run) (from (c .used))) (leftIn (d .writing .run) (from (d .used)))
 
-    -- the blocks of a part that is cut at byte m
-    pub goes-print : (n : ℕ) (c : Call) → c .used + n * 512 ≤ m → (c .writing .run .over ≡ false → Ready (c .writing .run))
-        → c .writing .at ≤ length (c .writing .buffer) → On c (goesOn part n c)
+    -- each block of the part that starts at block i or later, and before byte u, is the block there of these bytes
+    abbrev Agree : ℕ → ℕ → Type 0
+    Agree i u = (j : ℕ) → i ≤ j → 512 * j < u → blockAt part (512 * j) ≡ take 512 (drop (512 * j) left)
+
+    -- at most n blocks from block i on, none of them empty
+    pub goes-print : (n i : ℕ) (c : Call) → (0 < n → c .used ≡ 512 * i) → c .used + n * 512 < length part + 512
+        → (c .writing .run .over ≡ false → Ready (c .writing .run)) → c .writing .at ≤ length (c .writing .buffer)
+        → Agree i (goesOn part n c .used) → On c (goesOn part n c)
     unfolding goesOn
-    goes-print zero c fits ready i = prints-none (c .writing) (c .writing) _ _ refl refl i refl
-    goes-print (suc n) c fits ready i =
-        go (c .writing .run .over) refl (lacksBlockRoom (c .writing .buffer) (c .writing .at)) refl (λ f r j. goes-print n (next c) f r j)
+    goes-print zero i c at fits ready inside agree = prints-none (c .writing) (c .writing) _ _ refl refl inside refl
+    goes-print (suc n) i c at fits ready inside agree =
+        go (c .writing .run .over) refl (lacksBlockRoom (c .writing .buffer) (c .writing .at)) refl agree
+        (λ a f r j g. goes-print n (suc i) (takes part c) a f r j g)
       where
-        same : block c ≡ take 512 (drop (c .used) left)
-        same = take-inside 512 (c .used) m left (omega (arith, fits))
+        here : c .used ≡ 512 * i
+        here = at (omega arith)
 
-        rest : length (drop (c .used) left) ≡ length left - c .used
-        rest = length-drop (c .used) left
-
-        whole : length (block c) ≡ 512
-        whole = ap length same ∙ length-take-le 512 (drop (c .used) left) (omega (arith, rest, cut, fits))
+        long : length (block c) ≡ min 512 (length part - c .used)
+        long = length-take 512 (drop (c .used) part) ∙ ap (min 512) (length-drop (c .used) part)
 
         go : (o : Bool) → c .writing .run .over ≡ o → (f : Bool) → lacksBlockRoom (c .writing .buffer) (c .writing .at) ≡ f
-            → (next c .used + n * 512 ≤ m → (next c .writing .run .over ≡ false → Ready (next c .writing .run))
-            → next c .writing .at ≤ length (next c .writing .buffer)
-            → On (next c) (goesOn part n (next c)))
-            → On c (cond (o || f) c (goesOn part n (next c)))
-        go true e f g more = prints-none (c .writing) (c .writing) _ _ refl refl i refl
-        go false e true g more = prints-none (c .writing) (c .writing) _ _ refl refl i refl
-        go false e false g more =
+            → Agree i (cond o c (cond f (stops c) (goesOn part n (takes part c))) .used)
+            → ((0 < n → takes part c .used ≡ 512 * suc i) → takes part c .used + n * 512 < length part + 512
+            → (takes part c .writing .run .over ≡ false → Ready (takes part c .writing .run))
+            → takes part c .writing .at ≤ length (takes part c .writing .buffer)
+            → Agree (suc i) (goesOn part n (takes part c) .used) → On (takes part c) (goesOn part n (takes part c)))
+            → On c (cond o c (cond f (stops c) (goesOn part n (takes part c))))
+        go true e f g a more = prints-none (c .writing) (c .writing) _ _ refl refl inside refl
+        go false e true g a more = prints-none (c .writing) (c .writing) _ _ refl refl inside refl
+        go false e false g a more =
             let r = ready e in
-            let p = one-prints (c .writing) r e (block-room (c .writing .buffer) (c .writing .at) g) (c .used)
-            (omega (arith, rest, cut, fits)) (block c) same in
+            let on = used-on part n (takes part c) in
+            let same : block c ≡ take 512 (drop (c .used) left) =
+            subst (λ (u : ℕ). blockAt part u ≡ take 512 (drop u left)) (sym here) (a i (le-refl i) (omega (arith, on, long, fits, here))) in
+            let some : 1 ≤ length (drop (c .used) left) =
+            let t = ap length same ∙ length-take 512 (drop (c .used) left) in omega (arith, t, long, fits, here) in
+            let p = one-prints (c .writing) r e (block-room (c .writing .buffer) (c .writing .at) g) (c .used) some (block c) same in
             prints-both p
-            (more (omega (arith, fits, whole)) (block-ready (block c) (piece-bytes 512 (c .used) part part-bytes) (c .writing) r)
-            (adds-within (p .adds)))
-          where
-            part-bytes : AreBytes part
-            part-bytes = piece-bytes m 0 left bytes
+            (more (λ h. omega (arith, long, fits, here, h)) (omega (arith, long, fits))
+            (block-ready (block c) (piece-bytes 512 (c .used) part are) (c .writing) r) (adds-within (p .adds))
+            (λ j h l. a j (omega (arith, h)) l))

@@ -7,7 +7,7 @@ use mathlib.Core.Option.{Option, some, none}
 use Prim.Native.Nat.{ℕ, zero, suc, _+_, _-_, _≤_, _<_}
 use native.Mathlib.Nat.{le-refl, le-trans}
 use native.Mathlib.Omega.{arith}
-use lib.ListN.{length, take, drop}
+use lib.ListN.{length, take, drop, length-take, length-drop}
 use Rattle.trace.specs.Judged.{BlockOutcome, Read, aConfiguration, someCycles, theEnd, noMore, judged}
 use Rattle.trace.specs.Blocks.{partAt}
 use Rattle.listing.specs.Lines.{Line}
@@ -107,3 +107,31 @@ goes-on part (suc n) c =
     either true f h = le-refl _
     either false true h = le-refl _
     either false false h = h
+
+-- what is used only grows
+pub used-on : (part : List ℕ) (n : ℕ) (c : Call) → c .used ≤ goesOn part n c .used
+unfolding goesOn
+used-on part zero c = le-refl (c .used)
+used-on part (suc n) c = either (c .writing .run .over) (lacksBlockRoom (c .writing .buffer) (c .writing .at)) (used-on part n (takes part c))
+  where
+    either : (o f : Bool) → takes part c .used ≤ goesOn part n (takes part c) .used
+        → c .used ≤ cond o c (cond f (stops c) (goesOn part n (takes part c))) .used
+    either true f h = le-refl (c .used)
+    either false true h = le-refl (c .used)
+    either false false h = omega (arith, h)
+
+-- no more is used than there is
+pub used-inside : (part : List ℕ) (n : ℕ) (c : Call) → c .used ≤ length part → goesOn part n c .used ≤ length part
+unfolding goesOn
+used-inside part zero c h = h
+used-inside part (suc n) c h = either (c .writing .run .over) (lacksBlockRoom (c .writing .buffer) (c .writing .at))
+    (used-inside part n (takes part c) more)
+  where
+    more : c .used + length (blockAt part (c .used)) ≤ length part
+    more = omega (arith, h, length-take 512 (drop (c .used) part), length-drop (c .used) part)
+
+    either : (o f : Bool) → goesOn part n (takes part c) .used ≤ length part
+        → cond o c (cond f (stops c) (goesOn part n (takes part c))) .used ≤ length part
+    either true f g = h
+    either false true g = h
+    either false false g = g
