@@ -8,7 +8,7 @@ pub struct Filled {
     pub failed: bool,
 }
 
-// Reads until the buffer is full or the input ends.
+// Reads until the buffer is full or the input ends. The tries are given back after each byte that came.
 pub fn fill(from: i32, buf: &mut [u8]) -> Filled
     ensures { λ r. ⌜ Counts (r .bytes) (now (buf .exit)) ⌝ }
 {
@@ -34,6 +34,7 @@ pub fn fill(from: i32, buf: &mut [u8]) -> Filled
             continue;
         }
         bytes += more;
+        tries = TRIES;
     }
     Filled {
         bytes,

@@ -1,8 +1,11 @@
 // Writing to a descriptor.
 use crate::TRIES;
+ghost use Rattle.floor.specs.Handing.{Puts};
 
-// Writes the first bytes of a buffer, or answers false.
-pub fn put(to: i32, buf: &[u8], bytes: usize) -> bool {
+// Writes the first bytes of a buffer, or answers false. The tries are given back after each byte that went.
+pub fn put(to: i32, buf: &[u8], bytes: usize) -> bool
+    ensures { λ r. ⌜ Puts (now (buf .entry)) bytes r ⌝ }
+{
     if buf.len() < bytes {
         return false;
     }
@@ -19,6 +22,7 @@ pub fn put(to: i32, buf: &[u8], bytes: usize) -> bool {
             continue;
         }
         done += more;
+        tries = TRIES;
     }
     true
 }

@@ -1,99 +1,152 @@
 // Handing a part over to the run entry and writing its lines.
 use crate::output;
+use base::DONE;
 use runs::Run;
-ghost use mathlib.Core.Bool.{true, false};
-ghost use mathlib.Core.Option.{some};
 ghost use mathlib.Core.Path.{_≡_};
-ghost use Prim.Native.Nat.{_≤_};
+ghost use Prim.Native.Nat.{_+_, _≤_};
 ghost use lib.ListN.{length};
-ghost use Rattle.floor.specs.Handing.{passed as passedIn, mostCalls, finished, handedOver};
+ghost use Rattle.floor.specs.Handing.{Passes, isWhole, holdsBlocks, Finishes, Handing};
 
-// The run after a part, or that its list could not be written on: a call was refused, or a write.
+// Why no further call was made.
+pub enum Stop {
+    // all of the part was used, or the run is over
+    Whole,
+    // more bytes are named than the buffer has
+    Beyond,
+    // the buffer is not some whole blocks
+    Uneven,
+    // a call was refused with this number
+    Refused(u8),
+    // the next block asks for so many bytes of room, and the buffer for the lines is shorter
+    NoRoom(usize),
+    // the lines of the last call were not written
+    NotWritten,
+}
+
+// The run after so many calls, and why they were no more.
 pub struct Passed {
     pub run: Run,
-    pub failed: bool,
+    pub calls: usize,
+    pub stop: Stop,
 }
 
-// The bytes that a call wrote. After a call that was refused the list cannot go on.
-fn put_lines(to: i32, out: &[u8], number: u8, written: usize) -> bool
-    ensures { λ r. ⌜ (r ≡ true → number ≡ 0) ⌝ }
-{
-    if number == base::DONE {
-        return output::put(to, out, written);
-    }
-    false
-}
-
-// Hands a part over until it is used up or the run is over. A call uses a block at least, and a part has at most 128.
+// Hands a part over until it is used up or the run is over. Each call but the last uses a block at least.
 pub fn pass(before: Run, part: &[u8], out: &mut [u8], to: i32) -> Passed
-    ensures { λ r. ⌜ (r .failed ≡ false → passedIn mostCalls before (now (part .entry)) (now (out .entry))
-        ≡ some (record { run = r .run; buffer = now (out .exit) })) ⌝ }
+    ensures { λ r. ⌜ Passes (now (part .entry)) (record { run = before; buffer = now (out .entry) }) (r .calls) (r .stop)
+        (record { run = r .run; buffer = now (out .exit) }) ⌝ }
 {
     let mut run = before;
     let mut from: usize = 0;
-    let mut calls: u32 = 128;
-    while 0 < calls {
+    let mut calls: usize = 0;
+    while from <= part.len() {
         let ran = router::run(run, &part[from..], out, 0);
         run = ran.run;
-        if !put_lines(to, out, ran.number, ran.written) {
+        calls += 1;
+        if ran.number != DONE {
             return Passed {
-                run: run,
-                failed: true,
+                run,
+                calls,
+                stop: Stop::Refused(ran.number),
             };
         }
-        if part.len() - from <= ran.used {
+        if !output::put(to, out, ran.written) {
             return Passed {
-                run: run,
-                failed: false,
+                run,
+                calls,
+                stop: Stop::NotWritten,
             };
         }
-        if run.over {
+        if ran.asks == 0 {
             return Passed {
-                run: run,
-                failed: false,
+                run,
+                calls,
+                stop: Stop::Whole,
+            };
+        }
+        if ran.used == 0 {
+            return Passed {
+                run,
+                calls,
+                stop: Stop::NoRoom(ran.asks),
             };
         }
         from += ran.used;
-        calls -= 1;
     }
     Passed {
-        run: run,
-        failed: true,
+        run,
+        calls,
+        stop: Stop::Whole,
     }
 }
 
-// The last piece, behind the whole blocks, where the buffer is not full: then the input has ended.
-fn finish(passed: Passed, buf: &[u8], from: usize, bytes: usize, out: &mut [u8], to: i32) -> Passed
-    requires { ⌜ (from ≤ bytes) × (bytes ≤ length (now buf)) ⌝ }
-    ensures { λ r. ⌜ (r .failed ≡ false → (passed .failed ≡ false)
-        × (finished (now (buf .entry)) from bytes (some (record { run = passed .run; buffer = now (out .entry) }))
-        ≡ some (record { run = r .run; buffer = now (out .exit) }))) ⌝ }
+pub(crate) fn is_whole(stop: Stop) -> bool
+    ensures { λ r. ⌜ r ≡ isWhole stop ⌝ }
 {
-    if passed.failed {
-        return passed;
+    match stop {
+        Stop::Whole => true,
+        Stop::Beyond => false,
+        Stop::Uneven => false,
+        Stop::Refused(_) => false,
+        Stop::NoRoom(_) => false,
+        Stop::NotWritten => false,
     }
-    if bytes == buf.len() {
+}
+
+fn holds_blocks(bytes: usize) -> bool
+    ensures { λ r. ⌜ r ≡ holdsBlocks bytes ⌝ }
+{
+    if bytes == 0 {
+        return false;
+    }
+    bytes % 512 == 0
+}
+
+// The end of the input: an empty part, where all before it was handed over and the run is not over.
+fn finish(passed: Passed, buf: &[u8], out: &mut [u8], to: i32) -> Passed
+    requires { ⌜ passed .calls ≤ 9223372036854775808 ⌝ }
+    ensures { λ r. ⌜ Finishes (record { run = passed .run; buffer = now (out .entry) }) (passed .calls) (passed .stop) (r .calls) (r .stop)
+        (record { run = r .run; buffer = now (out .exit) }) ⌝ }
+{
+    let stop = passed.stop;
+    if !is_whole(stop) {
         return passed;
     }
     let run = passed.run;
     if run.over {
         return passed;
     }
-    pass(run, &buf[from..bytes], out, to)
+    let last = pass(run, &buf[0..0], out, to);
+    let after = last.run;
+    let why = last.stop;
+    Passed {
+        run: after,
+        calls: passed.calls + last.calls,
+        stop: why,
+    }
 }
 
-// Hands over what was read: the whole blocks, and then the last, shorter, perhaps empty piece.
+// Hands over what was read into a buffer of some whole blocks: its first bytes, and where they do not fill it, the end of the input.
 pub fn hand(run: Run, buf: &[u8], bytes: usize, out: &mut [u8], to: i32) -> Passed
-    ensures { λ r. ⌜ (r .failed ≡ false → handedOver run (now (buf .entry)) bytes (now (out .entry))
-        ≡ some (record { run = r .run; buffer = now (out .exit) })) ⌝ }
+    ensures { λ r. ⌜ Handing (now (buf .entry)) bytes (record { run = run; buffer = now (out .entry) }) (r .calls) (r .stop)
+        (record { run = r .run; buffer = now (out .exit) }) ⌝ }
 {
     if buf.len() < bytes {
-        return Passed { run, failed: true };
+        return Passed {
+            run,
+            calls: 0,
+            stop: Stop::Beyond,
+        };
     }
-    let whole = bytes / 512 * 512;
-    if whole == 0 {
-        return finish(Passed { run, failed: false }, buf, 0, bytes, out, to);
+    if !holds_blocks(buf.len()) {
+        return Passed {
+            run,
+            calls: 0,
+            stop: Stop::Uneven,
+        };
     }
-    let passed = pass(run, &buf[0..whole], out, to);
-    finish(passed, buf, whole, bytes, out, to)
+    let passed = pass(run, &buf[0..bytes], out, to);
+    if bytes == buf.len() {
+        return passed;
+    }
+    finish(passed, buf, out, to)
 }

@@ -1,7 +1,7 @@
 -- `floor::input::fill` meets its contract: what is read stays inside the buffer, and the loop ends.
 -- Assumes nothing.
 use mathlib.Core.Path.{_≡_, sym}
-use Prim.Native.Nat.{ℕ, _+_, _-_, _≤_}
+use Prim.Native.Nat.{ℕ, _+_, _-_, _*_, _≤_}
 use mathlib.Core.List.{List}
 use lib.ListN.{length}
 use lib.Seq.{length-take-le}
@@ -15,10 +15,10 @@ counted : (n : ℕ) (l : List ℕ) → n ≤ length l → Counts n l
 counted n l h = (h, sym (length-take-le n l h))
 
 abbrev Inv-loop : tie.InvT-loop
-Inv-loop from buf₀ bytes₀ tries₀ buf bytes tries = (bytes ≤ length buf) × (length buf ≡ length buf₀)
+Inv-loop from buf₀ bytes₀ tries₀ buf bytes tries = (bytes ≤ length buf) × (tries ≤ 100) × (length buf ≡ length buf₀)
 
 abbrev μ-loop : tie.MeasureT-loop
-μ-loop from buf₀ bytes₀ tries₀ buf bytes tries = (length buf - bytes) + tries
+μ-loop from buf₀ bytes₀ tries₀ buf bytes tries = (length buf - bytes) * 101 + tries
 
 returns : tie.Need-returns Inv-loop μ-loop
 returns c = counted _ _ (search needs)
