@@ -1,4 +1,5 @@
 pub mod Folds
+pub mod FirstRule
 pub mod Exactness
 pub mod Channels
 pub mod Turns
