@@ -1,6 +1,7 @@
 pub mod Folds
 pub mod FirstRule
 pub mod Exactness
+pub mod ByteRules
 pub mod Channels
 pub mod Turns
 pub mod Lines

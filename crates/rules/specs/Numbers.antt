@@ -30,7 +30,7 @@ runFull cycle = leb cycleLimit cycle
 unfoldable pub partWrong : List ℕ → Bool
 partWrong part = not (eqb (length part) cycleLength)
 
--- 3, "row breaks the byte rules above, or VC, destination or credit too large"
+-- 3, "row breaks the byte rules above, or VC, destination or credit too large"; ByteRules says the same rule by rule
 unfoldable pub rowWrong : Config → List ℕ → ℕ → Bool
 rowWrong c part i = not (cond (ltb i (c .ports)) (rowLegal c part i) (rowZero part i))
 
