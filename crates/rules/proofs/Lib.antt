@@ -55,3 +55,5 @@ pub mod ChosenDepartures
 pub mod ChosenEvent
 pub mod ChosenStep
 pub mod ChosenArbiters
+pub mod Differ
+pub mod WrongVersions
