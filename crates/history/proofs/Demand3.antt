@@ -89,6 +89,7 @@ module _ (s : Router) (sound : Sound s) (h : History Flit) (t : ℕ) where
   router-demand d =
       record {
         cycles = d .cycles;
+        names = d .names;
         inputs = λ i v p q.
             input-demand i v p q (subst (λ (ch : ChannelView). model.InputDemand look (sizesOf c) (channelOf ch) h t i v)
             (view-there s i v p q) (d .inputs i v p q));

@@ -16,6 +16,7 @@ use Rattle.model.proofs.Flow.{wire-newest, home-newest, queue-older, ta
 use Rattle.model.proofs.Reading.{reading-packets}
 use Rattle.model.proofs.Invariant.{Inv, inv-run}
 use Rattle.model.proofs.Depth.{stored-and-taken}
+use Rattle.model.proofs.Limits.{names-in-range}
 
 module _ {Flit : Type 0} (look : Look Flit) (c : Config) (delayed : Delayed c) {s : Router Flit} {h : History Flit}
     (run : Run look c s h) (t : ℕ)
@@ -47,6 +48,7 @@ pub demand3 : {Flit : Type 0} (look : Look Flit) (c : Config) → Delayed c → 
 demand3 look c delayed {h = h} {now = now} run =
     record {
       cycles = cycles;
+      names = names-in-range look c delayed run;
       inputs = λ i v p q. input-demand look c delayed run (now .cycle) cycles i v;
       outputs = λ o w p q. inv-run look c delayed run .outputs (record { output = o; vc = w });
     }

@@ -4,11 +4,13 @@ use mathlib.Core.Path.{_≡_}
 use mathlib.Core.List.{_++_}
 use Prim.Native.Nat.{ℕ, suc, _+_, _<_}
 use lib.ListN.{length}
+use Rattle.model.specs.Lists.{All}
 use Rattle.model.specs.Sizes.{Config}
 use Rattle.model.specs.Flit.{Look}
 use Rattle.model.specs.Channel.{Channel, stored, onWire, goingHome}
 use Rattle.model.specs.Router.{Router}
 use Rattle.model.specs.History.{History, Numbered, Departure, upTo, after, accepted, leftFrom, leftOn, flits}
+use Rattle.model.specs.Limits.{NamesInRange}
 use Rattle.model.specs.Packets.{Packets}
 
 -- leaving by the port that the packet's head named
@@ -41,6 +43,9 @@ pub record InputDemand {Flit : Type 0} (look : Look Flit) (c : Config) (ch : Cha
 pub record Demand3 {Flit : Type 0} (look : Look Flit) (c : Config) (s : Router Flit) (h : History Flit) (t : ℕ) : Type 0 where
   -- the history has one entry for each of the cycles t, .., 1, 0
   pub cycles : Numbered (suc t) h
+  -- Every offer, departure and credit names a port below P and a VC below V. The sentences below speak of the channels that there are; a
+  -- flit that was accepted or left anywhere else would be in none of them.
+  pub names : All (NamesInRange c) h
   -- "After each accepted cycle, each input channel's ..": the two sentences above
   pub inputs : (i v : ℕ) → i < c .ports → v < c .vcs → InputDemand look c (s .channel i v) h t i v
   -- "On each output channel the flits form whole packets one after another, at most the last unfinished, none holding flits of two
