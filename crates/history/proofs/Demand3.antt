@@ -82,6 +82,7 @@ module _ (s : Router) (sound : Sound s) (h : History Flit) (t : ℕ) where
         order = ap (λ (l : List Flit). flits (leftFrom i v h) ++ queue c s i v ++ l) wire ∙ d .order;
         queued = queued;
         ports = d .ports;
+        destinations = d .destinations;
       }
 
   router-demand : model.Demand3 look (sizesOf c) (freeOf s) h t → Demand3 c s h t

@@ -7,7 +7,7 @@ use Prim.Native.Nat.{ℕ, suc, _+_, _<_}
 use lib.ListN.{length}
 use Rattle.base.specs.declared.config.Config.{Config}
 use Rattle.base.specs.declared.flit.Flit.{Flit}
-use Rattle.model.specs.Demand3.{ByHeadsPort, FromOneSource}
+use Rattle.model.specs.Demand3.{ByHeadsPort, LeftByDestination, FromOneSource}
 use Rattle.model.specs.History.{History, Numbered, upTo, after, accepted, leftFrom, leftOn, flits}
 use Rattle.model.specs.Limits.{NamesInRange}
 use Rattle.model.specs.Lists.{All}
@@ -52,6 +52,8 @@ pub record InputDemand (c : Config) (s : Router) (h : History Flit) (t i v : ℕ
   pub queued : length (queue c s i v) ≡ buffered c s i v
   -- ".. each leaving by the port its packet's head named."
   pub ports : Packets look (ByHeadsPort look) (leftFrom i v h)
+  -- the same of the flits accepted, in whose places they left
+  pub destinations : LeftByDestination look (leftFrom i v h) (accepted i v h)
 
 pub record Demand3 (c : Config) (s : Router) (h : History Flit) (t : ℕ) : Type 0 where
   -- the history has one entry for each of the cycles t, .., 1, 0

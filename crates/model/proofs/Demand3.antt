@@ -8,7 +8,8 @@ use lib.ListN.{length, drop, take}
 use Rattle.model.specs.Sizes.{Config, Delayed}
 use Rattle.model.specs.Flit.{Look}
 use Rattle.model.specs.Router.{Router}
-use Rattle.model.specs.History.{Entry, History, Numbered, upTo, after, leftFrom}
+use Rattle.model.specs.Channel.{onWire}
+use Rattle.model.specs.History.{Entry, History, Numbered, upTo, after, accepted, leftFrom}
 use Rattle.model.specs.Run.{Run}
 use Rattle.model.specs.Demand3.{Demand3, InputDemand, ByHeadsPort}
 use Rattle.model.proofs.Numbers.{after-newest, upTo-older}
@@ -16,6 +17,7 @@ use Rattle.model.proofs.Flow.{wire-newest, home-newest, queue-older, ta
 use Rattle.model.proofs.Reading.{reading-packets}
 use Rattle.model.proofs.Invariant.{Inv, inv-run}
 use Rattle.model.proofs.Depth.{stored-and-taken}
+use Rattle.model.proofs.Destinations.{left-by-destination}
 use Rattle.model.proofs.Limits.{names-in-range}
 
 module _ {Flit : Type 0} (look : Look Flit) (c : Config) (delayed : Delayed c) {s : Router Flit} {h : History Flit}
@@ -31,6 +33,8 @@ module _ {Flit : Type 0} (look : Look Flit) (c : Config) (delayed : Delayed c) {
       let newest : (n : ℕ) → after t n h ≡ take n h = λ n. after-newest t n h cycles in
       let older : (n : ℕ) → upTo t n h ≡ drop n h = λ n. upTo-older t n h cycles in
       let sum = stored-and-taken look c run i v in
+      let order = all-in-order c delayed ch h i v flow in
+      let ports = reading-packets look (ByHeadsPort look) (inv .place i v .inside) (leftFrom i v h) (inv .place i v .left) in
       record {
         wire = rw (newest (c .forward)) (ap length (wire-newest c delayed ch h i v flow));
         buffered = rw (older (c .forward), older 0) (queue-older c delayed ch h i v flow);
@@ -38,8 +42,9 @@ module _ {Flit : Type 0} (look : Look Flit) (c : Config) (delayed : Delayed c) {
         credits = rw (older (c .back), older 0) (omega (arith, flow .taken));
         slots = sum;
         depth = omega (arith, taken-is c delayed ch h i v flow);
-        order = all-in-order c delayed ch h i v flow;
-        ports = reading-packets look (ByHeadsPort look) (inv .place i v .inside) (leftFrom i v h) (inv .place i v .left);
+        order = order;
+        ports = ports;
+        destinations = left-by-destination look (leftFrom i v h) (ch .queue) (onWire ch) (accepted i v h) ports order;
       }
 
 -- After each accepted cycle of any run, whose entry is the newest of the history.

@@ -12,6 +12,7 @@ pub mod Times
 pub mod Ranges
 pub mod OutCredits
 pub mod Limits
+pub mod Destinations
 pub mod Demand3
 pub mod Given
 pub mod Test

@@ -15,6 +15,7 @@ use Rattle.model.specs.Channel.{Channel, stored, onWire, goingHome}
 use Rattle.model.specs.Router.{Router, fresh}
 use Rattle.model.specs.History.{Entry, History, Departure, after, gather, accepted, leftFrom, leftOn}
 use Rattle.model.specs.Limits.{NamesInRange, creditsOn}
+use Rattle.model.specs.Demand3.{LeftByDestination}
 use Rattle.model.proofs.Given.{Given, routerAfter, historyAfter}
 use Rattle.model.proofs.Test.{tests, legals?}
 use Rattle.model.proofs.Sample.{Flit, looks, head, body, tail, single, offer, credit, bind, from, left, cycle}
@@ -87,13 +88,13 @@ bound-again = record { fine = tt; alone = refl; fineAgain = tt; wrong = (refl, r
 
 -- bindsFront: an input VC is bound to output 1 with an empty queue. The flit that comes is for output 0 and leaves by 1 (demand 3).
 pub empty-bound : Breaks 7 [] (cycle (offer 0 0 (single 0 7) ∷ []) [] (bind 0 0 1 0 ∷ []) []) (cycle [] [] [] (from 0 0 ∷ []) ∷ [])
-    (λ s h. leftFrom 0 0 h ≡ left 1 0 0 0 (single 0 7) ∷ [])
-empty-bound = record { fine = tt; alone = refl; fineAgain = tt; wrong = refl }
+    (λ s h. (leftFrom 0 0 h ≡ left 1 0 0 0 (single 0 7) ∷ []) × ¬ LeftByDestination looks (leftFrom 0 0 h) (accepted 0 0 h))
+empty-bound = record { fine = tt; alone = refl; fineAgain = tt; wrong = (refl, λ left. absurd (omega (arith, left .0 refl))) }
 
 -- bindsFront: a head for output 0 is bound to output 1 and leaves by it (demand 3).
 pub other-output : Breaks 7 (cycle (offer 0 0 (single 0 7) ∷ []) [] [] [] ∷ []) (cycle [] [] (bind 0 0 1 0 ∷ []) (from 0 0 ∷ [])) []
-    (λ s h. leftFrom 0 0 h ≡ left 1 0 0 0 (single 0 7) ∷ [])
-other-output = record { fine = tt; alone = refl; fineAgain = tt; wrong = refl }
+    (λ s h. (leftFrom 0 0 h ≡ left 1 0 0 0 (single 0 7) ∷ []) × ¬ LeftByDestination looks (leftFrom 0 0 h) (accepted 0 0 h))
+other-output = record { fine = tt; alone = refl; fineAgain = tt; wrong = (refl, λ left. absurd (omega (arith, left .0 refl))) }
 
 -- bindsFree: an output VC that one input VC holds is given to another. A packet holds flits of two sources (demand 3).
 pub in-use : Breaks 8 (cycle (offer 0 0 (head 1 7) ∷ offer 1 0 (head 1 8) ∷ []) [] [] [] ∷ cycle [] [] (bind 0 0 1 0 ∷ [])
