@@ -5,8 +5,7 @@ use mathlib.Core.List.{List, [], _∷_, _++_}
 use mathlib.Core.Option.{none}
 use Prim.Native.Nat.{ℕ, suc, _+_, _-_, _≤_, _<_}
 use native.Mathlib.Omega.{arith}
-use lib.ListN.{length, take, drop, length-map, length-drop}
-use lib.Seq.{length-take-le}
+use lib.ListN.{length}
 use Rattle.base.specs.declared.config.Config.{Config}
 use Rattle.base.specs.declared.flit.Flit.{Flit}
 use Rattle.base.specs.Sizes.{illegalField}
@@ -18,18 +17,16 @@ use Rattle.model.proofs.Demand3 as model-law
 use Rattle.state.specs.declared.Router.{Router}
 use Rattle.state.specs.Channels.{ChannelView, channelView}
 use Rattle.state.specs.Sound.{Sound}
-use Rattle.store.specs.Store.{firstSlot}
-use Rattle.state.specs.Views.{channelNumber, inputAt, slotFlit, queueAt, wireOf, homeOf, flat, total}
+use Rattle.state.specs.Views.{inputAt, wireOf, homeOf, flat, total}
 use Rattle.trace.specs.Bytes.{AreBytes}
 use Rattle.rules.specs.declared.Verdict.the-variants.{Accepted}
 use Rattle.rules.specs.Free.{look, sizesOf, channelOf, freeOf}
 use Rattle.rules.specs.Step.{stepOf}
-use Rattle.rules.proofs.Channels.{channel-room}
 use Rattle.rules.proofs.ChosenViews.{view-there}
-use Rattle.rules.proofs.Facts.{credits-sum, sound-legal, sound-lengths}
-use Rattle.rules.proofs.LeftPackets.{queued-few}
+use Rattle.rules.proofs.Facts.{credits-sum}
 use Rattle.history.specs.Run.{Ran, entryOf, recorded, runOf}
 use Rattle.history.specs.Demand3.{InputDemand, Demand3, queue, onWire}
+use Rattle.history.proofs.Room.{queue-counted}
 use Rattle.history.proofs.RunIs.{Runs, legal-delayed, accepted-runs, run-runs}
 
 -- the lists and sums of both crates
@@ -42,13 +39,6 @@ total-same : (ns : List ℕ) → total ns ≡ lists.total ns
 unfolding total
 total-same [] = refl
 total-same (n ∷ ns) = ap (λ (m : ℕ). n + m) (total-same ns)
-
--- a queue of n flits has n flits
-queue-length : (store : List ℕ) (base n : ℕ) → n ≤ 16 → base + 16 ≤ length store → length (queueAt store base n) ≡ n
-unfolding queueAt
-queue-length store base n few room =
-    let sixteen = length-take-le 16 (drop base store) (omega (arith, length-drop base store)) in
-    length-map (take n (take 16 (drop base store))) slotFlit ∙ length-take-le n (take 16 (drop base store)) (omega arith)
 
 -- a numbered history has as many entries as its newest number says
 numbered-length : {Flit : Type 0} (n : ℕ) (h : History Flit) → Numbered n h → n ≡ length h
@@ -68,11 +58,7 @@ module _ (s : Router) (sound : Sound s) (h : History Flit) (t : ℕ) where
       let stored : credit ≡ c .depth - (c .depth - credit) = omega arith in
       let wire : onWire c s i v ≡ lists.flat (wireOf c (s .wire) i v) = flat-same (wireOf c (s .wire) i v) in
       let home = total-same (homeOf c (s .home) i v) in
-      let room = channel-room c (sound-legal s sound) i v port vc in
-      let size = sound-lengths s sound .store in
-      let queued = queue-length (s .store) (firstSlot (channelNumber c i v)) (inputAt c (s .inputs) i v .queued)
-      (queued-few s sound i v port vc)
-      (omega arith) in
+      let queued = queue-counted s sound i v port vc in
       record {
         wire = ap length wire ∙ d .wire;
         buffers = ap (λ (n : ℕ). n + length (leftFrom i v (upTo t 0 h))) (sym queued) ∙ d .buffered;

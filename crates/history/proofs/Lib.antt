@@ -7,6 +7,7 @@ pub mod LegalStep
 pub mod Written
 pub mod Entry
 pub mod RunIs
+pub mod Room
 pub mod Demand3
 pub mod Times
 pub mod Printable
