@@ -13,3 +13,4 @@ pub mod Times
 pub mod Printable
 pub mod NoneLost
 pub mod Listed
+pub mod Wandering
