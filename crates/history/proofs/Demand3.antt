@@ -3,17 +3,17 @@
 use mathlib.Core.Path.{_≡_, refl, sym, ap, subst, _∙_}
 use mathlib.Core.List.{List, [], _∷_, _++_}
 use mathlib.Core.Option.{none}
-use Prim.Native.Nat.{ℕ, suc, _+_, _-_, _≤_, _<_}
+use Prim.Native.Nat.{ℕ, suc, _+_, _-_, _<_}
 use native.Mathlib.Omega.{arith}
 use lib.ListN.{length}
 use Rattle.base.specs.declared.config.Config.{Config}
 use Rattle.base.specs.declared.flit.Flit.{Flit}
 use Rattle.base.specs.Sizes.{illegalField}
 use Rattle.model.specs.Demand3 as model
-use Rattle.model.specs.History.{History, Numbered, upTo, accepted, leftFrom, flits}
+use Rattle.model.specs.History.{History, upTo, accepted, leftFrom, flits}
 use Rattle.model.specs.Lists as lists
-use Rattle.model.specs.Run.{Run}
-use Rattle.model.proofs.Demand3 as model-law
+use Rattle.model.proofs.Alike.{length-alike, demand-alike}
+use Rattle.model.proofs.Demand3.{demand3-at}
 use Rattle.state.specs.declared.Router.{Router}
 use Rattle.state.specs.Channels.{ChannelView, channelView}
 use Rattle.state.specs.Sound.{Sound}
@@ -39,11 +39,6 @@ total-same : (ns : List ℕ) → total ns ≡ lists.total ns
 unfolding total
 total-same [] = refl
 total-same (n ∷ ns) = ap (λ (m : ℕ). n + m) (total-same ns)
-
--- a numbered history has as many entries as its newest number says
-numbered-length : {Flit : Type 0} (n : ℕ) (h : History Flit) → Numbered n h → n ≡ length h
-numbered-length n [] e = e
-numbered-length n (x ∷ h) e = e .0 ∙ ap suc (numbered-length (x .cycle) h (e .1))
 
 -- what demand 3 says of the free router's view of a sound router, it says of the router
 module _ (s : Router) (sound : Sound s) (h : History Flit) (t : ℕ) where
@@ -90,16 +85,9 @@ runs-demand c legal r runs t count =
     subst (λ (d : Config). Demand3 d (r .router) (r .history) t) (runs .config)
     (router-demand (r .router) (runs .sound) (r .history) t
     (subst (λ (d : Config). model.Demand3 look (sizesOf d) (freeOf (r .router)) (r .history) t) (sym (runs .config))
-    (go (r .history) count (runs .run))))
-  where
-    go : (h : History Flit) → length h ≡ suc t → Run look (sizesOf c) (freeOf (r .router)) h
-        → model.Demand3 look (sizesOf c) (freeOf (r .router)) h t
-    go [] e run = absurd (omega arith)
-    go (now ∷ h) e run =
-        let d = model-law.demand3 look (sizesOf c) (legal-delayed c legal) run in
-        let n = numbered-length (suc (now .cycle)) (now ∷ h) (d .cycles) in
-        let last : now .cycle ≡ t = omega arith in
-        subst (model.Demand3 look (sizesOf c) (freeOf (r .router)) (now ∷ h)) last d
+    (demand-alike look (sizesOf c) (runs .byInput) (r .history) (runs .alike) t (freeOf (r .router))
+    (demand3-at look (sizesOf c) (legal-delayed c legal) (runs .run) t
+    (length-alike (runs .byInput) (r .history) (runs .alike) ∙ count)))))
 
 module _ (c : Config) (legal : illegalField c ≡ none) (parts : List (List ℕ)) (bytes : lists.All AreBytes parts) where
   -- A run of any parts, refused ones skipped, of which t is the last accepted cycle.

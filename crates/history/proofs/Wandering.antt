@@ -1,7 +1,7 @@
--- A history that every other sentence of demand 3 lets through and `names` refuses, on a router of two ports with one VC each: a body leaves
--- on an output VC that there is not, and a single is accepted on an input VC that there is not and is gone.
+-- A history that every other sentence of demand 3 lets through and `names` refuses, on a router of two ports with one VC each: a body
+-- leaves on an output VC that there is not, and a single is accepted on an input VC that there is not and is gone.
 -- Assumes nothing.
-use mathlib.Core.Path.{_≡_, refl}
+use mathlib.Core.Path.{refl}
 use mathlib.Core.List.{List, [], _∷_}
 use Prim.Native.Nat.{ℕ, zero, suc, _<_}
 use native.Mathlib.Omega.{arith}

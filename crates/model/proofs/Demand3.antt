@@ -1,7 +1,7 @@
 -- Demand 3 of every run.
 -- Assumes nothing.
-use mathlib.Core.Path.{_≡_, refl, ap}
-use mathlib.Core.List.{_∷_}
+use mathlib.Core.Path.{_≡_, refl, ap, subst, _∙_}
+use mathlib.Core.List.{[], _∷_}
 use Prim.Native.Nat.{ℕ, suc}
 use native.Mathlib.Omega.{arith}
 use lib.ListN.{length, drop, take}
@@ -47,16 +47,27 @@ module _ {Flit : Type 0} (look : Look Flit) (c : Config) (delayed : Delayed c) {
         destinations = left-by-destination look (leftFrom i v h) (ch .queue) (onWire ch) (accepted i v h) ports order;
       }
 
--- After each accepted cycle of any run, whose entry is the newest of the history.
-pub demand3 : {Flit : Type 0} (look : Look Flit) (c : Config) → Delayed c → {s : Router Flit} {h : History Flit} {now : Entry Flit} →
-    Run look c s (now ∷ h) → Demand3 look c s (now ∷ h) (now .cycle)
-demand3 look c delayed {h = h} {now = now} run =
-    record {
-      cycles = cycles;
-      names = names-in-range look c delayed run;
-      inputs = λ i v p q. input-demand look c delayed run (now .cycle) cycles i v;
-      outputs = λ o w p q. inv-run look c delayed run .outputs (record { output = o; vc = w });
-    }
-  where
-    cycles : Numbered (suc (now .cycle)) (now ∷ h)
-    cycles = (refl, inv-run look c delayed run .numbered .1)
+  demand : Demand3 look c s h t
+  demand =
+      record {
+        cycles = cycles;
+        names = names-in-range look c delayed run;
+        inputs = λ i v p q. input-demand i v;
+        outputs = λ o w p q. inv .outputs (record { output = o; vc = w });
+      }
+
+-- a numbered history has as many entries as its newest number says
+numbered-length : {Flit : Type 0} (n : ℕ) (h : History Flit) → Numbered n h → n ≡ length h
+numbered-length n [] e = e
+numbered-length n (x ∷ h) e = e .0 ∙ ap suc (numbered-length (x .cycle) h (e .1))
+
+module _ {Flit : Type 0} (look : Look Flit) (c : Config) (delayed : Delayed c) {s : Router Flit} where
+  -- After each accepted cycle of any run, whose entry is the newest of the history.
+  pub demand3 : {h : History Flit} {now : Entry Flit} → Run look c s (now ∷ h) → Demand3 look c s (now ∷ h) (now .cycle)
+  demand3 {now = now} run = demand look c delayed run (now .cycle) (refl, inv-run look c delayed run .numbered .1)
+
+  -- That cycle is t where t + 1 were accepted.
+  pub demand3-at : {h : History Flit} → Run look c s h → (t : ℕ) → length h ≡ suc t → Demand3 look c s h t
+  demand3-at {h = h} run t count =
+      let numbered = inv-run look c delayed run .numbered in
+      demand look c delayed run t (subst (λ (n : ℕ). Numbered n h) (numbered-length (s .cycle) h numbered ∙ count) numbered)

@@ -1,7 +1,7 @@
 -- The flits accepted left by their own destinations: it follows from `order` and `ports` of demand 3, for any history. So no history that
 -- keeps these two breaks `destinations`; it is said for itself, so that the sentence can be read without them.
 -- Assumes nothing.
-use mathlib.Core.Path.{_≡_, sym, ap, subst, _∙_}
+use mathlib.Core.Path.{_≡_, sym, subst, _∙_}
 use mathlib.Core.Bool.{true, true≢false}
 use mathlib.Core.List.{List, [], _∷_, _++_, append-assoc}
 use Rattle.model.specs.Lists.{All}

@@ -14,6 +14,7 @@ pub mod OutCredits
 pub mod Limits
 pub mod Destinations
 pub mod Demand3
+pub mod Alike
 pub mod Given
 pub mod Test
 pub mod Sample
