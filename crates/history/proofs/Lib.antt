@@ -16,3 +16,4 @@ pub mod Times
 pub mod NoneLost
 pub mod Listed
 pub mod Wandering
+pub mod WrongVersions

@@ -1,6 +1,6 @@
 -- What each edit under must-fail makes of its definition, kept alone under a wrong name, and by value an argument where the two differ.
 -- Assumes nothing.
-use mathlib.Core.Path.{_≡_, refl, ap}
+use mathlib.Core.Path.{refl, ap}
 use mathlib.Core.Bool.{true, false, cond, xor}
 use mathlib.Core.List.{List, [], _∷_, _++_}
 use mathlib.Core.Option.{Option, some, none}

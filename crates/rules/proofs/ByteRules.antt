@@ -9,8 +9,7 @@ use native.Mathlib.Omega.{arith}
 use lib.Arith.{lt-of-le-ne}
 use lib.Dec.{eqb, leb, ltb}
 use lib.ListN.{length}
-use borrow.Author.Tests.{not-true, ltb-true, ltb-false, leb-true, leb-false, eqb-true, eqb-false, lt-ltb, le-ltb, le-leb, lt-leb, eq-eqb}
-use borrow.Author.Tests.{ne-eqb}
+use borrow.Author.Tests.{not-true, ltb-true, ltb-false, leb-true, leb-false, eqb-true, eqb-false, lt-ltb, le-ltb, lt-leb, ne-eqb}
 use Rattle.base.specs.declared.config.Config.{Config}
 use Rattle.base.specs.Flit.{startsKind, head, body, tail, single}
 use Rattle.base.specs.Numbers as numbers

@@ -10,7 +10,6 @@ use lib.Dec.{eqb, leb}
 use lib.ListN.{getD, set, replicate}
 use borrow.Author.Tests.{eqb-false}
 use Rattle.base.specs.declared.config.Config.{Config}
-use Rattle.base.specs.declared.reply.Output.{Output}
 use Rattle.base.specs.declared.reply.Left.the-variants as left
 use Rattle.base.specs.declared.reply.Departure.{Departure}
 use Rattle.base.specs.Flit.{flitOf, kindOf, destinationOf, payloadOf, startsKind, endsKind}
@@ -25,7 +24,6 @@ use Rattle.arbiter.specs.Arbiter.{ofNarrow, choice}
 use Rattle.state.specs.declared.InVc.{InVc}
 use Rattle.state.specs.declared.Binding.{Binding}
 use Rattle.state.specs.declared.Binding.the-variants.{Unbound, Bound}
-use Rattle.state.specs.declared.Holder.{Holder}
 use Rattle.state.specs.declared.InputVc.{InputVc}
 use Rattle.state.specs.declared.OutputVc.{OutputVc}
 use Rattle.state.specs.declared.Router.{Router}
