@@ -3,10 +3,12 @@
 use mathlib.Core.Path.{_≡_, refl, sym, ap, _∙_}
 use mathlib.Core.Bool.{true, false, not, xor}
 use mathlib.Core.List.{List}
+use mathlib.Core.Option.{some}
 use Prim.Native.Nat.{ℕ}
 use native.Mathlib.Omega.{arith}
 use lib.Dec.{eqb}
 use lib.ListN.{length, replicate, set}
+use borrow.Author.Tests.{eqb-false}
 use Rattle.base.specs.Flit.{flitOf, kindOf, destinationOf, payloadOf, startsKind, endsKind}
 use Rattle.base.specs.Numbers as numbers
 use Rattle.base.specs.Reply.{emptyReply}
@@ -35,9 +37,11 @@ use Rattle.rules.specs.Intake.{offersTaken}
 use Rattle.rules.specs.Allocation.{asks, freeVc, grantOf, bindings, wideMoved, narrowMoved, allocated, isReady, inputPick, request}
 use Rattle.rules.specs.Allocation.{outputPick, switched, winner}
 use Rattle.rules.specs.Departures.{departures, leavingOf}
-use Rattle.rules.specs.Numbers.{refusing, runFull, rowWrong, creditPastRoom, outOfTurn, noSenderCredit, firstOf, judged}
+use Rattle.rules.specs.Numbers.{refusing, runFull, partWrong, rowWrong, rule3, creditPastRoom, outOfTurn, noSenderCredit, firstOf}
+use Rattle.rules.specs.Numbers.{judged}
 use Rattle.rules.specs.Step.{takenIn, sentOut, routerAfter, replyOf, stepOf}
-use Rattle.rules.proofs.Exactness.{ten-exactly, three-exactly}
+use Rattle.rules.proofs.FirstRule.{also, done, found}
+use Rattle.rules.proofs.Exactness.{NoneBefore, ten-exactly, part-exactly, row-exactly}
 use Rattle.edges.specs.States.{busy, busyFrom}
 
 abbrev idle : List ℕ
@@ -46,15 +50,14 @@ idle = replicate 64 0
 -- the last cycle of a run
 pub last-accepted : stepOf (withCycle 999999999 turns) idle ≡ record
     { verdict = Accepted; router = withCycle 1000000000 turns; reply = emptyReply }
-unfolding config turns xor firstFrom every orElse inRange firstIllegal illegalField flitOf kindOf destinationOf payloadOf
-    startsKind endsKind nextInTurn pointerAfter blankFrom arbiter.known arbiter.usable arbiter.choice arbiter.moved arbiter.after
-    arbiter.fresh arbiter.sound queueAt places wireOf homeOf flat total isNone all configurationLegal cyclesFit creditsWhole
-    creditsAddUp legalFlit wirePlaceLegal wireLegal homeLegal queuesLegal outputCreditsFit namesAgree arbitersSound reading reads
-    packetsRead channelsUnused slotsEmpty lineUnused arbitersUnused shaped sound frontOf pushed movedUp popped bigEndian
-    overPorts rowZero noOffer legalOffer rowLegal advanced sendersPaid reported creditsReached outputsPaid creditsReturned landings
-    landed offers offersTaken asks freeVc grantOf bindings wideMoved narrowMoved allocated isReady inputPick request outputPick switched
-    winner departures leavingOf runFull rowWrong creditPastRoom outOfTurn noSenderCredit firstOf judged takenIn sentOut routerAfter
-    replyOf stepOf freshRouter
+unfolding config turns xor firstFrom every orElse inRange firstIllegal illegalField flitOf kindOf destinationOf payloadOf startsKind
+    endsKind nextInTurn pointerAfter blankFrom arbiter.known arbiter.usable arbiter.choice arbiter.moved arbiter.after arbiter.fresh
+    arbiter.sound queueAt places wireOf homeOf flat total isNone all configurationLegal cyclesFit creditsWhole creditsAddUp legalFlit
+    wirePlaceLegal wireLegal homeLegal queuesLegal outputCreditsFit namesAgree arbitersSound reading reads packetsRead channelsUnused
+    slotsEmpty lineUnused arbitersUnused shaped sound frontOf pushed movedUp popped bigEndian overPorts rowZero noOffer legalOffer
+    rowLegal advanced sendersPaid reported creditsReached outputsPaid creditsReturned landings landed offers offersTaken asks freeVc
+    grantOf bindings wideMoved narrowMoved allocated isReady inputPick request outputPick switched winner departures leavingOf runFull
+    partWrong rowWrong creditPastRoom outOfTurn noSenderCredit firstOf judged takenIn sentOut routerAfter replyOf stepOf freshRouter
 last-accepted = refl
 
 module _ (t : Router) (e : t ≡ turns) (x : Stepped) (f : x ≡ stepOf (withCycle 999999999 t) idle) where
@@ -78,9 +81,8 @@ unfolding config turns xor every inRange firstIllegal illegalField flitOf kindOf
 full-sound = refl
 
 busy-sound : sound busy ≡ true
-unfolding busy busyFrom withInput withOutput withSlot withWirePlace withHomePlace unbound bound held head single body on config turns
-    xor every
-    inRange firstIllegal illegalField flitOf kindOf destinationOf startsKind endsKind blankFrom arbiter.known arbiter.fresh
+unfolding busy busyFrom withInput withOutput withSlot withWirePlace withHomePlace unbound bound held head single body on config turns xor
+    every inRange firstIllegal illegalField flitOf kindOf destinationOf startsKind endsKind blankFrom arbiter.known arbiter.fresh
     arbiter.sound queueAt places wireOf homeOf flat total isNone all configurationLegal cyclesFit creditsWhole creditsAddUp legalFlit
     wirePlaceLegal wireLegal homeLegal queuesLegal outputCreditsFit namesAgree arbitersSound reading reads packetsRead channelsUnused
     slotsEmpty lineUnused arbitersUnused shaped sound freshRouter
@@ -95,20 +97,43 @@ pub full-refused : (t : Router) → t ≡ turns → (part : List ℕ) → stepOf
 unfolding runFull
 full-refused t e part =
     ten-exactly (withCycle 1000000000 t) part 0 .1 (
-      λ i h. ap (λ (x : Router). not (sound (withCycle 1000000000 x))) e ∙ ap not full-sound,
+      also (λ i h. ap (λ (x : Router). not (sound (withCycle 1000000000 x))) e ∙ ap not full-sound) done,
       record { inside = omega arith; here = refl; lower = λ i h. absurd (omega arith) },
     )
+
+-- neither 2 nor 10
+busy-passes : (s : Router) → s ≡ busy → (part : List ℕ) → NoneBefore s part numbers.rowWrong
+busy-passes s e part =
+    also (λ i h. ap (λ (x : Router). not (sound x)) e ∙ ap not busy-sound)
+    (also (λ i h. ap (λ (x : Router). runFull (x .cycle)) e ∙ busy-early) done)
 
 -- 3 with port 0 where the part is not 64 bytes long
 pub length-refused : (s : Router) → s ≡ busy → (part : List ℕ) → eqb (length part) 64 ≡ false → stepOf s part .verdict
     ≡ refusing numbers.rowWrong 0
-unfolding runFull rowWrong
-length-refused s e part h =
-    three-exactly s part 0 .1 (
-      λ i g. ap (λ (x : Router). not (sound x)) e ∙ ap not busy-sound,
-      λ i g. ap (λ (x : Router). runFull (x .cycle)) e ∙ busy-early,
-      record { inside = omega arith; here = rw h refl; lower = λ i g. absurd (omega arith) },
-    )
+length-refused s e part h = part-exactly s part (eqb-false (length part) 64 h) 0 .1 (busy-passes s e part, refl)
+
+-- 3 with port p where row p is the first that is wrong
+row-refused : (s : Router) → s ≡ busy → (part : List ℕ) → length part ≡ 64 → (p : ℕ)
+    → firstFrom (rowWrong (busy .config) part) 8 0 ≡ some p → stepOf s part .verdict ≡ refusing numbers.rowWrong p
+row-refused s e part long p f =
+    row-exactly s part long p .1
+    (busy-passes s e part, found (rule3 (s .config) part) p (ap (λ (x : Router). firstFrom (rowWrong (x .config) part) 8 0) e ∙ f))
+
+-- a byte of an idle row, and of a port at or beyond P
+pub bytes-refused : (s : Router) → s ≡ busy → (stepOf s (set idle 9 1) .verdict ≡ refusing numbers.rowWrong 1)
+    × (stepOf s (set idle 10 1) .verdict ≡ refusing numbers.rowWrong 1)
+    × (stepOf s (set idle 15 1) .verdict ≡ refusing numbers.rowWrong 1)
+    × (stepOf s (set idle 19 1) .verdict ≡ refusing numbers.rowWrong 2)
+    × (stepOf s (set idle 63 1) .verdict ≡ refusing numbers.rowWrong 7)
+unfolding busy busyFrom withInput withOutput withSlot withWirePlace withHomePlace config turns freshRouter firstFrom every startsKind
+    bigEndian rowZero noOffer legalOffer rowLegal rowWrong
+bytes-refused s e = (
+  row-refused s e (set idle 9 1) refl 1 refl,
+  row-refused s e (set idle 10 1) refl 1 refl,
+  row-refused s e (set idle 15 1) refl 1 refl,
+  row-refused s e (set idle 19 1) refl 2 refl,
+  row-refused s e (set idle 63 1) refl 7 refl,
+)
 
 -- offers that are refused
 pub offers-refused : (s : Router) → s ≡ busy → (stepOf s (set idle 8 5) .verdict ≡ refusing numbers.rowWrong 1)
@@ -120,7 +145,7 @@ unfolding busy busyFrom withInput withOutput withSlot withWirePlace withHomePlac
     arbiter.known arbiter.fresh arbiter.sound queueAt places wireOf homeOf flat total isNone all configurationLegal cyclesFit
     creditsWhole creditsAddUp legalFlit wirePlaceLegal wireLegal homeLegal queuesLegal outputCreditsFit namesAgree arbitersSound reading
     reads packetsRead channelsUnused slotsEmpty lineUnused arbitersUnused shaped sound bigEndian overPorts rowZero noOffer
-    legalOffer rowLegal sendersPaid runFull rowWrong creditPastRoom outOfTurn noSenderCredit firstOf judged stepOf freshRouter
+    legalOffer rowLegal sendersPaid runFull partWrong rowWrong creditPastRoom outOfTurn noSenderCredit firstOf judged stepOf freshRouter
 offers-refused s e = (
   ap (λ (x : Router). stepOf x (set idle 8 5) .verdict) e,
   ap (λ (x : Router). stepOf x (set idle 3 1) .verdict) e,

@@ -45,6 +45,27 @@ pub(crate) fn part_lengths() {
     refused(busy(), &part[..0], ROW_WRONG, 0);
 }
 
+// "With kind 0, VC, destination and payload are 0." "Ports at or beyond P are all zero."
+pub(crate) fn unused_bytes() {
+    // port 1 brings no flit, but a VC, a destination, the last byte of a payload
+    let mut vc = [0u8; 64];
+    vc[9] = 1;
+    refused(busy(), &vc, ROW_WRONG, 1);
+    let mut destination = [0u8; 64];
+    destination[10] = 1;
+    refused(busy(), &destination, ROW_WRONG, 1);
+    let mut payload = [0u8; 64];
+    payload[15] = 1;
+    refused(busy(), &payload, ROW_WRONG, 1);
+    // port 2 is at P: a credit; the last byte of all
+    let mut credit = [0u8; 64];
+    credit[19] = 1;
+    refused(busy(), &credit, ROW_WRONG, 2);
+    let mut last = [0u8; 64];
+    last[63] = 1;
+    refused(busy(), &last, ROW_WRONG, 7);
+}
+
 // A refused cycle leaves all, though each phase had something to do.
 pub(crate) fn refused_offers() {
     // port 1 brings a kind that there is not

@@ -19,6 +19,7 @@ fn main() {
     cycles::last_cycle();
     cycles::run_full();
     cycles::part_lengths();
+    cycles::unused_bytes();
     cycles::refused_offers();
     broken::refused();
     reading::walks();

@@ -3,33 +3,30 @@
 use mathlib.Core.Path.{_≡_, refl, sym, ap, subst, _∙_}
 use mathlib.Core.List.{List, [], _∷_, _++_}
 use mathlib.Core.Option.{none}
-use Prim.Native.Nat.{ℕ, suc, _+_, _-_, _≤_, _<_}
+use Prim.Native.Nat.{ℕ, suc, _+_, _-_, _<_}
 use native.Mathlib.Omega.{arith}
-use lib.ListN.{length, take, drop, length-map, length-drop}
-use lib.Seq.{length-take-le}
+use lib.ListN.{length}
 use Rattle.base.specs.declared.config.Config.{Config}
 use Rattle.base.specs.declared.flit.Flit.{Flit}
 use Rattle.base.specs.Sizes.{illegalField}
 use Rattle.model.specs.Demand3 as model
-use Rattle.model.specs.History.{History, Numbered, upTo, accepted, leftFrom, flits}
+use Rattle.model.specs.History.{History, upTo, accepted, leftFrom, flits}
 use Rattle.model.specs.Lists as lists
-use Rattle.model.specs.Run.{Run}
-use Rattle.model.proofs.Demand3 as model-law
+use Rattle.model.proofs.Alike.{length-alike, demand-alike}
+use Rattle.model.proofs.Demand3.{demand3-at}
 use Rattle.state.specs.declared.Router.{Router}
 use Rattle.state.specs.Channels.{ChannelView, channelView}
 use Rattle.state.specs.Sound.{Sound}
-use Rattle.store.specs.Store.{firstSlot}
-use Rattle.state.specs.Views.{channelNumber, inputAt, slotFlit, queueAt, wireOf, homeOf, flat, total}
+use Rattle.state.specs.Views.{inputAt, wireOf, homeOf, flat, total}
 use Rattle.trace.specs.Bytes.{AreBytes}
 use Rattle.rules.specs.declared.Verdict.the-variants.{Accepted}
 use Rattle.rules.specs.Free.{look, sizesOf, channelOf, freeOf}
 use Rattle.rules.specs.Step.{stepOf}
-use Rattle.rules.proofs.Channels.{channel-room}
 use Rattle.rules.proofs.ChosenViews.{view-there}
-use Rattle.rules.proofs.Facts.{credits-sum, sound-legal, sound-lengths}
-use Rattle.rules.proofs.LeftPackets.{queued-few}
+use Rattle.rules.proofs.Facts.{credits-sum}
 use Rattle.history.specs.Run.{Ran, entryOf, recorded, runOf}
 use Rattle.history.specs.Demand3.{InputDemand, Demand3, queue, onWire}
+use Rattle.history.proofs.Room.{queue-counted}
 use Rattle.history.proofs.RunIs.{Runs, legal-delayed, accepted-runs, run-runs}
 
 -- the lists and sums of both crates
@@ -42,18 +39,6 @@ total-same : (ns : List ℕ) → total ns ≡ lists.total ns
 unfolding total
 total-same [] = refl
 total-same (n ∷ ns) = ap (λ (m : ℕ). n + m) (total-same ns)
-
--- a queue of n flits has n flits
-queue-length : (store : List ℕ) (base n : ℕ) → n ≤ 16 → base + 16 ≤ length store → length (queueAt store base n) ≡ n
-unfolding queueAt
-queue-length store base n few room =
-    let sixteen = length-take-le 16 (drop base store) (omega (arith, length-drop base store)) in
-    length-map (take n (take 16 (drop base store))) slotFlit ∙ length-take-le n (take 16 (drop base store)) (omega arith)
-
--- a numbered history has as many entries as its newest number says
-numbered-length : {Flit : Type 0} (n : ℕ) (h : History Flit) → Numbered n h → n ≡ length h
-numbered-length n [] e = e
-numbered-length n (x ∷ h) e = e .0 ∙ ap suc (numbered-length (x .cycle) h (e .1))
 
 -- what demand 3 says of the free router's view of a sound router, it says of the router
 module _ (s : Router) (sound : Sound s) (h : History Flit) (t : ℕ) where
@@ -68,11 +53,7 @@ module _ (s : Router) (sound : Sound s) (h : History Flit) (t : ℕ) where
       let stored : credit ≡ c .depth - (c .depth - credit) = omega arith in
       let wire : onWire c s i v ≡ lists.flat (wireOf c (s .wire) i v) = flat-same (wireOf c (s .wire) i v) in
       let home = total-same (homeOf c (s .home) i v) in
-      let room = channel-room c (sound-legal s sound) i v port vc in
-      let size = sound-lengths s sound .store in
-      let queued = queue-length (s .store) (firstSlot (channelNumber c i v)) (inputAt c (s .inputs) i v .queued)
-      (queued-few s sound i v port vc)
-      (omega arith) in
+      let queued = queue-counted s sound i v port vc in
       record {
         wire = ap length wire ∙ d .wire;
         buffers = ap (λ (n : ℕ). n + length (leftFrom i v (upTo t 0 h))) (sym queued) ∙ d .buffered;
@@ -82,6 +63,7 @@ module _ (s : Router) (sound : Sound s) (h : History Flit) (t : ℕ) where
         order = ap (λ (l : List Flit). flits (leftFrom i v h) ++ queue c s i v ++ l) wire ∙ d .order;
         queued = queued;
         ports = d .ports;
+        destinations = d .destinations;
       }
 
   router-demand : model.Demand3 look (sizesOf c) (freeOf s) h t → Demand3 c s h t
@@ -89,6 +71,7 @@ module _ (s : Router) (sound : Sound s) (h : History Flit) (t : ℕ) where
   router-demand d =
       record {
         cycles = d .cycles;
+        names = d .names;
         inputs = λ i v p q.
             input-demand i v p q (subst (λ (ch : ChannelView). model.InputDemand look (sizesOf c) (channelOf ch) h t i v)
             (view-there s i v p q) (d .inputs i v p q));
@@ -102,16 +85,9 @@ runs-demand c legal r runs t count =
     subst (λ (d : Config). Demand3 d (r .router) (r .history) t) (runs .config)
     (router-demand (r .router) (runs .sound) (r .history) t
     (subst (λ (d : Config). model.Demand3 look (sizesOf d) (freeOf (r .router)) (r .history) t) (sym (runs .config))
-    (go (r .history) count (runs .run))))
-  where
-    go : (h : History Flit) → length h ≡ suc t → Run look (sizesOf c) (freeOf (r .router)) h
-        → model.Demand3 look (sizesOf c) (freeOf (r .router)) h t
-    go [] e run = absurd (omega arith)
-    go (now ∷ h) e run =
-        let d = model-law.demand3 look (sizesOf c) (legal-delayed c legal) run in
-        let n = numbered-length (suc (now .cycle)) (now ∷ h) (d .cycles) in
-        let last : now .cycle ≡ t = omega arith in
-        subst (model.Demand3 look (sizesOf c) (freeOf (r .router)) (now ∷ h)) last d
+    (demand-alike look (sizesOf c) (runs .byInput) (r .history) (runs .alike) t (freeOf (r .router))
+    (demand3-at look (sizesOf c) (legal-delayed c legal) (runs .run) t
+    (length-alike (runs .byInput) (r .history) (runs .alike) ∙ count)))))
 
 module _ (c : Config) (legal : illegalField c ≡ none) (parts : List (List ℕ)) (bytes : lists.All AreBytes parts) where
   -- A run of any parts, refused ones skipped, of which t is the last accepted cycle.

@@ -1,8 +1,9 @@
--- The entry of an accepted cycle: what is read off its part and its reply is the free router's entry.
+-- The entry of an accepted cycle: what is read off its part and its reply is the free router's entry, but that this lists the departures
+-- input by input.
 -- Assumes nothing.
-use mathlib.Core.Path.{_≡_, refl, sym, ap, ap₂, _∙_}
+use mathlib.Core.Path.{_≡_, refl, sym, ap, ap₂, subst, _∙_}
 use mathlib.Core.Bool.{Bool, true, false, cond, _&&_, true≢false}
-use mathlib.Core.List.{List, [], _∷_, _++_}
+use mathlib.Core.List.{List, [], _∷_}
 use mathlib.Core.Option.{Option, some, none}
 use Prim.Native.Nat.{ℕ, zero, suc, _+_, _<_}
 use native.Mathlib.Omega.{arith}
@@ -17,11 +18,12 @@ use Rattle.base.specs.declared.reply.Departure as reply
 use Rattle.base.specs.Reply.{creditOf, departureOf}
 use Rattle.model.specs.Channel as model
 use Rattle.model.specs.Channel.{queueNow}
-use Rattle.model.specs.History.{Departure, same}
+use Rattle.model.specs.Alike.{SameCycle}
+use Rattle.model.specs.History.{Departure, Entry, same}
 use Rattle.model.specs.Lists.{keep, each}
 use Rattle.model.specs.Phases.{boundNow, leaving, departure}
 use Rattle.model.specs.Step.{offersAt, creditsAt, entry}
-use Rattle.model.proofs.Entries.{same-own, same-true}
+use Rattle.model.proofs.Entries.{same-own, same-other, same-true}
 use Rattle.model.proofs.Lists.{keep-each, each-none, each-one}
 use Rattle.state.specs.declared.Router.{Router}
 use Rattle.state.specs.Channels.{ChannelView}
@@ -51,16 +53,9 @@ use Rattle.rules.proofs.Reported.{reported-at}
 use Rattle.history.specs.Run.{offerIn, departureIn, departuresIn, reachedIn, entryOf}
 use Rattle.history.proofs.Choice.{choiceOf}
 use Rattle.history.proofs.LegalLeaves.{leaves-exits, departure-is}
+use Rattle.history.proofs.Sorted.{each-ext, from, sorted, sorted-from, sorted-few, sorted-many}
+use Rattle.history.proofs.Told.{told-inside, told-once}
 use Rattle.history.proofs.Written.{exit-written}
-
--- whether it left VC v of input i
-abbrev pub from : ℕ → ℕ → Departure Flit → Bool
-from i v d = same (d .input) (d .vc) i v
-
--- lists over the ports that are alike at each port
-pub each-ext : {A : Type 0} (n : ℕ) (f g : ℕ → List A) → ((i : ℕ) → i < n → f i ≡ g i) → each n f ≡ each n g
-each-ext zero f g h = refl
-each-ext {A} (suc n) f g h = ap₂ (λ (a b : List A). a ++ b) (each-ext n f g (λ i l. h i (omega arith))) (h n (omega arith))
 
 -- the VC that a reply names as reached
 reached-back : (m : Option ℕ) → creditOf (reaching m .reached) ≡ m
@@ -174,15 +169,47 @@ module _ (s : Router) (part : List ℕ) (bytes : AreBytes part) (accepted : step
             { port = o; deed = e; below = l; acts = r; there = ap₂ (channelNumber c) a b }) in
             true≢false (sym (leaves-alike s part bytes accepted i v port vc ∙ leaves) ∙ q))))
 
-  -- the whole entry
-  pub entry-is : entry (sizesOf c) (freeOf s) (eventOf c part) (choiceOf s part) ≡ entryOf c (s .cycle) part (stepOf s part .reply)
+  abbrev told : List (Departure Flit)
+  told = departuresIn c (stepOf s part .reply)
+
+  -- the free router's entry, in words of part and reply: the same with its departures sorted by input VC
+  abbrev byInput : Entry Flit → Entry Flit
+  byInput e =
+      record {
+        cycle = e .cycle;
+        offers = e .offers;
+        departures = sorted (c .ports) (c .vcs) (e .departures);
+        reached = e .reached;
+        credits = e .credits;
+      }
+
+  entry-sorted : entry (sizesOf c) (freeOf s) (eventOf c part) (choiceOf s part)
+      ≡ byInput (entryOf c (s .cycle) part (stepOf s part .reply))
   unfolding entryOf freeOf
-  entry-is =
+  entry-sorted =
       let offers = each-ext (c .ports) (λ i. offersAt i (eventOf c part .offer i)) (λ i. offerIn part i) offers-same in
       let departures = each-ext (c .ports) (λ i. each (c .vcs) (λ v. departure (freeOf s) (choiceOf s part) i v))
-      (λ i. each (c .vcs) (λ v. keep (from i v) (departuresIn c (stepOf s part .reply)))) (λ i h.
-      each-ext (c .vcs) (λ v. departure (freeOf s) (choiceOf s part) i v) (λ v. keep (from i v) (departuresIn c (stepOf s part .reply)))
+      (λ i. each (c .vcs) (λ v. keep (from i v) told)) (λ i h.
+      each-ext (c .vcs) (λ v. departure (freeOf s) (choiceOf s part) i v) (λ v. keep (from i v) told)
       (λ v g. departures-same i v h g)) in
       let reached = each-ext (c .ports) _ _ reached-same in
       let credits = each-ext (c .ports) _ _ credits-same in
       λ t. record { cycle = s .cycle; offers = offers t; departures = departures t; reached = reached t; credits = credits t }
+
+  -- What the free router puts down for the cycle, and what its part and its reply say: the same offers and credits, of each input VC and of
+  -- each output VC the same flits out, and none lost or doubled.
+  pub entry-is : SameCycle (entry (sizesOf c) (freeOf s) (eventOf c part) (choiceOf s part))
+      (entryOf c (s .cycle) part (stepOf s part .reply))
+  unfolding entryOf
+  entry-is =
+      let there = told-inside s part bytes accepted in
+      subst (λ (e : Entry Flit). SameCycle e (entryOf c (s .cycle) part (stepOf s part .reply))) (sym entry-sorted) (record {
+        cycle = refl;
+        offers = refl;
+        reached = refl;
+        credits = refl;
+        from = sorted-from (c .ports) (c .vcs) told there;
+        on = λ o w. sorted-few (c .ports) (c .vcs) told there (λ (d : Departure Flit). same (d .output) (d .outVc) o w)
+            (told-once s part bytes accepted _ o (λ d ne. same-other (d .output) (d .outVc) o w (λ e. ne (e .0))));
+        many = sorted-many (c .ports) (c .vcs) told there;
+      })

@@ -5,10 +5,15 @@ pub mod LegalGrants
 pub mod LegalLeaves
 pub mod LegalStep
 pub mod Written
+pub mod Printable
+pub mod Sorted
+pub mod Told
 pub mod Entry
 pub mod RunIs
+pub mod Room
 pub mod Demand3
 pub mod Times
-pub mod Printable
 pub mod NoneLost
 pub mod Listed
+pub mod Wandering
+pub mod WrongVersions

@@ -7,12 +7,14 @@ use Prim.Native.Nat.{ℕ, suc, _+_, _<_}
 use lib.ListN.{length}
 use Rattle.base.specs.declared.config.Config.{Config}
 use Rattle.base.specs.declared.flit.Flit.{Flit}
-use Rattle.model.specs.Demand3.{ByHeadsPort, FromOneSource}
+use Rattle.model.specs.Demand3.{ByHeadsPort, LeftByDestination, FromOneSource}
 use Rattle.model.specs.History.{History, Numbered, upTo, after, accepted, leftFrom, leftOn, flits}
+use Rattle.model.specs.Limits.{NamesInRange}
+use Rattle.model.specs.Lists.{All}
 use Rattle.model.specs.Packets.{Packets}
 use Rattle.state.specs.declared.Router.{Router}
 use Rattle.state.specs.Views.{inputAt, queueOf, wireOf, homeOf, flat, total}
-use Rattle.rules.specs.Free.{look}
+use Rattle.rules.specs.Free.{look, sizesOf}
 
 -- what the router keeps of VC v of input i
 module _ (c : Config) (s : Router) (i v : ℕ) where
@@ -50,10 +52,15 @@ pub record InputDemand (c : Config) (s : Router) (h : History Flit) (t i v : ℕ
   pub queued : length (queue c s i v) ≡ buffered c s i v
   -- ".. each leaving by the port its packet's head named."
   pub ports : Packets look (ByHeadsPort look) (leftFrom i v h)
+  -- the same of the flits accepted, in whose places they left
+  pub destinations : LeftByDestination look (leftFrom i v h) (accepted i v h)
 
 pub record Demand3 (c : Config) (s : Router) (h : History Flit) (t : ℕ) : Type 0 where
   -- the history has one entry for each of the cycles t, .., 1, 0
   pub cycles : Numbered (suc t) h
+  -- Every offer, departure and credit names a port below P and a VC below V. The sentences below speak of the channels that there are; a
+  -- flit that was accepted or left anywhere else would be in none of them.
+  pub names : All (NamesInRange (sizesOf c)) h
   -- "After each accepted cycle, each input channel's ..": the two sentences above
   pub inputs : (i v : ℕ) → i < c .ports → v < c .vcs → InputDemand c s h t i v
   -- "On each output channel the flits form whole packets one after another, at most the last unfinished, none holding flits of two

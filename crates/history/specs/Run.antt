@@ -14,9 +14,9 @@ use Rattle.base.specs.declared.reply.Departure as reply
 use Rattle.base.specs.declared.reply.Reply.{Reply}
 use Rattle.base.specs.Flit.{flitOf, startsKind}
 use Rattle.base.specs.Reply.{creditOf, departureOf}
-use Rattle.model.specs.Lists.{keep, each}
+use Rattle.model.specs.Lists.{each}
 use Rattle.model.specs.Router.{InVc}
-use Rattle.model.specs.History.{Offer, Departure, Entry, History, same}
+use Rattle.model.specs.History.{Offer, Departure, Entry, History}
 use Rattle.model.specs.Step.{creditsAt}
 use Rattle.state.specs.declared.Router.{Router}
 use Rattle.state.specs.Fresh.{freshRouter}
@@ -44,7 +44,7 @@ departureIn o (some d) =
       flit = flitOf (d .kind) (cond (startsKind (d .kind)) o 0) (d .payload);
     } ∷ []
 
--- all of them, by output
+-- all of them, output by output
 abbrev pub departuresIn : Config → Reply → List (Departure Flit)
 departuresIn c r = each (c .ports) (λ o. departureIn o (departureOf (getD (r .outputs) o (record { left = left.Nothing }) .left)))
 
@@ -53,15 +53,13 @@ abbrev pub reachedIn : ℕ → Option ℕ → List InVc
 reachedIn i none = []
 reachedIn i (some v) = record { input = i; vc = v } ∷ []
 
--- The entry of an accepted cycle. Its departures are sorted by the input VC that they left; none is lost and none doubled
--- (NoneLost.departures-told, departures-all).
+-- The entry of an accepted cycle, its departures as the reply has them. The free router lists the same input by input (Entry.entry-is).
 unfoldable pub entryOf : Config → ℕ → List ℕ → Reply → Entry Flit
 entryOf c cycle part r =
     record {
       cycle = cycle;
       offers = each (c .ports) (λ i. offerIn part i);
-      departures = each (c .ports) (λ i. each (c .vcs) (λ v. keep (λ (d : Departure Flit). same (d .input) (d .vc) i v)
-          (departuresIn c r)));
+      departures = departuresIn c r;
       reached = each (c .ports) (λ i. reachedIn i (creditOf (getD (r .senders) i (record { reached = reached.Nothing }) .reached)));
       credits = each (c .ports) (λ o. creditsAt o (named (creditAt part o)));
     }

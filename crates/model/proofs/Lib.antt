@@ -8,11 +8,13 @@ pub mod Reading
 pub mod Place
 pub mod Invariant
 pub mod Depth
-pub mod Demand3
 pub mod Times
 pub mod Ranges
 pub mod OutCredits
 pub mod Limits
+pub mod Destinations
+pub mod Demand3
+pub mod Alike
 pub mod Given
 pub mod Test
 pub mod Sample

@@ -6,14 +6,16 @@ use mathlib.Core.Bool.{not}
 use mathlib.Core.Option.{none, some}
 use mathlib.Core.List.{List, [], _∷_, _++_, map}
 use Prim.Native.Nat.{ℕ, _+_}
+use native.Mathlib.Omega.{arith}
 use lib.Dec.{T, eqb}
 use lib.ListN.{length}
-use Rattle.model.specs.Lists.{keep}
+use Rattle.model.specs.Lists.{keep, All}
 use Rattle.model.specs.Sizes.{Config}
 use Rattle.model.specs.Channel.{Channel, stored, onWire, goingHome}
 use Rattle.model.specs.Router.{Router, fresh}
 use Rattle.model.specs.History.{Entry, History, Departure, after, gather, accepted, leftFrom, leftOn}
-use Rattle.model.specs.Limits.{creditsOn}
+use Rattle.model.specs.Limits.{NamesInRange, creditsOn}
+use Rattle.model.specs.Demand3.{LeftByDestination}
 use Rattle.model.proofs.Given.{Given, routerAfter, historyAfter}
 use Rattle.model.proofs.Test.{tests, legals?}
 use Rattle.model.proofs.Sample.{Flit, looks, head, body, tail, single, offer, credit, bind, from, left, cycle}
@@ -47,14 +49,16 @@ pub record Breaks (n : ℕ) (before : List (Given Flit)) (bad : Given Flit) (beh
 pub port-beyond : Breaks 0 [] (cycle (offer 2 0 (single 1 7) ∷ []) [] [] []) [] (λ s h. (s .channel 2 0 .taken ≡ 1) × (accepted 2 0 h ≡ []))
 port-beyond = record { fine = tt; alone = refl; fineAgain = tt; wrong = (refl, refl) }
 
--- offerVc: an offer on VC 2 of 0 and 1 takes a slot where there is no channel (nothing-beyond).
-pub vc-beyond : Breaks 1 [] (cycle (offer 0 2 (single 1 7) ∷ []) [] [] []) [] (λ s h. s .channel 0 2 .taken ≡ 1)
-vc-beyond = record { fine = tt; alone = refl; fineAgain = tt; wrong = refl }
+-- offerVc: an offer on VC 2 of 0 and 1 takes a slot where there is no channel, and the history names it (demand 3).
+pub vc-beyond : Breaks 1 [] (cycle (offer 0 2 (single 1 7) ∷ []) [] [] []) [] (λ s h. (s .channel 0 2 .taken ≡ 1)
+    × ¬ All (NamesInRange config) h)
+vc-beyond = record { fine = tt; alone = refl; fineAgain = tt; wrong = (refl, λ names. absurd (omega (arith, names .0 .offers .0 .1))) }
 
--- offerDestination: a head for port 5 leaves by an output that does not exist (names-in-range).
+-- offerDestination: a head for port 5 leaves by an output that does not exist (demand 3).
 pub destination-beyond : Breaks 2 [] (cycle (offer 0 0 (single 5 7) ∷ []) [] [] []) (cycle [] [] (bind 0 0 5 0 ∷ []) (from 0 0 ∷ []) ∷ [])
-    (λ s h. leftOn 5 0 h ≡ left 5 0 0 0 (single 5 7) ∷ [])
-destination-beyond = record { fine = tt; alone = refl; fineAgain = tt; wrong = refl }
+    (λ s h. (leftOn 5 0 h ≡ left 5 0 0 0 (single 5 7) ∷ []) × ¬ All (NamesInRange config) h)
+destination-beyond =
+    record { fine = tt; alone = refl; fineAgain = tt; wrong = (refl, λ names. absurd (omega (arith, names .0 .outputs .0 .0))) }
 
 -- room: a credit from downstream where the output VC has E (output-credits).
 pub credit-past-E : Breaks 3 [] (cycle [] (credit 1 0 ∷ []) [] []) [] (λ s h. s .outCredit 1 0 ≡ 2)
@@ -84,13 +88,13 @@ bound-again = record { fine = tt; alone = refl; fineAgain = tt; wrong = (refl, r
 
 -- bindsFront: an input VC is bound to output 1 with an empty queue. The flit that comes is for output 0 and leaves by 1 (demand 3).
 pub empty-bound : Breaks 7 [] (cycle (offer 0 0 (single 0 7) ∷ []) [] (bind 0 0 1 0 ∷ []) []) (cycle [] [] [] (from 0 0 ∷ []) ∷ [])
-    (λ s h. leftFrom 0 0 h ≡ left 1 0 0 0 (single 0 7) ∷ [])
-empty-bound = record { fine = tt; alone = refl; fineAgain = tt; wrong = refl }
+    (λ s h. (leftFrom 0 0 h ≡ left 1 0 0 0 (single 0 7) ∷ []) × ¬ LeftByDestination looks (leftFrom 0 0 h) (accepted 0 0 h))
+empty-bound = record { fine = tt; alone = refl; fineAgain = tt; wrong = (refl, λ left. absurd (omega (arith, left .0 refl))) }
 
 -- bindsFront: a head for output 0 is bound to output 1 and leaves by it (demand 3).
 pub other-output : Breaks 7 (cycle (offer 0 0 (single 0 7) ∷ []) [] [] [] ∷ []) (cycle [] [] (bind 0 0 1 0 ∷ []) (from 0 0 ∷ [])) []
-    (λ s h. leftFrom 0 0 h ≡ left 1 0 0 0 (single 0 7) ∷ [])
-other-output = record { fine = tt; alone = refl; fineAgain = tt; wrong = refl }
+    (λ s h. (leftFrom 0 0 h ≡ left 1 0 0 0 (single 0 7) ∷ []) × ¬ LeftByDestination looks (leftFrom 0 0 h) (accepted 0 0 h))
+other-output = record { fine = tt; alone = refl; fineAgain = tt; wrong = (refl, λ left. absurd (omega (arith, left .0 refl))) }
 
 -- bindsFree: an output VC that one input VC holds is given to another. A packet holds flits of two sources (demand 3).
 pub in-use : Breaks 8 (cycle (offer 0 0 (head 1 7) ∷ offer 1 0 (head 1 8) ∷ []) [] [] [] ∷ cycle [] [] (bind 0 0 1 0 ∷ [])
@@ -105,10 +109,11 @@ pub freed-now : Breaks 8 (cycle (offer 0 0 (single 1 7) ∷ offer 1 0 (single 1 
     (λ s h. (s .bound 1 0 ≡ some (record { output = 1; vc = 0 })) × (leftOn 1 0 (after 2 1 h) ≡ left 1 0 0 0 (single 1 7) ∷ []))
 freed-now = record { fine = tt; alone = refl; fineAgain = tt; wrong = (refl, refl) }
 
--- bindsVc: a flit leaves on VC 2 of 0 and 1 (names-in-range).
+-- bindsVc: a flit leaves on VC 2 of 0 and 1 (demand 3).
 pub output-vc-beyond : Breaks 9 (cycle (offer 0 0 (single 1 7) ∷ []) [] [] [] ∷ []) (cycle [] [] (bind 0 0 1 2 ∷ []) (from 0 0 ∷ [])) []
-    (λ s h. leftOn 1 2 h ≡ left 1 2 0 0 (single 1 7) ∷ [])
-output-vc-beyond = record { fine = tt; alone = refl; fineAgain = tt; wrong = refl }
+    (λ s h. (leftOn 1 2 h ≡ left 1 2 0 0 (single 1 7) ∷ []) × ¬ All (NamesInRange config) h)
+output-vc-beyond =
+    record { fine = tt; alone = refl; fineAgain = tt; wrong = (refl, λ names. absurd (omega (arith, names .0 .outputs .0 .1))) }
 
 -- bindsOnce: two input VCs are bound to one output VC in one cycle. A packet holds flits of two sources (demand 3).
 pub same-output-vc : Breaks 10 (cycle (offer 0 0 (head 1 7) ∷ offer 1 0 (head 1 8) ∷ []) [] [] [] ∷ [])

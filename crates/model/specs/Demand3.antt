@@ -1,19 +1,29 @@
 -- Demand 3, sentence by sentence, of a router s after cycle t and its history h.
 -- Assumes nothing.
 use mathlib.Core.Path.{_≡_}
-use mathlib.Core.List.{_++_}
+use mathlib.Core.Bool.{true}
+use mathlib.Core.List.{List, [], _∷_, _++_}
 use Prim.Native.Nat.{ℕ, suc, _+_, _<_}
 use lib.ListN.{length}
+use Rattle.model.specs.Lists.{All}
 use Rattle.model.specs.Sizes.{Config}
 use Rattle.model.specs.Flit.{Look}
 use Rattle.model.specs.Channel.{Channel, stored, onWire, goingHome}
 use Rattle.model.specs.Router.{Router}
 use Rattle.model.specs.History.{History, Numbered, Departure, upTo, after, accepted, leftFrom, leftOn, flits}
+use Rattle.model.specs.Limits.{NamesInRange}
 use Rattle.model.specs.Packets.{Packets}
 
 -- leaving by the port that the packet's head named
 abbrev pub ByHeadsPort : {Flit : Type 0} → Look Flit → Departure Flit → Departure Flit → Type 0
 ByHeadsPort look h d = d .output ≡ look .port (h .flit)
+
+-- "each leaving by the port its packet's head named", of the head as it was accepted, whatever flit the history puts down as leaving: if
+-- the k-th flit accepted starts a packet, the k-th departure left by its destination. A departure before its flit was accepted is refused.
+abbrev pub LeftByDestination : {Flit : Type 0} → Look Flit → List (Departure Flit) → List Flit → Type 0
+LeftByDestination look [] taken = Unit {0}
+LeftByDestination look (d ∷ ds) [] = ⊥
+LeftByDestination look (d ∷ ds) (f ∷ taken) = (look .starts f ≡ true → d .output ≡ look .port f) × LeftByDestination look ds taken
 
 -- coming from the same source as the packet's head
 abbrev pub FromOneSource : {Flit : Type 0} → Departure Flit → Departure Flit → Type 0
@@ -37,10 +47,15 @@ pub record InputDemand {Flit : Type 0} (look : Look Flit) (c : Config) (ch : Cha
   pub order : flits (leftFrom i v h) ++ ch .queue ++ onWire ch ≡ accepted i v h
   -- ".. each leaving by the port its packet's head named."
   pub ports : Packets look (ByHeadsPort look) (leftFrom i v h)
+  -- the same of the flits accepted, in whose places they left
+  pub destinations : LeftByDestination look (leftFrom i v h) (accepted i v h)
 
 pub record Demand3 {Flit : Type 0} (look : Look Flit) (c : Config) (s : Router Flit) (h : History Flit) (t : ℕ) : Type 0 where
   -- the history has one entry for each of the cycles t, .., 1, 0
   pub cycles : Numbered (suc t) h
+  -- Every offer, departure and credit names a port below P and a VC below V. The sentences below speak of the channels that there are; a
+  -- flit that was accepted or left anywhere else would be in none of them.
+  pub names : All (NamesInRange c) h
   -- "After each accepted cycle, each input channel's ..": the two sentences above
   pub inputs : (i v : ℕ) → i < c .ports → v < c .vcs → InputDemand look c (s .channel i v) h t i v
   -- "On each output channel the flits form whole packets one after another, at most the last unfinished, none holding flits of two

@@ -15,3 +15,4 @@ pub mod Packets
 pub mod Demand3
 pub mod Times
 pub mod Limits
+pub mod Alike

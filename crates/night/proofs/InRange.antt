@@ -25,7 +25,8 @@ use Rattle.rules.specs.declared.Refusal.{Refusal}
 use Rattle.rules.specs.declared.Verdict.the-variants.{Accepted, Refused}
 use Rattle.rules.specs.Numbers.{rulesOf}
 use Rattle.rules.specs.Step.{stepOf}
-use Rattle.rules.proofs.Exactness.{First, this, later, refused-exactly}
+use Rattle.rules.proofs.Exactness.{refused-exactly}
+use Rattle.rules.proofs.FirstRule.{First, this, later}
 use Rattle.router.specs.Running.{Writing}
 use Rattle.router.specs.Inside.{GoesOn}
 use Rattle.state.proofs.Legal.{sound-cycle}
@@ -62,11 +63,13 @@ refusal-named s part sound r e = go (r .number) (r .port) (refused-exactly s par
     go : (n p : ℕ) → First (rulesOf s part) n p → Named n p
     go _ p (this f) = named 2 p 1 (omega arith) (omega arith) (omega arith) (f .inside)
     go _ p (later _ (this f)) = named 10 p 1 (omega arith) (omega arith) (omega arith) (f .inside)
-    go _ p (later _ (later _ (this f))) = named 3 p 8 (omega arith) (omega arith) (omega arith) (f .inside)
-    go _ p (later _ (later _ (later _ (this f)))) = named 6 p (s .config .ports) (omega arith) (omega arith) ports (f .inside)
-    go _ p (later _ (later _ (later _ (later _ (this f))))) = named 4 p (s .config .ports) (omega arith) (omega arith) ports (f .inside)
-    go _ p (later _ (later _ (later _ (later _ (later _ (this f)))))) = named 5 p (s .config .ports) (omega arith) (omega arith) ports
+    go _ p (later _ (later _ (this f))) = named 3 p 1 (omega arith) (omega arith) (omega arith) (f .inside)
+    go _ p (later _ (later _ (later _ (this f)))) = named 3 p 8 (omega arith) (omega arith) (omega arith) (f .inside)
+    go _ p (later _ (later _ (later _ (later _ (this f))))) = named 6 p (s .config .ports) (omega arith) (omega arith) ports (f .inside)
+    go _ p (later _ (later _ (later _ (later _ (later _ (this f)))))) = named 4 p (s .config .ports) (omega arith) (omega arith) ports
         (f .inside)
+    go _ p (later _ (later _ (later _ (later _ (later _ (later _ (this f))))))) = named 5 p (s .config .ports) (omega arith) (omega arith)
+        ports (f .inside)
 
 -- the field that goes with 1 is one of seven
 field-few : (c : Config) (k : ℕ) → illegalField c ≡ some k → k ≤ 7

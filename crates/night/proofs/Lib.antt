@@ -15,3 +15,4 @@ pub mod Moves
 pub mod Answers
 pub mod Night
 pub mod Histories
+pub mod WrongVersions

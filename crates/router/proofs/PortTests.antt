@@ -1,10 +1,10 @@
--- The tests of 6, 4 and 5 at a port, and 3, as the code makes them.
+-- The tests of 6, 4 and 5 at a port, as the code makes them.
 -- Assumes nothing.
 use mathlib.Core.Path.{_≡_, refl, sym}
-use mathlib.Core.Bool.{Bool, true, false, cond, not, Bool·beq}
+use mathlib.Core.Bool.{Bool, true, false, not, Bool·beq}
 use mathlib.Core.List.{List}
 use Prim.Native.Nat.{ℕ, _-_, _≤_}
-use lib.Dec.{eqb, ltb}
+use lib.Dec.{eqb}
 use lib.ListN.{length, getD, List·getD-eq-default}
 use borrow.Author.Tests.{eqb-true, eqb-false, eq-eqb, ne-eqb}
 use Rattle.base.specs.declared.config.Config.{Config}
@@ -13,8 +13,8 @@ use Rattle.state.specs.declared.InputVc.{InputVc}
 use Rattle.state.specs.declared.OutputVc.{OutputVc}
 use Rattle.state.specs.Fresh.{freshInput, freshOutput}
 use Rattle.state.specs.Views.{channelNumber}
-use Rattle.rules.specs.Rows.{rowLegal, rowZero, kindAt, vcAt, creditAt}
-use Rattle.rules.specs.Numbers.{rowWrong, creditPastRoom, outOfTurn, noSenderCredit}
+use Rattle.rules.specs.Rows.{kindAt, vcAt, creditAt}
+use Rattle.rules.specs.Numbers.{creditPastRoom, outOfTurn, noSenderCredit}
 
 -- a test of equality, either way round
 eqb-turned : (a b : ℕ) → eqb a b ≡ eqb b a
@@ -28,12 +28,6 @@ eqb-turned a b = go (eqb b a) refl
 beq-false : (b : Bool) → not b ≡ Bool·beq b false
 beq-false true = refl
 beq-false false = refl
-
--- a part that is long enough breaks the rules where its row does
-pub wrong-is : (c : Config) (part : List ℕ) (i : ℕ) → length part ≡ 64 → (r : Bool)
-    → r ≡ not (cond (ltb i (c .ports)) (rowLegal c part i) (rowZero part i)) → r ≡ rowWrong c part i
-unfolding rowWrong
-wrong-is c part i l r e = rw l e
 
 module _ (c : Config) (outputs : List OutputVc) (part : List ℕ) (o : ℕ) where
   -- no credit comes

@@ -1,7 +1,7 @@
 -- What the bytes of a row say, test by test in the order of the code.
 -- Assumes nothing.
 use mathlib.Core.Path.{_≡_, ap}
-use mathlib.Core.Bool.{Bool, true, false, cond, not}
+use mathlib.Core.Bool.{Bool, true, false, not}
 use mathlib.Core.List.{List}
 use mathlib.Core.Option.{Option, some, none}
 use Prim.Native.Nat.{ℕ, _+_, _*_, _<_, _≤_}
@@ -13,6 +13,7 @@ use Rattle.base.specs.declared.config.Config.{Config}
 use Rattle.base.specs.declared.flit.Flit.{Flit}
 use Rattle.base.specs.Flit.{flitOf, startsKind}
 use Rattle.trace.specs.Bytes.{byte, bigEndian}
+use Rattle.rules.specs.Numbers.{rowWrong}
 use Rattle.rules.specs.Rows.{kindAt, payloadAt, rowZero, noOffer, legalOffer, rowLegal}
 use Rattle.router.specs.declared.rows.Offer.{Offer}
 use Rattle.router.specs.Rows.{offerAt}
@@ -100,11 +101,11 @@ module _ (c : Config) (part : List ℕ) (i : ℕ) where
   row-brings h k r e = rw (le-leb (byte part (8 * i + 3)) (c .vcs) h, kind-is part i, ne-eqb (byte part (8 * i)) 0 k) e
 
   -- the row of a port that there is
-  pub breaks-legal : i < c .ports → (r : Bool) → r ≡ rowLegal c part i → not r
-      ≡ not (cond (ltb i (c .ports)) (rowLegal c part i) (rowZero part i))
+  pub breaks-legal : i < c .ports → (r : Bool) → r ≡ rowLegal c part i → not r ≡ rowWrong c part i
+  unfolding rowWrong
   breaks-legal h r e = rw (lt-ltb i (c .ports) h) (ap not e)
 
   -- the row of one that there is not
-  pub breaks-zero : c .ports ≤ i → (r : Bool) → r ≡ rowZero part i → not r
-      ≡ not (cond (ltb i (c .ports)) (rowLegal c part i) (rowZero part i))
+  pub breaks-zero : c .ports ≤ i → (r : Bool) → r ≡ rowZero part i → not r ≡ rowWrong c part i
+  unfolding rowWrong
   breaks-zero h r e = rw (le-ltb i (c .ports) h) (ap not e)

@@ -11,7 +11,6 @@ use Rattle.base.specs.declared.reply.Reply.{Reply}
 use Rattle.base.specs.Search.{firstFrom}
 use Rattle.base.specs.Sizes.{cycleLimit}
 use Rattle.base.specs.Reply.{emptyReply}
-use Rattle.base.proofs.Search.{neither}
 use Rattle.state.specs.declared.InputVc.{InputVc}
 use Rattle.state.specs.declared.Router.{Router}
 use Rattle.state.specs.Sound.{sound}
@@ -21,10 +20,10 @@ use Rattle.rules.specs.declared.Verdict.the-variants.{Accepted, Refused}
 use Rattle.rules.specs.declared.Stepped.{Stepped}
 use Rattle.rules.specs.Intake.{sendersPaid, creditsReached, reported}
 use Rattle.rules.specs.Allocation.{allocated}
-use Rattle.rules.specs.Numbers.{Rule, refusing, firstOf, rulesFor, judged, runFull, rowWrong}
+use Rattle.rules.specs.Numbers.{Rule, refusing, firstOf, rulesFor, judged, runFull, partWrong}
 use Rattle.rules.specs.Departures.{leavingOf}
 use Rattle.rules.specs.Step.{takenIn, sentOut, routerAfter, replyOf, stepOf}
-use Rattle.rules.proofs.Exactness.{Why, None, accepts, also, why}
+use Rattle.rules.proofs.FirstRule.{Why, None, accepts, also, why}
 use Rattle.router.specs.Whole.{boundOf}
 
 module _ (s : Router) (part : List ℕ) where
@@ -82,11 +81,11 @@ module _ (s : Router) (part : List ℕ) where
       go (also ten _) = leb-false cycleLimit (s .cycle) (ten 0 (omega arith))
 
   pub accepted-long : firstOf rest ≡ Accepted → length part ≡ 64
-  unfolding rowWrong
+  unfolding partWrong
   accepted-long e = go (passes e)
     where
       go : None rest → length part ≡ 64
-      go (also ten (also three _)) = eqb-true (length part) 64 (not-false _ (neither _ _ (three 0 (omega arith)) .0))
+      go (also ten (also long _)) = eqb-true (length part) 64 (not-false _ (long 0 (omega arith)))
 
   module _ (paid : List InputVc) (e : paid ≡ sendersPaid (s .config) (s .home) (s .inputs)) where
     abbrev pub bound : Router

@@ -1,4 +1,5 @@
-// A cycle judged before anything moves: "10, then 3, 6, 4, 5, each over all ports in rising order before the next number".
+// A cycle judged before anything moves: "10, then 3, 6, 4, 5, each over all ports in rising order before the next number", and of 3 the
+// part's length first.
 use crate::channel;
 use crate::counts;
 use crate::rows;
@@ -18,7 +19,6 @@ use rules::Verdict;
 use state::InputVc;
 use state::OutputVc;
 ghost use mathlib.Core.Path.{_≡_};
-ghost use mathlib.Core.Bool.{not, _||_};
 ghost use Prim.Native.Nat.{ℕ, _≤_, _<_};
 ghost use lib.ListN.{length};
 ghost use Rattle.base.specs.Search.{firstFrom, every};

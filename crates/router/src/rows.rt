@@ -4,10 +4,9 @@ use base::Flit;
 use base::SINGLE;
 use base::starts;
 ghost use mathlib.Core.Path.{_≡_};
-ghost use mathlib.Core.Bool.{not, cond};
 ghost use Prim.Native.Nat.{_<_};
-ghost use lib.Dec.{ltb};
 ghost use lib.ListN.{length};
+ghost use Rattle.rules.specs.Numbers.{rowWrong};
 ghost use Rattle.rules.specs.Rows.{kindAt, vcAt, creditAt, payloadAt, noOffer, rowZero, legalOffer, rowLegal};
 ghost use Rattle.router.specs.Rows.{offerOf, offerAt};
 
@@ -139,7 +138,7 @@ fn is_row_legal(config: Config, part: &[u8], i: usize) -> bool
 // 3: "row breaks the byte rules above, or VC, destination or credit too large"
 pub(crate) fn breaks(config: Config, part: &[u8], i: usize) -> bool
     requires { ⌜ (length (now part) ≡ 64) × (i < 8) ⌝ }
-    ensures { λ r. ⌜ r ≡ not (cond (ltb i (config .ports)) (rowLegal config (now (part .entry)) i) (rowZero (now (part .entry)) i)) ⌝ }
+    ensures { λ r. ⌜ r ≡ rowWrong config (now (part .entry)) i ⌝ }
 {
     if i < config.ports as usize {
         return !is_row_legal(config, part, i);

@@ -20,8 +20,9 @@ use Rattle.rules.specs.Numbers.{rulesOf, runFull}
 use Rattle.rules.specs.Step.{takenIn, stepBy, stepOf}
 use Rattle.rules.proofs.Advance.{advanced-newest}
 use Rattle.rules.proofs.AllocatedSound.{allocated-sound}
-use Rattle.rules.proofs.Exactness.{None, also, verdict-judged, accepted-exactly}
+use Rattle.rules.proofs.Exactness.{verdict-judged, accepted-exactly}
 use Rattle.rules.proofs.Facts.{sound-legal, sound-lengths}
+use Rattle.rules.proofs.FirstRule.{None, also}
 use Rattle.rules.proofs.IntakeSound.{takenIn-sound}
 
 -- where no rule refuses, the router is sound and the run is not full

@@ -1,99 +1,26 @@
 -- Each number comes exactly when its rule holds at that port, at no lower one, and no number earlier in the order holds at any port.
 -- Assumes nothing.
 use mathlib.Core.Path.{_≡_, refl, sym, ap, subst, _∙_}
-use mathlib.Core.Logic.{_↔_}
-use mathlib.Core.Bool.{Bool, true, false, _||_, or-true, true≢false}
-use mathlib.Core.List.{List, [], _∷_}
-use mathlib.Core.Option.{Option, some, none}
-use Prim.Native.Nat.{ℕ, _≤_, _<_}
-use lib.Dec.{eqb}
-use borrow.Author.Tests.{eq-eqb}
+use mathlib.Core.Logic.{_↔_, _⊎_, inl, inr}
+use mathlib.Core.Bool.{true, false, not, true≢false}
+use mathlib.Core.List.{List, _∷_}
+use Prim.Native.Nat.{ℕ, _≤_}
+use lib.ListN.{length}
+use borrow.Author.Tests.{eq-eqb, ne-eqb}
 use native.Mathlib.Omega.{arith}
 use Rattle.base.specs.Numbers as numbers
-use Rattle.base.specs.Search.{firstFrom}
 use Rattle.base.specs.Reply.{emptyReply}
-use Rattle.base.proofs.Search as search
 use Rattle.state.specs.declared.Router.{Router}
+use Rattle.trace.specs.Blocks.{cycleLength}
 use Rattle.rules.specs.declared.Refusal.{Refusal}
 use Rattle.rules.specs.declared.Verdict.{Verdict}
 use Rattle.rules.specs.declared.Verdict.the-variants.{Accepted, Refused}
-use Rattle.rules.specs.Numbers.{Rule, rule2, rule10, rule3, rule6, rule4, rule5, rulesOf, refusing, refusedAt, firstOf, judged}
-use Rattle.rules.specs.Numbers.{numberOf, portOf, runFull}
+use Rattle.rules.specs.Numbers.{Rule, rule2, rule10, rulePart, rule3, rule6, rule4, rule5, rulesOf, partWrong, refusing, judged}
+use Rattle.rules.specs.Numbers.{numberOf, portOf}
 use Rattle.rules.specs.Intake.{sendersPaid}
 use Rattle.rules.specs.Step.{stepBy, stepOf}
-
--- the rule holds at port p and at no lower one
-pub record FirstAt (r : Rule) (p : ℕ) : Type 0 where
-  pub inside : p < r .ports
-  pub here : r .holds p ≡ true
-  pub lower : (i : ℕ) → i < p → r .holds i ≡ false
-
--- the rule holds at no port
-abbrev pub Nowhere : Rule → Type 0
-Nowhere r = (i : ℕ) → i < r .ports → r .holds i ≡ false
-
--- of the rules, in their order, the first that holds anywhere has number n and holds first at port p
-pub data First : List Rule → ℕ → ℕ → Type 0 where
-  this : {r : Rule} {rs : List Rule} {p : ℕ} → FirstAt r p → First (r ∷ rs) (r .number) p
-  later : {r : Rule} {rs : List Rule} {n p : ℕ} → Nowhere r → First rs n p → First (r ∷ rs) n p
-
--- none of the rules holds anywhere
-pub data None : List Rule → Type 0 where
-  done : None []
-  also : {r : Rule} {rs : List Rule} → Nowhere r → None rs → None (r ∷ rs)
-
-found : (r : Rule) (p : ℕ) → firstFrom (r .holds) (r .ports) 0 ≡ some p → FirstAt r p
-found r p e =
-    let f = search.first-found (r .holds) (r .ports) 0 p e in
-    record { inside = let b = f .below in omega arith; here = f .passes; lower = λ i h. f .before i (omega arith) h }
-
-finds : (r : Rule) (p : ℕ) → FirstAt r p → firstFrom (r .holds) (r .ports) 0 ≡ some p
-finds r p f =
-    search.first-at (r .holds) (r .ports) 0 p
-    (record { from = omega arith; below = let b = f .inside in omega arith; passes = f .here; before = λ j l h. f .lower j h })
-
-missed : (r : Rule) → firstFrom (r .holds) (r .ports) 0 ≡ none → Nowhere r
-missed r e i h = search.first-missing (r .holds) (r .ports) 0 e i (omega arith) (omega arith)
-
-misses : (r : Rule) → Nowhere r → firstFrom (r .holds) (r .ports) 0 ≡ none
-misses r f = search.first-none (r .holds) (r .ports) 0 (λ j l h. f j (omega arith))
-
--- the verdict, and why it is so
-pub data Why (rs : List Rule) : Verdict → Type 0 where
-  refuses : (n p : ℕ) → First rs n p → Why rs (refusing n p)
-  accepts : None rs → Why rs Accepted
-
-pub why : (rs : List Rule) → Why rs (firstOf rs)
-unfolding firstOf
-why [] = accepts done
-why (r ∷ rs) = go (firstFrom (r .holds) (r .ports) 0) refl (firstOf rs) (why rs)
-  where
-    on : (v : Verdict) → Nowhere r → Why rs v → Why (r ∷ rs) v
-    on _ f (refuses n p g) = refuses n p (later f g)
-    on _ f (accepts g) = accepts (also f g)
-
-    go : (o : Option ℕ) → firstFrom (r .holds) (r .ports) 0 ≡ o → (v : Verdict) → Why rs v → Why (r ∷ rs) (refusedAt (r .number) o v)
-    go (some p) e v w = refuses (r .number) p (this (found r p e))
-    go none e v w = on v (missed r e) w
-
-pub first-refuses : (rs : List Rule) (n p : ℕ) → First rs n p → firstOf rs ≡ refusing n p
-unfolding firstOf
-first-refuses (r ∷ rs) _ p (this f) = rw (finds r p f)
-first-refuses (r ∷ rs) n p (later f g) = rw (misses r f) (first-refuses rs n p g)
-
-pub none-accepts : (rs : List Rule) → None rs → firstOf rs ≡ Accepted
-unfolding firstOf
-none-accepts [] done = refl
-none-accepts (r ∷ rs) (also f g) = rw (misses r f) (none-accepts rs g)
-
--- whether one of the rules has number n
-abbrev numbered : ℕ → List Rule → Bool
-numbered n [] = false
-numbered n (r ∷ rs) = eqb n (r .number) || numbered n rs
-
-first-numbered : (rs : List Rule) (n p : ℕ) → First rs n p → numbered n rs ≡ true
-first-numbered (r ∷ rs) _ p (this f) = rw (eq-eqb (r .number) (r .number) refl)
-first-numbered (r ∷ rs) n p (later f g) = rw (first-numbered rs n p g) (or-true (eqb n (r .number)))
+use Rattle.rules.proofs.FirstRule.{FirstAt, Nowhere, First, this, later, None, done, Why, refuses, accepts, why, first-refuses}
+use Rattle.rules.proofs.FirstRule.{none-accepts, before, from, split, join, numbered, alone}
 
 module _ (s : Router) (part : List ℕ) where
   judged-why : Why (rulesOf s part) (judged s part)
@@ -139,77 +66,94 @@ module _ (s : Router) (part : List ℕ) where
       go Accepted e g = absurd (omega (arith, e, least))
       go (Refused r) e g = λ i. Refused (record { number = e i; port = g i })
 
+  -- no number earlier in the order than n holds at any port
+  abbrev pub NoneBefore : ℕ → Type 0
+  NoneBefore n = None (before n (rulesOf s part))
+
+  -- for a rule whose number no other rule has
+  exactly : (r : Rule) (rs : List Rule) → from (r .number) (rulesOf s part) ≡ r ∷ rs → numbered (r .number) rs ≡ false → (p : ℕ)
+      → (stepOf s part .verdict ≡ refusing (r .number) p) ↔ (NoneBefore (r .number) × FirstAt r p)
+  exactly r rs e g p = (
+    λ h. let f = split (r .number) (rulesOf s part) p (refused-exactly (r .number) p .0 h) in
+        (f .0, alone r rs p g (subst (λ (xs : List Rule). First xs (r .number) p) e (f .1))),
+    λ f. refused-exactly (r .number) p .1
+        (join (r .number) (rulesOf s part) p (f .0) (subst (λ (xs : List Rule). First xs (r .number) p) (sym e) (this (f .1)))),
+  )
+
   -- 2, "state not sound"
   pub two-exactly : (p : ℕ) → (stepOf s part .verdict ≡ refusing numbers.notSound p) ↔ FirstAt (rule2 s) p
-  two-exactly p = (λ e. go (refused-exactly 2 p .0 e), λ f. refused-exactly 2 p .1 (this f))
-    where
-      go : First (rulesOf s part) 2 p → FirstAt (rule2 s) p
-      go (this f) = f
-      go (later _ f) = absurd (true≢false (sym (first-numbered _ 2 p f)))
+  two-exactly p = let e = exactly (rule2 s) _ refl refl p in (λ h. e .0 h .1, λ f. e .1 (done, f))
 
   -- 10, "the run already has 1,000,000,000 cycles"
-  pub ten-exactly : (p : ℕ) → (stepOf s part .verdict ≡ refusing numbers.runFull p) ↔ (Nowhere (rule2 s) × FirstAt (rule10 (s .cycle)) p)
-  ten-exactly p = (λ e. go (refused-exactly 10 p .0 e), λ f. refused-exactly 10 p .1 (later (f .0) (this (f .1))))
-    where
-      go : First (rulesOf s part) 10 p → Nowhere (rule2 s) × FirstAt (rule10 (s .cycle)) p
-      go (later a (this f)) = (a, f)
-      go (later _ (later _ f)) = absurd (true≢false (sym (first-numbered _ 10 p f)))
+  pub ten-exactly : (p : ℕ) → (stepOf s part .verdict ≡ refusing numbers.runFull p) ↔
+      (NoneBefore numbers.runFull × FirstAt (rule10 (s .cycle)) p)
+  ten-exactly = exactly (rule10 (s .cycle)) _ refl refl
 
-  -- 3, "row breaks the byte rules above, or VC, destination or credit too large"
+  -- 3: the part's length is wrong, or it is right and p is the first port whose row is wrong
   pub three-exactly : (p : ℕ) → (stepOf s part .verdict ≡ refusing numbers.rowWrong p) ↔
-      (Nowhere (rule2 s) × Nowhere (rule10 (s .cycle)) × FirstAt (rule3 (s .config) part) p)
-  three-exactly p = (λ e. go (refused-exactly 3 p .0 e), λ f. refused-exactly 3 p .1 (later (f .0) (later (f .1) (this (f .2)))))
+      (NoneBefore numbers.rowWrong
+      × (FirstAt (rulePart part) p ⊎ (Nowhere (rulePart part) × FirstAt (rule3 (s .config) part) p)))
+  three-exactly p = (
+    λ e. let f = split numbers.rowWrong (rulesOf s part) p (refused-exactly numbers.rowWrong p .0 e) in (f .0, go (f .1)),
+    λ f. refused-exactly numbers.rowWrong p .1 (join numbers.rowWrong (rulesOf s part) p (f .0) (back (f .1))),
+  )
     where
-      go : First (rulesOf s part) 3 p → Nowhere (rule2 s) × Nowhere (rule10 (s .cycle)) × FirstAt (rule3 (s .config) part) p
-      go (later a (later b (this f))) = (a, b, f)
-      go (later _ (later _ (later _ f))) = absurd (true≢false (sym (first-numbered _ 3 p f)))
+      go : First (from numbers.rowWrong (rulesOf s part)) numbers.rowWrong p
+          → FirstAt (rulePart part) p ⊎ (Nowhere (rulePart part) × FirstAt (rule3 (s .config) part) p)
+      go (this f) = inl f
+      go (later a f) = inr (a, alone (rule3 (s .config) part) _ p refl f)
+
+      back : FirstAt (rulePart part) p ⊎ (Nowhere (rulePart part) × FirstAt (rule3 (s .config) part) p)
+          → First (from numbers.rowWrong (rulesOf s part)) numbers.rowWrong p
+      back (inl f) = this f
+      back (inr f) = later (f .0) (this (f .1))
+
+  -- "A cycle part that isn't 64 bytes long gives 3 with port 0, before the other tests of 3"
+  pub part-exactly : (length part ≡ cycleLength → ⊥) → (p : ℕ) → (stepOf s part .verdict ≡ refusing numbers.rowWrong p) ↔
+      (NoneBefore numbers.rowWrong × (p ≡ 0))
+  unfolding partWrong
+  part-exactly short p = (λ e. let f = three-exactly p .0 e in (f .0, go (f .1)), λ f. three-exactly p .1 (f .0, inl (back (f .1))))
+    where
+      wrong : partWrong part ≡ true
+      wrong = ap not (ne-eqb (length part) cycleLength short)
+
+      go : FirstAt (rulePart part) p ⊎ (Nowhere (rulePart part) × FirstAt (rule3 (s .config) part) p) → p ≡ 0
+      go (inl f) = let b = f .inside in omega arith
+      go (inr f) = absurd (true≢false (sym wrong ∙ f .0 0 (omega arith)))
+
+      back : p ≡ 0 → FirstAt (rulePart part) p
+      back e = record { inside = omega arith; here = wrong; lower = λ i h. absurd (omega arith) }
+
+  -- 3 of a part that is 64 bytes long: "row breaks the byte rules above, or VC, destination or credit too large"
+  pub row-exactly : length part ≡ cycleLength → (p : ℕ) → (stepOf s part .verdict ≡ refusing numbers.rowWrong p) ↔
+      (NoneBefore numbers.rowWrong × FirstAt (rule3 (s .config) part) p)
+  unfolding partWrong
+  row-exactly long p = (
+    λ e. let f = three-exactly p .0 e in (f .0, go (f .1)),
+    λ f. three-exactly p .1 (f .0, inr (λ i h. right, f .1)),
+  )
+    where
+      right : partWrong part ≡ false
+      right = ap not (eq-eqb (length part) cycleLength long)
+
+      go : FirstAt (rulePart part) p ⊎ (Nowhere (rulePart part) × FirstAt (rule3 (s .config) part) p) → FirstAt (rule3 (s .config) part) p
+      go (inl f) = absurd (true≢false (sym (f .here) ∙ right))
+      go (inr f) = f .1
 
   -- 6, "downstream credit where that output VC already has E"
   pub six-exactly : (p : ℕ) → (stepOf s part .verdict ≡ refusing numbers.creditPastRoom p) ↔
-      (Nowhere (rule2 s) × Nowhere (rule10 (s .cycle)) × Nowhere (rule3 (s .config) part)
-      × FirstAt (rule6 (s .config) (s .outputs) part) p)
-  six-exactly p = (
-    λ e. go (refused-exactly 6 p .0 e),
-    λ f. refused-exactly 6 p .1
-        (later (f .0) (later (f .1) (later (f .2) (this (f .3))))),
-  )
-    where
-      go : First (rulesOf s part) 6 p → Nowhere (rule2 s) × Nowhere (rule10 (s .cycle)) × Nowhere (rule3 (s .config) part)
-          × FirstAt (rule6 (s .config) (s .outputs) part) p
-      go (later a (later b (later d (this f)))) = (a, b, d, f)
-      go (later _ (later _ (later _ (later _ f)))) = absurd (true≢false (sym (first-numbered _ 6 p f)))
+      (NoneBefore numbers.creditPastRoom × FirstAt (rule6 (s .config) (s .outputs) part) p)
+  six-exactly = exactly (rule6 (s .config) (s .outputs) part) _ refl refl
 
   -- 4, "B or T with no packet open at that sender VC, or H or S with one open"
   pub four-exactly : (p : ℕ) → (stepOf s part .verdict ≡ refusing numbers.outOfTurn p) ↔
-      (Nowhere (rule2 s) × Nowhere (rule10 (s .cycle)) × Nowhere (rule3 (s .config) part)
-      × Nowhere (rule6 (s .config) (s .outputs) part) × FirstAt (rule4 (s .config) (s .inputs) part) p)
-  four-exactly p = (
-    λ e. go (refused-exactly 4 p .0 e),
-    λ f. refused-exactly 4 p .1
-        (later (f .0) (later (f .1) (later (f .2) (later (f .3) (this (f .4)))))),
-  )
-    where
-      go : First (rulesOf s part) 4 p → Nowhere (rule2 s) × Nowhere (rule10 (s .cycle)) × Nowhere (rule3 (s .config) part)
-          × Nowhere (rule6 (s .config) (s .outputs) part) × FirstAt (rule4 (s .config) (s .inputs) part) p
-      go (later a (later b (later d (later e (this f))))) = (a, b, d, e, f)
-      go (later _ (later _ (later _ (later _ (later _ f))))) = absurd (true≢false (sym (first-numbered _ 4 p f)))
+      (NoneBefore numbers.outOfTurn × FirstAt (rule4 (s .config) (s .inputs) part) p)
+  four-exactly = exactly (rule4 (s .config) (s .inputs) part) _ refl refl
 
   -- 5, "no sender credit, after phase 1"
   pub five-exactly : (p : ℕ) → (stepOf s part .verdict ≡ refusing numbers.noSenderCredit p) ↔
-      (Nowhere (rule2 s) × Nowhere (rule10 (s .cycle)) × Nowhere (rule3 (s .config) part)
-      × Nowhere (rule6 (s .config) (s .outputs) part) × Nowhere (rule4 (s .config) (s .inputs) part)
-      × FirstAt (rule5 (s .config) (sendersPaid (s .config) (s .home) (s .inputs)) part) p)
-  five-exactly p = (
-    λ e. go (refused-exactly 5 p .0 e),
-    λ f. refused-exactly 5 p .1
-        (later (f .0) (later (f .1) (later (f .2) (later (f .3) (later (f .4) (this (f .5))))))),
-  )
-    where
-      go : First (rulesOf s part) 5 p → Nowhere (rule2 s) × Nowhere (rule10 (s .cycle)) × Nowhere (rule3 (s .config) part)
-          × Nowhere (rule6 (s .config) (s .outputs) part) × Nowhere (rule4 (s .config) (s .inputs) part)
-          × FirstAt (rule5 (s .config) (sendersPaid (s .config) (s .home) (s .inputs)) part) p
-      go (later a (later b (later d (later e (later g (this f)))))) = (a, b, d, e, g, f)
-      go (later _ (later _ (later _ (later _ (later _ (later _ f)))))) = absurd (true≢false (sym (first-numbered _ 5 p f)))
+      (NoneBefore numbers.noSenderCredit × FirstAt (rule5 (s .config) (sendersPaid (s .config) (s .home) (s .inputs)) part) p)
+  five-exactly = exactly (rule5 (s .config) (sendersPaid (s .config) (s .home) (s .inputs)) part) _ refl refl
 
   -- accepted: no rule holds at any port
   pub accepted-exactly : (stepOf s part .verdict ≡ Accepted) ↔ None (rulesOf s part)

@@ -20,7 +20,7 @@ use Rattle.rules.specs.Rows.{kindAt}
 use Rattle.rules.specs.Intake.{creditsReached, creditsReturned, landed, offersTaken}
 use Rattle.rules.specs.Numbers.{rulesOf}
 use Rattle.rules.specs.Step.{takenIn}
-use Rattle.rules.proofs.Exactness.{None}
+use Rattle.rules.proofs.FirstRule.{None}
 use Rattle.rules.proofs.Lines.{places-oldest, total-first}
 use Rattle.rules.proofs.Facts.{credits-sum, sound-legal}
 use Rattle.rules.proofs.Landed.{lands}

@@ -15,7 +15,7 @@ use Rattle.rules.specs.Rows.{brings, kindAt, vcAt}
 use Rattle.rules.specs.Intake.{creditsReached, creditsReturned, landed, offersTaken}
 use Rattle.rules.specs.Numbers.{rulesOf}
 use Rattle.rules.specs.Step.{takenIn}
-use Rattle.rules.proofs.Exactness.{None}
+use Rattle.rules.proofs.FirstRule.{None}
 use Rattle.rules.proofs.Advance.{advanced-newest}
 use Rattle.rules.proofs.Facts.{sound-legal, sound-lengths}
 use Rattle.rules.proofs.Kept.{insideOf}

@@ -19,7 +19,7 @@ use Rattle.rules.specs.Rows.{kindAt, creditAt, flitAt}
 use Rattle.rules.specs.Intake.{offerTaken, creditsReached, creditsReturned, landed, offersTaken}
 use Rattle.rules.specs.Numbers.{rulesOf}
 use Rattle.rules.specs.Step.{takenIn}
-use Rattle.rules.proofs.Exactness.{None}
+use Rattle.rules.proofs.FirstRule.{None}
 use Rattle.rules.proofs.Lines.{places-advance}
 use Rattle.rules.proofs.Advance.{advanced-place, home-advanced}
 use Rattle.rules.proofs.Facts.{sound-legal, sound-lengths, inputs-room, outputs-room, home-at}

@@ -1,5 +1,7 @@
 pub mod Folds
+pub mod FirstRule
 pub mod Exactness
+pub mod ByteRules
 pub mod Channels
 pub mod Turns
 pub mod Lines
@@ -53,3 +55,5 @@ pub mod ChosenDepartures
 pub mod ChosenEvent
 pub mod ChosenStep
 pub mod ChosenArbiters
+pub mod Differ
+pub mod WrongVersions

@@ -7,22 +7,21 @@ use mathlib.Core.Option.{some, Option·some-injective, Option·none-ne-some}
 use Prim.Native.Nat.{ℕ, zero, suc, _-_, _≤_, _<_}
 use native.Mathlib.Omega.{arith}
 use lib.Dec.{eqb, leb, ltb}
-use lib.ListN.{length}
 use borrow.Author.Tests.{not-true, not-false, lt-ltb, ltb-true, leb-true, eqb-false, ne-eqb}
 use Rattle.base.specs.declared.config.Config.{Config}
 use Rattle.base.specs.Flit.{startsKind, single}
+use Rattle.base.specs.Numbers as numbers
 use Rattle.base.proofs.Configurations.{Legal}
-use Rattle.base.proofs.Search.{both, neither, some-number}
+use Rattle.base.proofs.Search.{both, some-number}
 use Rattle.state.specs.declared.InputVc.{InputVc}
 use Rattle.state.specs.declared.OutputVc.{OutputVc}
 use Rattle.state.specs.declared.Router.{Router}
 use Rattle.state.specs.Views.{inputAt, outputAt}
-use Rattle.trace.specs.Blocks.{cycleLength}
 use Rattle.rules.specs.Ports.{named}
 use Rattle.rules.specs.Intake.{sendersPaid}
 use Rattle.rules.specs.Rows.{kindAt, vcAt, destinationAt, creditAt, brings, rowZero, noOffer, legalOffer, rowLegal}
 use Rattle.rules.specs.Numbers.{rowWrong, creditPastRoom, outOfTurn, noSenderCredit, rulesOf}
-use Rattle.rules.proofs.Exactness.{None, also, done}
+use Rattle.rules.proofs.FirstRule.{None, none-from, none-first, none-rest}
 
 -- the second of two tests, where the first holds and both do not
 second-fails : (a b : Bool) → (a && b) ≡ false → a ≡ true → b ≡ false
@@ -64,8 +63,7 @@ module _ (s : Router) (part : List ℕ) where
   unfolding rowWrong
   row-legal legal wrong i h =
       let few = legal .ports .1 in
-      let p = neither (not (eqb (length part) cycleLength)) _ (wrong i (omega arith)) in
-      sym (ap (λ (b : Bool). cond b (rowLegal c part i) (rowZero part i)) (lt-ltb i (c .ports) h)) ∙ not-false _ (p .1)
+      sym (ap (λ (b : Bool). cond b (rowLegal c part i) (rowZero part i)) (lt-ltb i (c .ports) h)) ∙ not-false _ (wrong i (omega arith))
 
   row-offered : (i : ℕ) → rowLegal c part i ≡ true → brings part i ≡ true → Offered c part i
   unfolding rowLegal legalOffer
@@ -123,10 +121,11 @@ module _ (s : Router) (part : List ℕ) where
 
   -- where no rule holds, the rows say so
   pub none-permits : Legal c → None (rulesOf s part) → Permitted s part
-  none-permits legal (also two (also ten (also three (also six (also four (also five done)))))) =
+  none-permits legal none =
+      let three = row-legal legal (none-first (none-rest (none-from numbers.rowWrong (rulesOf s part) none))) in
       record {
-        credits = λ o h. row-credit o (row-legal legal three o h) (six o h);
-        offers = λ i h. row-offered i (row-legal legal three i h);
-        turns = λ i h. turn-comes i (four i h);
-        paid = λ i h. credit-there i (five i h);
+        credits = λ o h. row-credit o (three o h) (none-first (none-from numbers.creditPastRoom (rulesOf s part) none) o h);
+        offers = λ i h. row-offered i (three i h);
+        turns = λ i h. turn-comes i (none-first (none-from numbers.outOfTurn (rulesOf s part) none) i h);
+        paid = λ i h. credit-there i (none-first (none-from numbers.noSenderCredit (rulesOf s part) none) i h);
       }

@@ -1,5 +1,6 @@
 pub mod Ports
 pub mod Rows
+pub mod ByteRules
 pub mod Intake
 pub mod Allocation
 pub mod Departures

@@ -1,6 +1,6 @@
 -- "Numbers given back" (01) for a cycle: the rule of each number, and their order.
 -- Assumes nothing.
-use mathlib.Core.Bool.{Bool, cond, not, Bool·beq, _&&_, _||_}
+use mathlib.Core.Bool.{Bool, cond, not, Bool·beq, _&&_}
 use mathlib.Core.List.{List, [], _∷_}
 use mathlib.Core.Option.{Option, some, none}
 use Prim.Native.Nat.{ℕ, _-_}
@@ -26,10 +26,13 @@ use Rattle.rules.specs.Intake.{sendersPaid}
 unfoldable pub runFull : ℕ → Bool
 runFull cycle = leb cycleLimit cycle
 
--- 3, "row breaks the byte rules above, or VC, destination or credit too large". "A cycle part that isn't 64 bytes long gives 3 with port 0,
--- before the other tests of 3": then every port's row breaks the rules, and port 0 is the first.
+-- "A cycle part that isn't 64 bytes long gives 3 with port 0, before the other tests of 3"
+unfoldable pub partWrong : List ℕ → Bool
+partWrong part = not (eqb (length part) cycleLength)
+
+-- 3, "row breaks the byte rules above, or VC, destination or credit too large"; ByteRules says the same rule by rule
 unfoldable pub rowWrong : Config → List ℕ → ℕ → Bool
-rowWrong c part i = not (eqb (length part) cycleLength) || not (cond (ltb i (c .ports)) (rowLegal c part i) (rowZero part i))
+rowWrong c part i = not (cond (ltb i (c .ports)) (rowLegal c part i) (rowZero part i))
 
 -- 6, "downstream credit where that output VC already has E"
 unfoldable pub creditPastRoom : Config → List OutputVc → List ℕ → ℕ → Bool
@@ -58,6 +61,9 @@ rule2 s = rule numbers.notSound 1 (λ (p : ℕ). not (sound s))
 abbrev pub rule10 : ℕ → Rule
 rule10 cycle = rule numbers.runFull 1 (λ (p : ℕ). runFull cycle)
 
+abbrev pub rulePart : List ℕ → Rule
+rulePart part = rule numbers.rowWrong 1 (λ (p : ℕ). partWrong part)
+
 abbrev pub rule3 : Config → List ℕ → Rule
 rule3 c part = rule numbers.rowWrong mostPorts (rowWrong c part)
 
@@ -70,10 +76,10 @@ rule4 c inputs part = rule numbers.outOfTurn (c .ports) (outOfTurn c inputs part
 abbrev pub rule5 : Config → List InputVc → List ℕ → Rule
 rule5 c paid part = rule numbers.noSenderCredit (c .ports) (noSenderCredit c paid part)
 
--- "10, then 3, 6, 4, 5"
+-- "10, then 3, 6, 4, 5", and of 3 the part's length first
 abbrev pub rulesFor : Config → ℕ → List InputVc → List InputVc → List OutputVc → List ℕ → List Rule
-rulesFor c cycle inputs paid outputs part = rule10 cycle ∷ rule3 c part ∷ rule6 c outputs part ∷ rule4 c inputs part ∷ rule5 c paid part
-    ∷ []
+rulesFor c cycle inputs paid outputs part =
+    rule10 cycle ∷ rulePart part ∷ rule3 c part ∷ rule6 c outputs part ∷ rule4 c inputs part ∷ rule5 c paid part ∷ []
 
 -- "Cycle: 2, 10, then 3, 6, 4, 5"
 abbrev pub rulesOf : Router → List ℕ → List Rule

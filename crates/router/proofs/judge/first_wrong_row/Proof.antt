@@ -6,7 +6,6 @@ use Prim.Native.Nat.{_-_, _≤_}
 use native.Mathlib.Omega.{arith}
 use Rattle.rules.specs.Numbers.{rowWrong}
 use Rattle.router.proofs.FirstPort.{Left, left-all, left-next, left-found, left-none}
-use Rattle.router.proofs.PortTests.{wrong-is}
 use Rattle.router.proofs.judge.first_wrong_row.Statement.{statement}
 use Rattle.router.proofs.judge.first_wrong_row.Tie as tie
 
@@ -22,13 +21,13 @@ loop-holds c = (search needs, left-all _ _)
 returns : tie.Need-returns Inv-loop μ-loop
 returns c =
     left-found _ _ _ (c .before .before .loop-test .taken) (omega arith) (c .before .before .before .loop .inv .1)
-    (sym (wrong-is _ _ _ (c .before .before .before .before .before .pre) _ (c .before .breaks .ensures)) ∙ c .if1 .taken)
+    (sym (c .before .breaks .ensures) ∙ c .if1 .taken)
 
 loop-again : tie.Need-loop-again Inv-loop μ-loop
 loop-again c = (
   search needs,
   left-next _ _ _ (c .before .before .loop-test .taken) (c .before .before .before .loop .inv .1)
-      (sym (wrong-is _ _ _ (c .before .before .before .before .before .pre) _ (c .before .breaks .ensures)) ∙ c .if1 .left),
+      (sym (c .before .breaks .ensures) ∙ c .if1 .left),
 )
 
 returns-2 : tie.Need-returns-2 Inv-loop μ-loop

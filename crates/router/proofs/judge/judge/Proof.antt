@@ -15,13 +15,13 @@ returns-2 c = c .refusing2 .ensures ∙ by-length _ _ _ _ _ _ (c .before .before
 
 returns-3 : tie.Need-returns-3
 returns-3 c =
-    c .refusing3 .ensures ∙ by-3 _ _ _ _ _ _ (c .before .before .before .before .if1 .left) _
+    c .refusing3 .ensures ∙ by-3 _ _ _ _ _ _ (c .before .before .before .before .if1 .left) (c .before .before .before .if2 .left) _
     (found _ _ _ (c .before .before .first-wrong-row .ensures) (c .before .if3 .taken))
 
 returns-4 : tie.Need-returns-4
 returns-4 c =
     c .refusing4 .ensures
-    ∙ by-6 _ _ _ _ _ _ (c .before .before .before .before .before .before .if1 .left)
+    ∙ by-6 _ _ _ _ _ _ (c .before .before .before .before .before .before .if1 .left) (c .before .before .before .before .before .if2 .left)
     (not-found _ _ _ (c .before .before .before .before .first-wrong-row .ensures) (c .before .before .before .if3 .left))
     _ (found _ _ _ (c .before .before .first-past-room .ensures) (c .before .if4 .taken))
 
@@ -29,7 +29,7 @@ returns-5 : tie.Need-returns-5
 returns-5 c =
     let b = c .before .before .before .before in
     c .refusing5 .ensures
-    ∙ by-4 _ _ _ _ _ _ (b .before .before .before .before .if1 .left)
+    ∙ by-4 _ _ _ _ _ _ (b .before .before .before .before .if1 .left) (b .before .before .before .if2 .left)
     (not-found _ _ _ (b .before .before .first-wrong-row .ensures) (b .before .if3 .left))
     (not-found _ _ _ (b .first-past-room .ensures) (c .before .before .before .if4 .left)) _
     (found _ _ _ (c .before .before .first-out-of-turn .ensures) (c .before .if5 .taken))
@@ -39,7 +39,7 @@ returns-6 c =
     let b = c .before .before .before .before in
     let a = b .before .before .before .before in
     c .refusing6 .ensures
-    ∙ by-5 _ _ _ _ _ _ (a .before .before .if1 .left) (not-found _ _ _ (a .first-wrong-row .ensures)
+    ∙ by-5 _ _ _ _ _ _ (a .before .before .if1 .left) (a .before .if2 .left) (not-found _ _ _ (a .first-wrong-row .ensures)
     (b .before .before .before .if3 .left))
     (not-found _ _ _ (b .before .before .first-past-room .ensures) (b .before .if4 .left))
     (not-found _ _ _ (b .first-out-of-turn .ensures) (c .before .before .before .if5 .left))
@@ -49,7 +49,7 @@ returns-7 : tie.Need-returns-7
 returns-7 c =
     let b = c .before .before .before in
     let a = b .before .before .before .before in
-    by-none _ _ _ _ _ _ (a .before .before .if1 .left) (not-found _ _ _ (a .first-wrong-row .ensures)
+    by-none _ _ _ _ _ _ (a .before .before .if1 .left) (a .before .if2 .left) (not-found _ _ _ (a .first-wrong-row .ensures)
     (b .before .before .before .if3 .left))
     (not-found _ _ _ (b .before .before .first-past-room .ensures) (b .before .if4 .left))
     (not-found _ _ _ (b .first-out-of-turn .ensures) (c .before .before .if5 .left))
