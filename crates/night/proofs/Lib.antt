@@ -13,3 +13,4 @@ pub mod Standing
 pub mod Kept
 pub mod Night
 pub mod Histories
+pub mod OneByte
