@@ -1,20 +1,20 @@
 -- One call of a run prints what the list has for the blocks that it used.
 -- Assumes nothing.
 use mathlib.Core.Path.{_≡_, refl, sym, ap, ap₂, subst, _∙_}
-use mathlib.Core.Bool.{Bool, true, false, cond, _&&_, _||_, true≢false}
+use mathlib.Core.Bool.{Bool, true, false, cond, true≢false}
 use mathlib.Core.List.{List, [], _∷_, _++_}
 use Prim.Native.Nat.{ℕ, _+_, _-_, _*_, _≤_, _<_}
 use native.Mathlib.Omega.{arith}
 use lib.ListN.{length, take, drop}
 use lib.Seq.{take-all}
 use Rattle.base.specs.Numbers as numbers
-use Rattle.base.proofs.Search.{both}
 use Rattle.trace.specs.Bytes.{AreBytes}
 use Rattle.trace.specs.Place.{goodPlace}
 use Rattle.listing.specs.Lines.{Line, text, printable}
 use Rattle.listing.proofs.Ports.{text-append}
 use Rattle.runs.specs.declared.Run.{Run}
-use Rattle.runs.specs.Run.{stoppedInside, placeRight, runSound}
+use Rattle.runs.specs.Run.{runSound}
+use Rattle.runs.proofs.Places.{going-good}
 use Rattle.router.specs.Running.{Writing, blockTaken, blockRoom, blocksIn, lacksBlockRoom, Call, goesOn, CallOutcome, answered, ranOf}
 use Rattle.router.proofs.RunLaws.{run-goes, configured-ongoing, unconfigured-none}
 use Rattle.night.specs.File.{Printed, fileFrom, cutInto, blocksOf}
@@ -29,14 +29,7 @@ use Rattle.night.proofs.PartLines.{block-room, file-end, one-prints, go
 module _ (n : Run) (sound : runSound n ≡ true) (going : n .over ≡ false) where
   -- a run that is not over stands at a place that some file leads to
   pub good-place : goodPlace (n .place) (n .router .cycle) ≡ true
-  unfolding runSound placeRight
-  good-place = go (goodPlace (n .place) (n .router .cycle)) refl
-    where
-      go : (b : Bool) → goodPlace (n .place) (n .router .cycle) ≡ b → b ≡ true
-      go true g = refl
-      go false g =
-          absurd (true≢false (sym (both (placeRight (n .place) (n .router .cycle) (n .over)) _ sound .0)
-          ∙ ap₂ (λ (x o : Bool). x || (o && stoppedInside (n .place) (n .router .cycle))) g going))
+  good-place = going-good n sound going
 
   -- and can take a block
   run-ready : Ready n
