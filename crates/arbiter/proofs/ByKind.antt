@@ -1,10 +1,10 @@
 -- Either kind, case by case: what the definitions say once the tests on what is given have been made.
 -- Assumes nothing.
-use mathlib.Core.Path.{_≡_, refl, ap, ap₂}
+use mathlib.Core.Path.{_≡_, refl, sym, ap, ap₂, _∙_}
 use mathlib.Core.Logic.{_⊎_, inl, inr}
 use mathlib.Core.Bool.{Bool, true, false, cond, not, _&&_, _||_, and-true, and-false, or-true}
 use mathlib.Core.List.{List}
-use mathlib.Core.Option.{Option, none}
+use mathlib.Core.Option.{none}
 use Prim.Native.Nat.{ℕ, _-_, _%_, _^_, _≤_, _<_}
 use native.Mathlib.Nat.{mod-lt}
 use native.Mathlib.Omega.{arith}
@@ -54,13 +54,20 @@ known-matrix places code n e d = go (known-is places code n e .kind)
     go (inl q) = absurd (d q)
     go (inr q) = q
 
-pub usable-is : (places code n pointer : ℕ) → usable places code n pointer ≡ true → (known places code n ≡ true) × (pointer < n)
+pub usable-is : (places code n pointer : ℕ) → usable places code n pointer ≡ true
+    → (known places code n ≡ true) × (code ≡ 1 → pointer < n)
 unfolding usable
-usable-is places code n pointer e = let p = both (known places code n) (ltb pointer n) e in (p .0, ltb-true pointer n (p .1))
+usable-is places code n pointer e =
+    let p = both (known places code n) (not (eqb code 1) || ltb pointer n) e in
+    (p .0, λ one. ltb-true pointer n (ap (λ (b : Bool). not b || ltb pointer n) (sym (eq-eqb code 1 one)) ∙ p .1))
 
-pub usable-holds : (places code n pointer : ℕ) → Known places code n → pointer < n → usable places code n pointer ≡ true
+pub usable-holds : (places code n pointer : ℕ) → Known places code n → (code ≡ 1 → pointer < n) → usable places code n pointer ≡ true
 unfolding usable
-usable-holds places code n pointer k h = ap₂ _&&_ (known-holds places code n k) (lt-ltb pointer n h)
+usable-holds places code n pointer k h = ap₂ _&&_ (known-holds places code n k) (go (eqb code 1) refl)
+  where
+    go : (b : Bool) → eqb code 1 ≡ b → (not b || ltb pointer n) ≡ true
+    go true e = lt-ltb pointer n (h (eqb-true code 1 e))
+    go false e = refl
 
 -- ---- only those below n count
 
@@ -92,10 +99,14 @@ choice-same places code n f g a same = go (usable places code n (a .pointer)) re
     go : (b : Bool) → usable places code n (a .pointer) ≡ b
         → cond b (cond (eqb code 1) (nextInTurn n f (a .pointer)) (champion n f (a .rows))) none
         ≡ cond b (cond (eqb code 1) (nextInTurn n g (a .pointer)) (champion n g (a .rows))) none
-    go true e =
-        let p = usable-is places code n (a .pointer) e in
-        ap₂ (λ (x y : Option ℕ). cond (eqb code 1) x y) (turn-ext n f g (a .pointer) (omega (arith, p .1)) same)
-        (champion-ext n f g (a .rows) same)
+    go true e = kind (eqb code 1) refl
+      where
+        kind : (d : Bool) → eqb code 1 ≡ d
+            → cond d (nextInTurn n f (a .pointer)) (champion n f (a .rows)) ≡ cond d (nextInTurn n g (a .pointer)) (champion n g (a .rows))
+        kind true q =
+            let l = usable-is places code n (a .pointer) e .1 (eqb-true code 1 q) in
+            turn-ext n f g (a .pointer) (omega arith) same
+        kind false q = champion-ext n f g (a .rows) same
     go false e = refl
 
 module _ (places code n word : ℕ) (a : Arbiter) where
@@ -109,7 +120,7 @@ module _ (places code n word : ℕ) (a : Arbiter) where
   choice-turn e k =
       let p = usable-is places code n (a .pointer) e in
       rw (e, eq-eqb code 1 k)
-      (turn-ext n (bit (word % 2 ^ n)) (bit word) (a .pointer) (omega (arith, p .1)) (λ i h. bit-mod word n i h))
+      (turn-ext n (bit (word % 2 ^ n)) (bit word) (a .pointer) (omega (arith, p .1 k)) (λ i h. bit-mod word n i h))
 
   pub choice-champion : usable places code n (a .pointer) ≡ true → (code ≡ 1 → ⊥)
       → champion n (bit (word % 2 ^ n)) (a .rows) ≡ choice places code n (bit word) a

@@ -249,13 +249,13 @@ moved-sound places code n w a s = go (ltb w n) refl (s .given .kind)
     room : n ≤ length (a .rows)
     room = let k = s .given .room in let l = s .long in omega arith
 
-    is-usable : a .pointer < n → usable places code n (a .pointer) ≡ true
-    is-usable h = usable-holds places code n (a .pointer) (s .given) h
+    is-usable : usable places code n (a .pointer) ≡ true
+    is-usable = usable-holds places code n (a .pointer) (s .given) (s .pointer-below)
 
     go : (b : Bool) → ltb w n ≡ b → (code ≡ 1) ⊎ (code ≡ 2) → Sound places code n (moved places code n w a)
     go false e q = subst (Sound places code n) (moved-nobody places code n w a (ltb-false w n e)) s
     go true e (inl one) =
-        subst (Sound places code n) (moved-turn places code n w a (is-usable (s .pointer-below one)) (ltb-true w n e) one)
+        subst (Sound places code n) (moved-turn places code n w a is-usable (ltb-true w n e) one)
         (record {
           given = s .given;
           long = s .long;
@@ -270,7 +270,7 @@ moved-sound places code n w a s = go (ltb w n) refl (s .given .kind)
         let low : w < n = ltb-true w n e in
         let at-zero = s .no-pointer two in
         let some = s .given .some in
-        subst (Sound places code n) (moved-defeat places code n w a (is-usable (omega arith)) low (λ one. one-not-two code one two))
+        subst (Sound places code n) (moved-defeat places code n w a is-usable low (λ one. one-not-two code one two))
         (record {
           given = s .given;
           long = length-defeated n w (a .rows) ∙ s .long;

@@ -219,7 +219,8 @@ module _ (places code n : ℕ) (ask : ℕ → Bool) (a : Arbiter) where
   winner-asks w e = go (usable places code n (a .pointer)) refl (eqb code 1) refl
     where
       go : (b : Bool) → usable places code n (a .pointer) ≡ b → (d : Bool) → eqb code 1 ≡ d → (w < n) × (ask w ≡ true)
-      go true f true g = turn-asks n (a .pointer) ask (usable-is places code n (a .pointer) f .1) w (by-kind (some w) e true f true g)
+      go true f true g = turn-asks n (a .pointer) ask (usable-is places code n (a .pointer) f .1 (eqb-true code 1 g)) w
+          (by-kind (some w) e true f true g)
       go true f false g = let c = champion-is n ask (a .rows) w (by-kind (some w) e true f false g) in (c .0, c .1)
       go false f d g = absurd (Option·none-ne-some w (by-kind (some w) e false f d g))
 
@@ -236,33 +237,29 @@ module _ (places code n : ℕ) (ask : ℕ → Bool) (a : Arbiter) where
   no-request-nothing-moves off = ap (λ (o : Option ℕ). after places code n o a) (no-request-no-winner off)
 
   module _ (s : Sound places code n a) where
-    pointer-low : a .pointer < n
-    pointer-low = go (s .given .kind)
-      where
-        go : (code ≡ 1) ⊎ (code ≡ 2) → a .pointer < n
-        go (inl one) = s .pointer-below one
-        go (inr two) = let z = s .no-pointer two in let l = s .given .some in omega arith
+    is-usable : usable places code n (a .pointer) ≡ true
+    is-usable = usable-holds places code n (a .pointer) (s .given) (s .pointer-below)
 
     turn-choice : code ≡ 1 → choice places code n ask a ≡ nextInTurn n ask (a .pointer)
     unfolding choice
-    turn-choice one = rw (usable-holds places code n (a .pointer) (s .given) pointer-low, eq-eqb code 1 one)
+    turn-choice one = rw (is-usable, eq-eqb code 1 one)
 
     matrix-choice : code ≡ 2 → choice places code n ask a ≡ champion n ask (a .rows)
     unfolding choice
-    matrix-choice two = rw (usable-holds places code n (a .pointer) (s .given) pointer-low, ne-eqb code 1 (λ one. omega arith))
+    matrix-choice two = rw (is-usable, ne-eqb code 1 (λ one. omega arith))
 
     -- a sound arbiter that is asked has a winner
     pub request-has-winner : (i : ℕ) → i < n → ask i ≡ true → (w : ℕ) × (choice places code n ask a ≡ some w)
     request-has-winner i h t = go (s .given .kind)
       where
         go : (code ≡ 1) ⊎ (code ≡ 2) → (w : ℕ) × (choice places code n ask a ≡ some w)
-        go (inl one) = let q = turn-somebody n (a .pointer) ask pointer-low i h t in (q .0, turn-choice one ∙ q .1)
+        go (inl one) = let q = turn-somebody n (a .pointer) ask (s .pointer-below one) i h t in (q .0, turn-choice one ∙ q .1)
         go (inr two) = let q = champion-somebody n ask (a .rows) (s .order two) i h t in (q .0, matrix-choice two ∙ q .1)
 
     -- round robin: the winner is "the first requester at or after" the pointer, "cyclically", and the only one
     pub winner-first-in-turn : code ≡ 1 → (w : ℕ) → choice places code n ask a ≡ some w
         → (j : ℕ) → j < n → ask j ≡ true → turnsFrom n (a .pointer) w ≤ turnsFrom n (a .pointer) j
-    winner-first-in-turn one w e = turn-nearest n (a .pointer) ask pointer-low w (sym (turn-choice one) ∙ e)
+    winner-first-in-turn one w e = turn-nearest n (a .pointer) ask (s .pointer-below one) w (sym (turn-choice one) ∙ e)
 
     pub first-in-turn-wins : code ≡ 1 → (w : ℕ) → w < n → ask w ≡ true
         → ((j : ℕ) → j < n → ask j ≡ true → turnsFrom n (a .pointer) w ≤ turnsFrom n (a .pointer) j) → choice places code n ask a ≡ some w
@@ -271,7 +268,7 @@ module _ (places code n : ℕ) (ask : ℕ → Bool) (a : Arbiter) where
         let r = winner-asks (q .0) (q .1) in
         let x = winner-first-in-turn one (q .0) (q .1) w h t in
         let y = nearest (q .0) (r .0) (r .1) in
-        q .1 ∙ ap some (turns-differ n (a .pointer) (q .0) w pointer-low (r .0) h (omega arith))
+        q .1 ∙ ap some (turns-differ n (a .pointer) (q .0) w (s .pointer-below one) (r .0) h (omega arith))
 
     -- matrix: the winner "beats every other requester", and is the only one that does
     pub winner-beats-others : code ≡ 2 → (w : ℕ) → choice places code n ask a ≡ some w → BeatsOthers n ask (a .rows) w

@@ -1,7 +1,7 @@
 -- One arbiter of either kind, with room for `places` requesters and used for n of them: its choice, its move, fresh, sound.
--- Where the width, the kind or the pointer is out of range the document has no number: nothing is chosen and nothing moves.
+-- Where the width, the kind or round robin's pointer is out of range the document has no number: nothing is chosen and nothing moves.
 -- Assumes nothing.
-use mathlib.Core.Bool.{Bool, cond, _&&_, _||_}
+use mathlib.Core.Bool.{Bool, cond, not, _&&_, _||_}
 use mathlib.Core.List.{List}
 use mathlib.Core.Option.{Option, some, none}
 use Prim.Native.Nat.{ℕ}
@@ -51,9 +51,9 @@ matrix = 2
 unfoldable pub known : ℕ → ℕ → ℕ → Bool
 known places code n = (eqb code roundRobin || eqb code matrix) && (leb 1 n && leb n places)
 
--- known, and the pointer is below the width
+-- known, and of round robin, which alone has a pointer, it is below the width
 unfoldable pub usable : ℕ → ℕ → ℕ → ℕ → Bool
-usable places code n pointer = known places code n && ltb pointer n
+usable places code n pointer = known places code n && (not (eqb code roundRobin) || ltb pointer n)
 
 -- who wins among those of the n that ask
 unfoldable pub choice : ℕ → ℕ → ℕ → (ℕ → Bool) → Arbiter → Option ℕ

@@ -4,7 +4,7 @@
 use mathlib.Core.Bool.{Bool, not, _&&_, _||_, xor}
 use mathlib.Core.List.{List, [], _∷_, _++_}
 use mathlib.Core.Option.{Option}
-use Prim.Native.Nat.{ℕ, zero, suc, _^_}
+use Prim.Native.Nat.{ℕ, zero, suc, _+_, _-_, _^_}
 use lib.Dec.{eqb, ltb}
 use lib.ListN.{getD, set}
 use Rattle.base.specs.Bits.{bit, wordOf, withBit}
@@ -57,4 +57,4 @@ within n rows = every n (λ (i : ℕ). ltb (getD rows i 0) (2 ^ n))
 
 -- of the rows, those from k on are zero
 unfoldable pub blankFrom : ℕ → ℕ → List ℕ → Bool
-blankFrom k places rows = every places (λ (i : ℕ). ltb i k || eqb (getD rows i 0) 0)
+blankFrom k places rows = every (places - k) (λ (i : ℕ). eqb (getD rows (k + i) 0) 0)

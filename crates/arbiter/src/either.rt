@@ -32,11 +32,15 @@ fn is_known(places: u32, code: u8, n: u32) -> bool
     code == MATRIX
 }
 
+// A matrix has no pointer to be asked for.
 fn is_usable(places: u32, code: u8, n: u32, pointer: u32) -> bool
     ensures { λ r. ⌜ r ≡ usable places code n pointer ⌝ }
 {
     if !is_known(places, code, n) {
         return false;
+    }
+    if code != ROUND_ROBIN {
+        return true;
     }
     pointer < n
 }

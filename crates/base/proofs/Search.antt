@@ -1,4 +1,4 @@
--- Laws of `every` and `firstFrom`, and that the trailing zeros of a word are the first of its bits.
+-- Laws of `every`, `any` and `firstFrom`, and that the trailing zeros of a word are the first of its bits.
 -- Assumes nothing.
 use mathlib.Core.Path.{_≡_, refl, sym, ap, subst, _∙_}
 use mathlib.Core.Logic.{_⊎_, inl, inr}
@@ -12,7 +12,7 @@ use lib.Count.{trailingZeros, under}
 use lib.Dec.{eqb}
 use borrow.Author.Tests.{eqb-true, eqb-false}
 use Rattle.base.specs.Bits.{bit}
-use Rattle.base.specs.Search.{firstFrom, every}
+use Rattle.base.specs.Search.{firstFrom, every, any}
 use Rattle.base.proofs.Bits.{digit, bit-first, bit-half}
 
 -- both halves of an `&&`
@@ -70,6 +70,26 @@ not-every n test i h e = go (every n test) refl
     go : (b : Bool) → every n test ≡ b → b ≡ false
     go true q = absurd (true≢false (sym (every-at n test q i h) ∙ e))
     go false q = refl
+
+-- of two tests the second suffices
+pub or-else : (a : Bool) {b : Bool} → b ≡ true → (a || b) ≡ true
+or-else true e = refl
+or-else false e = e
+
+-- one that passes is enough
+pub any-at : (n : ℕ) (test : ℕ → Bool) (i : ℕ) → i < n → test i ≡ true → any n test ≡ true
+unfolding any
+any-at zero test i h e = absurd (not-suc-le-zero h)
+any-at (suc n) test i h e = go (eqb i n) refl (λ l. any-at n test i l e)
+  where
+    go : (b : Bool) → eqb i n ≡ b → (i < n → any n test ≡ true) → (any n test || test n) ≡ true
+    go true q rest = or-else (any n test) (ap test (sym (eqb-true i n q)) ∙ e)
+    go false q rest = ap (λ (b : Bool). b || test n) (rest (lt-of-le-ne (omega arith) (eqb-false i n q)))
+
+pub any-none : (n : ℕ) (test : ℕ → Bool) → ((i : ℕ) → i < n → test i ≡ false) → any n test ≡ false
+unfolding any
+any-none zero test f = refl
+any-none (suc n) test f = ap (λ (b : Bool). b || test n) (any-none n test (λ i h. f i (omega arith))) ∙ f n (le-refl (suc n))
 
 -- what a search that found w says: w is in the range and passes, and nothing before it does
 pub record First (test : ℕ → Bool) (k i w : ℕ) : Type 0 where

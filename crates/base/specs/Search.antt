@@ -1,6 +1,6 @@
--- The first number that passes a test, and whether all of them do.
+-- The first number that passes a test, whether all of them do, and whether some does.
 -- Assumes nothing.
-use mathlib.Core.Bool.{Bool, true, cond, _&&_}
+use mathlib.Core.Bool.{Bool, true, false, cond, _&&_, _||_}
 use mathlib.Core.Option.{Option, some, none}
 use Prim.Native.Nat.{ℕ, zero, suc}
 
@@ -13,6 +13,11 @@ firstFrom test (suc k) i = cond (test i) (some i) (firstFrom test k (suc i))
 unfoldable pub every : ℕ → (ℕ → Bool) → Bool
 every zero test = true
 every (suc n) test = every n test && test n
+
+-- some number below n passes the test
+unfoldable pub any : ℕ → (ℕ → Bool) → Bool
+any zero test = false
+any (suc n) test = any n test || test n
 
 -- a, or where there is none b
 unfoldable pub orElse : Option ℕ → Option ℕ → Option ℕ

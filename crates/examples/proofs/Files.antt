@@ -4,6 +4,7 @@ use mathlib.Core.Path.{_≡_, refl}
 use mathlib.Core.Bool.{xor}
 use mathlib.Core.List.{List, [], _∷_, _++_}
 use Prim.Native.Nat.{ℕ, _-_}
+use lib.ListN.{set}
 use Rattle.base.specs.Flit.{flitOf, kindOf, destinationOf, payloadOf, startsKind, endsKind, letterOf}
 use Rattle.base.specs.Search.{firstFrom, every, orElse}
 use Rattle.base.specs.Sizes.{inRange, firstIllegal, illegalField}
@@ -66,6 +67,9 @@ pub record Printed : Type 0 where
   pub depth-0 : listOf (deep 0 0 104) ≡ refusedWith 49 48 51
   -- "Any byte after the end block, however few follow, gives 8.": R 8 6 0 in place of the E line
   pub byte-after : listOf (file ++ 0 ∷ []) ≡ listingLines ++ refusedWith 56 54 48
+  -- "Any one byte changed, in a block whose check holds, must be noticed.": the payload of cycle 0, R 7 0 0; the end total, R 7 6 0
+  pub payload-changed : listOf (set file 527 0x12) ≡ refusedWith 55 48 48
+  pub total-changed : listOf (set file 1035 7) ≡ listingLines ++ refusedWith 55 54 48
 
 pub printed : Printed
 unfolding xor firstFrom every orElse inRange firstIllegal illegalField flitOf kindOf destinationOf payloadOf startsKind endsKind
@@ -80,4 +84,14 @@ unfolding xor firstFrom every orElse inRange firstIllegal illegalField flitOf ki
     unusedWrong orderWrong totalWrong formWrong bytesFollow blockWrong fieldWrong readOf taken byField trace.judged cyclesThen fileFrom
     cutInto printedOf listOf glyph decimalWithin decimal lastDigits hex spaced print text byPort creditLine flitLine cycleLines
     flitLines letterOf
-printed = record { whole-payload = refl; nothing-read = refl; depth-16 = refl; depth-17 = refl; depth-0 = refl; byte-after = refl }
+printed =
+    record {
+      whole-payload = refl;
+      nothing-read = refl;
+      depth-16 = refl;
+      depth-17 = refl;
+      depth-0 = refl;
+      byte-after = refl;
+      payload-changed = refl;
+      total-changed = refl;
+    }

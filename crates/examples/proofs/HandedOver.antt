@@ -5,7 +5,7 @@ use mathlib.Core.Bool.{xor}
 use mathlib.Core.List.{[], _∷_, _++_}
 use Prim.Native.Nat.{_-_}
 use Rattle.base.specs.Flit.{flitOf, kindOf, destinationOf, payloadOf, startsKind, endsKind, letterOf}
-use Rattle.base.specs.Search.{firstFrom, every, orElse}
+use Rattle.base.specs.Search.{firstFrom, every, any, orElse}
 use Rattle.base.specs.Sizes.{inRange, firstIllegal, illegalField}
 use Rattle.arbiter.specs.RoundRobin.{nextInTurn, pointerAfter}
 use Rattle.arbiter.specs.Matrix.{blankFrom}
@@ -43,7 +43,7 @@ use lib.ListN.{replicate}
 use Rattle.listing.specs.Lines.{valuesOf, allInRange, printable}
 use Rattle.listing.specs.Writing.{put, lacksRoom, written}
 use Rattle.state.specs.Blank.{noSizes, arbitersShaped, blank}
-use Rattle.runs.specs.Run.{started, within, stoppedInside, placeRight, runSound}
+use Rattle.runs.specs.Run.{started, betweenBlocks, stoppedInside, placeRight, runSound}
 use Rattle.router.specs.Running.{wrote, endedBy, cycled, cyclesFrom, blockTaken, lacksBlockRoom, goesOn, ranOf}
 use Rattle.floor.specs.Handing.{Handed, passed, finished, begun, handedOver}
 
@@ -64,6 +64,7 @@ unfolding xor firstFrom every orElse inRange firstIllegal illegalField flitOf ki
     zeros sum checkOf checkHolds bodyEnd mayHold goodPlace placeUnsound blockShort checkWrong kindWrong numberWrong countWrong
     unusedWrong orderWrong totalWrong formWrong bytesFollow blockWrong fieldWrong readOf taken byField trace.judged cyclesThen fileFrom
     cutInto printedOf listOf glyph decimalWithin decimal lastDigits hex spaced print text byPort creditLine flitLine cycleLines
-    flitLines letterOf valuesOf allInRange printable put lacksRoom written noSizes arbitersShaped blank started within stoppedInside
-    placeRight runSound wrote endedBy cycled cyclesFrom blockTaken lacksBlockRoom goesOn ranOf passed finished begun handedOver
+    flitLines letterOf valuesOf allInRange printable put lacksRoom written noSizes arbitersShaped blank started any
+    betweenBlocks stoppedInside placeRight runSound wrote endedBy cycled cyclesFrom blockTaken lacksBlockRoom goesOn ranOf passed
+    finished begun handedOver
 listing-handed = refl

@@ -2,7 +2,7 @@
 -- Assumes nothing.
 use mathlib.Core.Path.{_≡_, refl, sym, ap, ap₂, subst, _∙_}
 use mathlib.Core.Logic.{_⊎_, inl, inr}
-use mathlib.Core.Bool.{Bool, true, false, cond, not, _&&_, _||_, true≢false}
+use mathlib.Core.Bool.{Bool, true, false, cond, not, true≢false}
 use mathlib.Core.List.{List, [], _∷_, _++_, append-nil}
 use Prim.Native.Nat.{ℕ, _+_, _-_, _*_, _≤_, _<_}
 use native.Mathlib.Omega.{arith}
@@ -10,7 +10,6 @@ use lib.ListN.{length, take, drop, length-drop}
 use lib.Seq.{length-take-le, take-nil, take-length, take-append-le, drop-append-le, drop-append-seam}
 use Rattle.base.specs.Numbers as numbers
 use Rattle.base.proofs.Lists.{take-inside}
-use Rattle.base.proofs.Search.{both}
 use Rattle.trace.specs.Bytes.{AreBytes}
 use Rattle.trace.specs.Place.{goodPlace}
 use Rattle.listing.specs.Lines.{Line, text, printable}
@@ -18,7 +17,8 @@ use Rattle.listing.specs.Writing.{lacksRoom}
 use Rattle.listing.proofs.Outcomes.{room-there}
 use Rattle.listing.proofs.Ports.{text-append}
 use Rattle.runs.specs.declared.Run.{Run}
-use Rattle.runs.specs.Run.{stoppedInside, placeRight, runSound}
+use Rattle.runs.specs.Run.{runSound}
+use Rattle.runs.proofs.Places.{going-good}
 use Rattle.router.specs.Running.{Writing, blockTaken, blocksIn, blockAt, lacksBlockRoom, Call, begins, takes, stops, goesOn}
 use Rattle.router.specs.Running.{CallOutcome, answered, ranOf}
 use Rattle.router.proofs.Going.{piece-bytes}
@@ -38,14 +38,7 @@ use Rattle.night.proofs.Used.{Cut, goes-cut, short-over}
 module _ (n : Run) (sound : runSound n ≡ true) (going : n .over ≡ false) where
   -- a run that is not over stands at a place that some file leads to
   pub good-place : goodPlace (n .place) (n .router .cycle) ≡ true
-  unfolding runSound placeRight
-  good-place = go (goodPlace (n .place) (n .router .cycle)) refl
-    where
-      go : (b : Bool) → goodPlace (n .place) (n .router .cycle) ≡ b → b ≡ true
-      go true g = refl
-      go false g =
-          absurd (true≢false (sym (both (placeRight (n .place) (n .router .cycle) (n .over)) _ sound .0)
-          ∙ ap₂ (λ (x o : Bool). x || (o && stoppedInside (n .place) (n .router .cycle))) g going))
+  good-place = going-good n sound going
 
   -- and can take a block
   run-ready : Ready n

@@ -24,7 +24,7 @@ cut-same (suc n) (suc m) (b ∷ l) h g =
     ap (λ (bs : List (List ℕ)). take 512 (b ∷ l) ∷ bs) (cut-same n m (drop 512 (b ∷ l)) (omega (arith, e, h)) (omega (arith, e, g)))
 
 -- dropping as many as were taken
-drop-taken : (n : ℕ) (l : List ℕ) → drop (length (take n l)) l ≡ drop n l
+pub drop-taken : (n : ℕ) (l : List ℕ) → drop (length (take n l)) l ≡ drop n l
 drop-taken zero l = refl
 drop-taken (suc n) [] = refl
 drop-taken (suc n) (x ∷ l) = drop-taken n l

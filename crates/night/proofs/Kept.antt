@@ -4,8 +4,8 @@ use mathlib.Core.Path.{_≡_, refl, sym, ap, ap₂, subst, _∙_}
 use mathlib.Core.Bool.{Bool, true, false, cond, not, _&&_, _||_, true≢false}
 use mathlib.Core.List.{List}
 use mathlib.Core.Option.{Option, some, none}
-use Prim.Native.Nat.{ℕ, zero, suc, _+_, _-_, _*_, _≤_, _<_}
-use native.Mathlib.Nat.{add-zero, zero-add}
+use Prim.Native.Nat.{ℕ, zero, suc, _+_, _-_, _*_, _≤_}
+use native.Mathlib.Nat.{add-zero, zero-add, le-refl}
 use native.Mathlib.Omega.{arith}
 use lib.Dec.{eqb, leb}
 use lib.ListN.{length}
@@ -13,7 +13,7 @@ use borrow.Author.Tests.{le-leb, leb-true, eqb-true, ne-eqb}
 use Rattle.base.specs.Numbers as numbers
 use Rattle.base.specs.Sizes.{cycleLimit, noConfig}
 use Rattle.base.proofs.Configurations.{legal-exact}
-use Rattle.base.proofs.Search.{both}
+use Rattle.base.proofs.Search.{both, or-else, any-at}
 use Rattle.state.specs.Blank.{blank}
 use Rattle.state.specs.Fresh.{freshRouter}
 use Rattle.state.specs.Sound.{sound}
@@ -23,7 +23,7 @@ use Rattle.state.proofs.FreshIsSound.{fresh-is-sound}
 use Rattle.trace.specs.Bytes.{AreBytes}
 use Rattle.trace.specs.declared.place.Place.{Place}
 use Rattle.trace.specs.Blocks.{kindOf, heldOf, configOf, blockLength}
-use Rattle.trace.specs.Place.{goodPlace, withoutCycles}
+use Rattle.trace.specs.Place.{cycleBlocks, goodPlace}
 use Rattle.trace.specs.Judged.{Read, aConfiguration, someCycles, theEnd, noMore, BlockOutcome, accepted, nextPlace, readOf, taken, judged}
 use Rattle.trace.specs.Way.{cyclesIn}
 use Rattle.trace.proofs.Exactness.{accepted-taken}
@@ -32,7 +32,8 @@ use Rattle.trace.proofs.Places.{Good, nothing, after, good-is}
 use Rattle.trace.proofs.Ways.{accepted-leads-on}
 use Rattle.listing.specs.Writing.{lacksRoom}
 use Rattle.runs.specs.declared.Run.{Run}
-use Rattle.runs.specs.Run.{started, before, within, stoppedInside, placeRight, runSound}
+use Rattle.runs.specs.Run.{started, betweenBlocks, before, stoppedInside, placeRight, runSound}
+use Rattle.runs.proofs.Places.{between-is, between-holds, between-right, right-between, going-good}
 use Rattle.router.specs.Running.{Writing, wrote, onRun, withPlace, withRouter, finished, endedBy, cyclesFrom, byOutcome, blockTaken}
 use Rattle.router.specs.Running.{blocksIn, blockAt, lacksBlockRoom, Call, begins, takes, stops, goesOn, refusedWith, answered, ranOf}
 use Rattle.state.proofs.Legal.{sound-cycle}
@@ -41,7 +42,7 @@ use Rattle.night.proofs.Standing.{Stands, Ran, through, stopped, cycles
 
 -- before the first block of a file
 pub started-sound : runSound started ≡ true
-unfolding runSound started placeRight goodPlace freshRouter
+unfolding runSound started placeRight betweenBlocks goodPlace freshRouter
 started-sound = ap₂ _&&_ (blank-exactly (freshRouter noConfig) .1 refl) refl
 
 -- the clauses behind the place, after the configuration block and before it
@@ -62,28 +63,10 @@ led-holds : (n : Run) → Led n → runSound n ≡ true
 unfolding runSound
 led-holds n l = ap₂ _&&_ (l .right) (l .rest)
 
--- a good place is right, whether the run is over or not; of a run that goes on no other is
-good-right : (p : Place) (c : ℕ) (over : Bool) → goodPlace p c ≡ true → placeRight p c over ≡ true
-unfolding placeRight
-good-right p c over e = rw e
-
-pub right-good : (p : Place) (c : ℕ) (over : Bool) → over ≡ false → placeRight p c over ≡ true → goodPlace p c ≡ true
-unfolding placeRight
-right-good p c over o e = go (goodPlace p c) (ap (λ (b : Bool). goodPlace p c || (b && stoppedInside p c)) (sym o) ∙ e)
-  where
-    go : (b : Bool) → (b || false) ≡ true → b ≡ true
-    go true f = refl
-    go false f = f
-
--- of two tests the second suffices
-or-else : (a : Bool) {b : Bool} → b ≡ true → (a || b) ≡ true
-or-else true e = refl
-or-else false e = e
-
 -- before the configuration block one run goes on: the one that a file starts with
 pub unconfigured-started : (n : Run) → runSound n ≡ true → n .place .configured ≡ false → n .over ≡ false → n ≡ started
 unfolding started
-unconfigured-started n e k o = go (good-is (n .place) (n .router .cycle) (right-good (n .place) (n .router .cycle) (n .over) o (l .right)))
+unconfigured-started n e k o = go (good-is (n .place) (n .router .cycle) (going-good n e o))
   where
     l : Led n
     l = led-is n e
@@ -100,16 +83,7 @@ unconfigured-started n e k o = go (good-is (n .place) (n .router .cycle) (right-
           flits = eqb-true (n .flits) 0 (rest .1) t;
           over = o t;
         }
-    go (after m a d h) = absurd (true≢false (sym a ∙ k))
-
--- a run that stopped after j accepted cycles of a block that was taken at q with c cycles
-within-found : (q : Place) (c : ℕ) → goodPlace q c ≡ true → (n j : ℕ) → j < n → within n q (c + j) ≡ true
-unfolding within
-within-found q c g (suc n) zero l = rw (add-zero c, g)
-within-found q c g (suc n) (suc j) l =
-    let one : 1 ≤ c + suc j = omega arith in
-    let less : c + suc j - 1 ≡ c + j = omega arith in
-    or-else (goodPlace q (c + suc j)) (ap₂ _&&_ (le-leb 1 (c + suc j) one) (ap (within n q) less ∙ within-found q c g n j (omega arith)))
+    go (after m a d r h) = absurd (true≢false (sym a ∙ k))
 
 -- after it the test says where the run stands, and no more
 stands-led : (q : Place) (c : ℕ) (n : Run) → Stands q c n → q .configured ≡ true → placeRight q c (n .over) ≡ true → Led n
@@ -165,12 +139,15 @@ module _ (p : Place) (l : List ℕ) where
         λ t. record { number = number t; configured = sym k t; ended = (goes-on ∙ sym e) t }
 
     -- so that a run which stopped in the block is at a right place
-    stopped-right : (c j : ℕ) → goodPlace p c ≡ true → j ≤ 6 → placeRight (nextPlace p l) (c + j) true ≡ true
+    stopped-right : (c j : ℕ) → betweenBlocks p c ≡ true → j ≤ 6 → placeRight (nextPlace p l) (c + j) true ≡ true
     unfolding placeRight stoppedInside
-    stopped-right c j g m =
-        or-else (goodPlace (nextPlace p l) (c + j))
+    stopped-right c j b m =
+        let less : c + j - j ≡ c = omega arith in
+        or-else (betweenBlocks (nextPlace p l) (c + j))
         (ap₂ _&&_ (le-leb 1 (p .number + 1) (omega arith))
-        (ap₂ _&&_ (ap not goes-on) (ap (λ (q : Place). within 7 q (c + j)) before-next ∙ within-found p c g 7 j (omega arith))))
+        (ap₂ _&&_ (ap not goes-on)
+        (any-at 7 (λ (k : ℕ). leb k (c + j) && betweenBlocks (before (nextPlace p l)) (c + j - k)) j (omega arith)
+        (ap₂ _&&_ (le-leb j (c + j) (omega arith)) (ap₂ betweenBlocks before-next less ∙ b)))))
 
 -- a block of a run that is not over
 module _ (block : List ℕ) (bytes : AreBytes block) (w : Writing) (o : w .run .over ≡ false) (led : Led (w .run)) where
@@ -183,30 +160,35 @@ module _ (block : List ℕ) (bytes : AreBytes block) (w : Writing) (o : w .run .
   abbrev c : ℕ
   c = w .run .router .cycle
 
-  good : goodPlace p c ≡ true
-  good = right-good p c (n .over) o (led .right)
+  between : betweenBlocks p c ≡ true
+  between = right-between p c (n .over) o (led .right)
 
   finished-led : Led (finished n)
-  finished-led = record { right = good-right p c true good; rest = led .rest }
+  finished-led = record { right = between-right p c true between; rest = led .rest }
 
   -- the place after an accepted block, with the cycles that it holds added
   leads : (r : BlockOutcome) → judged p c block ≡ r → r .number ≡ numbers.done → c + cyclesIn (r .read) ≤ cycleLimit
-      → goodPlace (r .place) (c + cyclesIn (r .read)) ≡ true
+      → betweenBlocks (r .place) (c + cyclesIn (r .read)) ≡ true
   leads r e d =
-      subst (λ (r : BlockOutcome). c + cyclesIn (r .read) ≤ cycleLimit → goodPlace (r .place) (c + cyclesIn (r .read)) ≡ true) e
-      (accepted-leads-on p c block good (ap (λ (r : BlockOutcome). r .number) e ∙ d))
+      subst (λ (r : BlockOutcome). c + cyclesIn (r .read) ≤ cycleLimit → betweenBlocks (r .place) (c + cyclesIn (r .read)) ≡ true) e
+      (λ limit.
+      let b = between-is p c between in
+      let s = accepted-leads-on false p c block bytes (record { good = b .0; each = λ q. b .1 })
+      (ap (λ (r : BlockOutcome). r .number) e ∙ d)
+      (cyclesIn (judged p c block .read)) (record { most = le-refl (cyclesIn (judged p c block .read)); all = λ q. refl }) limit in
+      between-holds (judged p c block .place) (c + cyclesIn (judged p c block .read)) (s .good) (s .each refl))
 
   -- before the configuration block
   none-yet : p .configured ≡ false → (c ≡ 0) × (n .flits ≡ 0)
   none-yet k = (
-    go (good-is p c good),
+    go (good-is p c (between-is p c between .0)),
     eqb-true (n .flits) 0 (both (blank (n .router)) (eqb (n .flits) 0)
         (ap (λ (b : Bool). behind b n) (sym k) ∙ led .rest) .1),
   )
     where
       go : Good p c → c ≡ 0
       go (nothing a b d z) = z
-      go (after m a d h) = absurd (true≢false (sym a ∙ k))
+      go (after m a d r h) = absurd (true≢false (sym a ∙ k))
 
   abbrev q : Place
   q = nextPlace p block
@@ -217,12 +199,12 @@ module _ (block : List ℕ) (bytes : AreBytes block) (w : Writing) (o : w .run .
     ran-led m (through f s) =
         let y = sound-cycle (s .sound) in
         let x = s .cycle in
-        stands-led q (c + h) m s refl (good-right q (c + h) (m .over) (leads (accepted (someCycles h) q) e refl (omega (arith, x, y))))
+        stands-led q (c + h) m s refl (between-right q (c + h) (m .over) (leads (accepted (someCycles h) q) e refl (omega (arith, x, y))))
     ran-led m (stopped j l f s) =
         let is = ap (λ (r : BlockOutcome). r .number) e in
         let kind = cycles-kind p block (ap (λ (r : BlockOutcome). holdsCycles (r .read)) (sym (accepted-taken p c block is) ∙ e)) in
         stands-led q (c + j) m s refl
-        (ap (λ (b : Bool). placeRight q (c + j) b) f ∙ stopped-right p block k (kind .0) (kind .1) c j good l)
+        (ap (λ (b : Bool). placeRight q (c + j) b) f ∙ stopped-right p block k (kind .0) (kind .1) c j between l)
 
     held-led : h ≤ 7 → Led (cyclesFrom block 0 h (onRun (withPlace q) w) .run)
     held-led most =
@@ -247,14 +229,14 @@ module _ (block : List ℕ) (bytes : AreBytes block) (w : Writing) (o : w .run .
             omega (arith, y);
         cycle = refl;
       }) refl
-      (good-right q 0 (n .over) (ap (goodPlace q) (sym same) ∙ leads (accepted (aConfiguration (configOf block)) q) e refl limit))
+      (between-right q 0 (n .over) (ap (betweenBlocks q) (sym same) ∙ leads (accepted (aConfiguration (configOf block)) q) e refl limit))
   found-led _ e (holds a l h _) = held-led (heldOf block) a e h
   found-led _ e (ends a _) =
       let s = led-stands n led a in
       let limit : c + 0 ≤ cycleLimit = let y = sound-cycle (s .sound) in omega (arith, y) in
       stands-led q (c + 0) (withPlace q n)
       (record { place = refl; sound = s .sound; few = s .few; cycle = sym (add-zero c) }) refl
-      (good-right q (c + 0) (n .over) (leads (accepted theEnd q) e refl limit))
+      (between-right q (c + 0) (n .over) (leads (accepted theEnd q) e refl limit))
   found-led _ e (is-over a) = finished-led
 
   pub block-led : Led (blockTaken block w .run)
@@ -293,15 +275,22 @@ run-kept n part buffer at bytes e = go (runSound n) (lacksRoom buffer at)
 
 -- a run that goes on has read no more than the configuration block, a block for each accepted cycle, and the end block
 pub place-early : (n : Run) → runSound n ≡ true → n .over ≡ false → n .place .number ≤ cycleLimit + 2
-place-early n e o = go (good-is (n .place) (n .router .cycle) (right-good (n .place) (n .router .cycle) (n .over) o (led-is n e .right)))
+place-early n e o = go (good-is p c (stands .0))
   where
-    without : (p : Place) → withoutCycles p ≤ 2
-    without p = which (p .ended)
-      where
-        which : (b : Bool) → cond b 2 1 ≤ 2
-        which true = omega arith
-        which false = omega arith
+    p : Place
+    p = n .place
+
+    c : ℕ
+    c = n .router .cycle
+
+    stands : (goodPlace (n .place) (n .router .cycle) ≡ true) × (cycleBlocks (n .place) ≤ n .router .cycle)
+    stands = between-is (n .place) (n .router .cycle)
+        (right-between (n .place) (n .router .cycle) (n .over) o (led-is n e .right))
+
+    without : (b : Bool) → cond b 2 1 ≤ 2
+    without true = omega arith
+    without false = omega arith
 
     go : Good (n .place) (n .router .cycle) → n .place .number ≤ cycleLimit + 2
     go (nothing a b d z) = omega (arith, d)
-    go (after m a d h) = omega (arith, d, without (n .place), h .least, h .limit)
+    go (after m a d f h) = omega (arith, d, without (n .place .ended), stands .1, h .limit)

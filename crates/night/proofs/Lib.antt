@@ -16,3 +16,4 @@ pub mod Answers
 pub mod Night
 pub mod Histories
 pub mod WrongVersions
+pub mod OneByte

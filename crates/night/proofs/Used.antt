@@ -19,12 +19,13 @@ use Rattle.trace.specs.Place.{goodPlace}
 use Rattle.trace.specs.Rules.{placeUnsound, blockShort, checkWrong, bytesFollow, blockWrong, fieldWrong}
 use Rattle.trace.specs.Judged.{BlockOutcome, noMore, accepted, refused, nextPlace, taken, byField, judged}
 use Rattle.trace.proofs.Found.{FoundAs, refuses, configures, holds, ends, is-over, found-as}
+use Rattle.runs.proofs.Places.{between-is, right-between}
 use Rattle.router.specs.Running.{Writing, wrote, onRun, withPlace, endedBy, byOutcome, blockTaken, blockAt, lacksBlockRoom, Call}
 use Rattle.router.specs.Running.{takes, stops, goesOn}
 use Rattle.router.proofs.Going.{piece-bytes}
 use Rattle.router.proofs.Onward.{goes-over}
 use Rattle.night.proofs.CycleLines.{cycles-place}
-use Rattle.night.proofs.Kept.{Led, right-good, block-led}
+use Rattle.night.proofs.Kept.{Led, block-led}
 
 -- A block of fewer than 512 bytes ends the run: 9 before the end block; after it 8, or the E line where no byte follows.
 module _ (block : List ℕ) (w : Writing) where
@@ -75,7 +76,8 @@ module _ (part : List ℕ) (bytes : AreBytes part) where
       go true f = inr (
         omega (arith, long, ltb-true (length (blockAt part (c .used))) 512 f, inside),
         short-over (blockAt part (c .used)) (c .writing)
-            (right-good (c .writing .run .place) (c .writing .run .router .cycle) (c .writing .run .over) o (led .right))
+            (between-is (c .writing .run .place) (c .writing .run .router .cycle)
+            (right-between (c .writing .run .place) (c .writing .run .router .cycle) (c .writing .run .over) o (led .right)) .0)
             (ltb-true (length (blockAt part (c .used))) 512 f),
       )
       go false f = inl (suc j, omega (arith, long, e, ltb-false (length (blockAt part (c .used))) 512 f))

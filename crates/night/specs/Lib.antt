@@ -2,3 +2,4 @@ pub mod File
 pub mod Accepted
 pub mod Calls
 pub mod Histories
+pub mod Changed

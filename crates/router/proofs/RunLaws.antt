@@ -1,7 +1,7 @@
 -- A call of the run entry: refused with 2, with 11, or block after block; and what the test of a run gives.
 -- Assumes nothing.
 use mathlib.Core.Path.{_≡_, refl, sym, ap, _∙_}
-use mathlib.Core.Bool.{Bool, true, false, cond, not, _&&_, _||_, true≢false}
+use mathlib.Core.Bool.{Bool, true, false, cond, _&&_, true≢false}
 use mathlib.Core.List.{List}
 use Prim.Native.Nat.{ℕ, _-_, _*_, _≤_, _<_}
 use native.Mathlib.Nat.{mul-le-mul-right}
@@ -18,13 +18,15 @@ use Rattle.state.proofs.Exact.{passed-sound}
 use Rattle.state.proofs.FreshIsSound.{fresh-is-sound}
 use Rattle.trace.specs.declared.place.Place.{Place}
 use Rattle.trace.specs.Blocks.{configOf}
-use Rattle.trace.specs.Place.{goodPlace, withoutCycles, mayHold}
+use Rattle.trace.specs.Place.{goodPlace}
 use Rattle.trace.specs.Judged.{BlockOutcome, judged}
 use Rattle.trace.proofs.Found.{FoundAs, refuses, configures, holds, ends, is-over, found-as}
+use Rattle.trace.proofs.Places.{Good, nothing, after, good-is}
 use Rattle.listing.specs.Writing.{lacksRoom}
 use Rattle.rules.proofs.Facts.{sound-legal}
 use Rattle.runs.specs.declared.Run.{Run}
-use Rattle.runs.specs.Run.{stoppedInside, placeRight, runSound}
+use Rattle.runs.specs.Run.{placeRight, runSound}
+use Rattle.runs.proofs.Places.{going-good}
 use Rattle.router.specs.Running.{Writing, wrote, endedBy, byOutcome, blockTaken, blockRoom, lacksBlockRoom, blocksIn, begins}
 use Rattle.router.specs.Running.{goesOn, CallOutcome, refusedWith, answered, ranOf}
 use Rattle.router.proofs.Onward.{goes-full}
@@ -91,12 +93,11 @@ module _ (n : Run) (part buffer : List ℕ) (at : ℕ) where
   p = n .place
 
   first-cycle : goodPlace p (n .router .cycle) ≡ true → p .configured ≡ false → n .router .cycle ≡ 0
-  unfolding goodPlace
-  first-cycle e f =
-      eqb-true (n .router .cycle) 0
-      (both (not (p .ended) && eqb (p .number) 0) (eqb (n .router .cycle) 0)
-      (ap (λ (x : Bool). cond x (leb (withoutCycles p) (p .number) && mayHold (p .number - withoutCycles p) (n .router .cycle))
-      (not (p .ended) && eqb (p .number) 0 && eqb (n .router .cycle) 0)) (sym f) ∙ e) .1)
+  first-cycle e f = go (good-is p (n .router .cycle) e)
+    where
+      go : Good p (n .router .cycle) → n .router .cycle ≡ 0
+      go (nothing a b d z) = z
+      go (after m a d l h) = absurd (true≢false (sym a ∙ f))
 
   no-flits : runSound n ≡ true → p .configured ≡ false → n .flits ≡ 0
   unfolding runSound
@@ -107,19 +108,8 @@ module _ (n : Run) (part buffer : List ℕ) (at : ℕ) where
       (blank (n .router) && eqb (n .flits) 0)) (sym f)
       ∙ both (placeRight p (n .router .cycle) (n .over)) _ e .1) .1)
 
-  good-place : runSound n ≡ true → n .over ≡ false → goodPlace p (n .router .cycle) ≡ true
-  unfolding runSound placeRight
-  good-place e o = go (goodPlace p (n .router .cycle)) refl
-    where
-      go : (b : Bool) → goodPlace p (n .router .cycle) ≡ b → b ≡ true
-      go true g = refl
-      go false g =
-          absurd (true≢false (sym (both (placeRight p (n .router .cycle) (n .over)) _ e .0)
-          ∙ ap (λ (x : Bool). x || (n .over && stoppedInside p (n .router .cycle))) g
-          ∙ ap (λ (x : Bool). x && stoppedInside p (n .router .cycle)) o))
-
   pub unconfigured-none : runSound n ≡ true → p .configured ≡ false → n .over ≡ false → (n .router .cycle ≡ 0) × (n .flits ≡ 0)
-  unconfigured-none e f o = (first-cycle (good-place e o) f, no-flits e f)
+  unconfigured-none e f o = (first-cycle (going-good n e o) f, no-flits e f)
 
 -- the first block leaves a run that can go on, or one that is over
 pub begun-ongoing : (block : List ℕ) (w : Writing) → w .run .place .configured ≡ false → w .run .flits ≡ 0

@@ -1,20 +1,47 @@
 -- The test of a run, clause by clause.
 -- Assumes nothing.
-use mathlib.Core.Path.{_≡_}
-use mathlib.Core.Bool.{Bool, true, false}
-use Prim.Native.Nat.{ℕ, suc, _-_, _*_, _≤_, _<_}
+use mathlib.Core.Path.{_≡_, refl, sym, ap, ap₂, _∙_}
+use mathlib.Core.Bool.{Bool, true, false, _&&_}
+use Prim.Native.Nat.{ℕ, _+_, _-_, _*_, _≤_, _<_}
 use native.Mathlib.Nat.{mul-le-mul}
 use native.Mathlib.Omega.{arith}
-use lib.Dec.{eqb, leb}
-use borrow.Author.Tests.{le-leb}
+use lib.Arith.{lt-of-le-ne}
+use lib.Dec.{eqb, leb, ltb}
+use borrow.Author.Tests.{leb-true, leb-false, le-leb, lt-leb, ltb-true, ltb-false, eqb-true, eqb-false}
+use Rattle.base.specs.Search.{any}
+use Rattle.base.proofs.Search.{any-at, any-none}
 use Rattle.state.specs.Blank.{blank}
 use Rattle.state.specs.Sound.{sound}
 use Rattle.trace.specs.declared.place.Place.{Place}
 use Rattle.trace.specs.Place.{goodPlace}
 use Rattle.runs.specs.declared.Run.{Run}
-use Rattle.runs.specs.Run.{within, stoppedInside, placeRight, runSound}
+use Rattle.runs.specs.Run.{betweenBlocks, stoppedInside, placeRight, runSound}
+
+-- k cycles of the last block were accepted, at q before it
+abbrev pub inLast : Place → ℕ → ℕ → Bool
+inLast q c k = leb k c && betweenBlocks q (c - k)
+
+-- n less k is at most c where n is at most c and k
+most-more : (n k c : ℕ) → leb n (c + k) ≡ leb (n - k) c
+most-more n k c = go (leb n (c + k)) refl
+  where
+    go : (b : Bool) → leb n (c + k) ≡ b → b ≡ leb (n - k) c
+    go true e = let l = leb-true n (c + k) e in sym (le-leb (n - k) c (omega arith))
+    go false e = let l = leb-false n (c + k) e in sym (lt-leb (n - k) c (omega arith))
 
 module _ (p : Place) (c : ℕ) where
+  pub nowhere-between : goodPlace p c ≡ false → false ≡ betweenBlocks p c
+  unfolding betweenBlocks
+  nowhere-between g = rw g
+
+  pub ended-between : goodPlace p c ≡ true → p .ended ≡ true → leb (p .number) (c + 2) ≡ betweenBlocks p c
+  unfolding betweenBlocks
+  ended-between g e = rw (g, e) (most-more (p .number) 2 c)
+
+  pub going-between : goodPlace p c ≡ true → p .ended ≡ false → leb (p .number) (c + 1) ≡ betweenBlocks p c
+  unfolding betweenBlocks
+  going-between g e = rw (g, e) (most-more (p .number) 1 c)
+
   -- no cycle comes before the configuration block
   pub early-inside : p .configured ≡ false → false ≡ stoppedInside p c
   unfolding stoppedInside
@@ -29,39 +56,49 @@ module _ (p : Place) (c : ℕ) where
   unfolding stoppedInside
   ended-inside k l e = rw (k, le-leb 1 (p .number) l, e)
 
-  -- the search for the cycles before the last block
+  -- the search for the cycles of the last block
   pub search-all : p .configured ≡ true → 1 ≤ p .number → p .ended ≡ false
-      → within 7 (record { number = p .number - 1; configured = p .configured; ended = false }) c ≡ stoppedInside p c
+      → any 7 (inLast (record { number = p .number - 1; configured = p .configured; ended = false }) c) ≡ stoppedInside p c
   unfolding stoppedInside
   search-all k l e = rw (k, le-leb 1 (p .number) l, e)
 
-module _ (q : Place) where
-  pub search-none : (n c : ℕ) → n ≡ 0 → false ≡ within n q c
-  unfolding within
-  search-none n c e = rw e
+-- the search at q, k by k
+module _ (q : Place) (c : ℕ) where
+  -- none of the first k
+  abbrev pub NoneBelow : ℕ → Type 0
+  NoneBelow k = (i : ℕ) → i < k → inLast q c i ≡ false
 
-  pub search-found : (n c : ℕ) → 0 < n → goodPlace q c ≡ true → true ≡ within n q c
-  unfolding within
-  search-found (suc n) c l e = rw e
+  pub search-found : (k : ℕ) → k < 7 → k ≤ c → betweenBlocks q (c - k) ≡ true → true ≡ any 7 (inLast q c)
+  search-found k l m e = sym (any-at 7 (inLast q c) k l (ap₂ _&&_ (le-leb k c m) e))
 
-  pub search-least : (n c : ℕ) → 0 < n → goodPlace q c ≡ false → c ≡ 0 → false ≡ within n q c
-  unfolding within
-  search-least (suc n) c l e z = rw (e, z)
+  -- more than there are
+  pub search-few : (k : ℕ) → NoneBelow k → c < k → false ≡ any 7 (inLast q c)
+  search-few k none few = sym (any-none 7 (inLast q c) (λ i l. go i (ltb i k) refl))
+    where
+      go : (i : ℕ) → (b : Bool) → ltb i k ≡ b → inLast q c i ≡ false
+      go i true e = none i (ltb-true i k e)
+      go i false e = let l = ltb-false i k e in ap (λ (b : Bool). b && betweenBlocks q (c - i)) (lt-leb i c (omega arith))
 
-  pub search-on : (n c : ℕ) → 0 < n → goodPlace q c ≡ false → 1 ≤ c → within (n - 1) q (c - 1) ≡ within n q c
-  unfolding within
-  search-on (suc n) c l e z = let f : suc n - 1 ≡ n = omega arith in rw (e, le-leb 1 c z, f)
+  pub search-on : (k : ℕ) → NoneBelow k → k ≤ c → betweenBlocks q (c - k) ≡ false → NoneBelow (k + 1)
+  search-on k none m e i l = go (eqb i k) refl
+    where
+      go : (b : Bool) → eqb i k ≡ b → inLast q c i ≡ false
+      go true d = ap (inLast q c) (eqb-true i k d) ∙ ap₂ _&&_ (le-leb k c m) e
+      go false d = none i (lt-of-le-ne (omega arith) (eqb-false i k d))
+
+  pub search-none : (k : ℕ) → NoneBelow k → 7 ≤ k → false ≡ any 7 (inLast q c)
+  search-none k none l = sym (any-none 7 (inLast q c) (λ i h. none i (omega arith)))
 
 module _ (p : Place) (c : ℕ) (over : Bool) where
-  pub place-good : goodPlace p c ≡ true → true ≡ placeRight p c over
+  pub place-between : betweenBlocks p c ≡ true → true ≡ placeRight p c over
   unfolding placeRight
-  place-good e = rw e
+  place-between e = rw e
 
-  pub place-over : goodPlace p c ≡ false → over ≡ true → stoppedInside p c ≡ placeRight p c over
+  pub place-over : betweenBlocks p c ≡ false → over ≡ true → stoppedInside p c ≡ placeRight p c over
   unfolding placeRight
   place-over e f = rw (e, f)
 
-  pub place-wrong : goodPlace p c ≡ false → over ≡ false → false ≡ placeRight p c over
+  pub place-wrong : betweenBlocks p c ≡ false → over ≡ false → false ≡ placeRight p c over
   unfolding placeRight
   place-wrong e f = rw (e, f)
 

@@ -3,7 +3,7 @@ use base::Config;
 use state::Router;
 use trace::Place;
 ghost use mathlib.Core.Path.{_≡_};
-ghost use Rattle.runs.specs.Run.{started, stoppedInside, placeRight, runSound};
+ghost use Rattle.runs.specs.Run.{started, betweenBlocks, stoppedInside, placeRight, runSound};
 
 // The router, the place in the file, the F lines so far, and whether the list has had its last line.
 pub struct Run {
@@ -29,7 +29,20 @@ impl Run {
     }
 }
 
-// Whether a run can have stopped in the last block, at a cycle that was refused.
+// Whether a run, which skips no cycle, can stand between two blocks.
+fn is_between(place: Place, cycles: u64) -> bool
+    ensures { λ r. ⌜ r ≡ betweenBlocks place cycles ⌝ }
+{
+    if !trace::is_good(place, cycles) {
+        return false;
+    }
+    if place.ended {
+        return place.number <= cycles + 2;
+    }
+    place.number <= cycles + 1
+}
+
+// Whether a run can have stopped in the last block, at a cycle that was refused: up to six of its cycles came before that one.
 fn is_inside(place: Place, cycles: u64) -> bool
     ensures { λ r. ⌜ r ≡ stoppedInside place cycles ⌝ }
 {
@@ -47,26 +60,24 @@ fn is_inside(place: Place, cycles: u64) -> bool
         configured: place.configured,
         ended: false,
     };
-    let mut left: u64 = cycles;
-    let mut tries: u32 = 7;
-    while 0 < tries {
-        if trace::is_good(before, left) {
-            return true;
-        }
-        if left == 0 {
+    let mut inside: u64 = 0;
+    while inside < 7 {
+        if cycles < inside {
             return false;
         }
-        left -= 1;
-        tries -= 1;
+        if is_between(before, cycles - inside) {
+            return true;
+        }
+        inside += 1;
     }
     false
 }
 
-// Whether some file leads to this place with so many cycles accepted.
+// Whether some file leads a run to this place with so many cycles accepted.
 fn is_place_right(place: Place, cycles: u64, over: bool) -> bool
     ensures { λ r. ⌜ r ≡ placeRight place cycles over ⌝ }
 {
-    if trace::is_good(place, cycles) {
+    if is_between(place, cycles) {
         return true;
     }
     if over {

@@ -11,8 +11,8 @@ use borrow.Author.Tests.{eqb-true, eqb-false}
 use Rattle.base.specs.Numbers as numbers
 use Rattle.base.specs.Sizes.{illegalField}
 use Rattle.trace.specs.declared.place.Place.{Place}
-use Rattle.trace.specs.Blocks.{kindOf, heldOf, configOf}
-use Rattle.trace.specs.Place.{mayHold, withoutCycles, goodPlace}
+use Rattle.trace.specs.Blocks.{kindOf, heldOf, configOf, blockNumbers}
+use Rattle.trace.specs.Place.{mayHold, withoutCycles, cycleBlocks, goodPlace}
 use Rattle.trace.specs.Rules.{placeUnsound, blockShort, checkWrong, blockWrong, fieldWrong}
 use Rattle.trace.specs.Judged.{BlockOutcome, aConfiguration, someCycles, theEnd, noMore, accepted, refused, nextPlace, readOf, taken}
 use Rattle.trace.specs.Judged.{byField, judged}
@@ -62,7 +62,7 @@ module _ (p : Place) (c : ℕ) (l : List ℕ) where
       go true q = refl
       go false q =
           absurd (true≢false (sym g ∙ ap (λ (b : Bool). cond b
-          (leb (withoutCycles p) (p .number) && mayHold (p .number - withoutCycles p) c)
+          (leb (p .number) blockNumbers && leb (withoutCycles p) (p .number) && mayHold (cycleBlocks p) c)
           (not (p .ended) && eqb (p .number) 0 && eqb c 0)) q
           ∙ ap (λ (b : Bool). not b && eqb (p .number) 0 && eqb c 0) e))
 

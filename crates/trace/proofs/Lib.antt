@@ -17,4 +17,5 @@ pub mod Ways
 pub mod Sealed
 pub mod Made
 pub mod Reached
+pub mod Skipping
 pub mod Parts

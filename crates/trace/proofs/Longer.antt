@@ -4,7 +4,7 @@ use mathlib.Core.Path.{_≡_, refl, sym, ap, ap₂, _∙_}
 use mathlib.Core.Bool.{Bool, true, false, cond, not, _&&_, _||_}
 use mathlib.Core.List.{List}
 use mathlib.Core.Option.{Option, some, none}
-use Prim.Native.Nat.{ℕ, _+_, _*_, _%_, _≤_, _<_}
+use Prim.Native.Nat.{ℕ, _+_, _-_, _*_, _%_, _≤_, _<_}
 use native.Mathlib.Nat.{le-refl}
 use native.Mathlib.Omega.{arith}
 use lib.Dec.{eqb, leb, ltb, lit<}
@@ -47,8 +47,8 @@ module _ (x y : List ℕ) (same : (i : ℕ) → i < 512 → byte x i ≡ byte y 
   blank : (from to : ℕ) → to ≤ 512 → zeros x from to ≡ zeros y from to
   unfolding zeros
   blank from to h =
-      every-ext to (λ (i : ℕ). ltb i from || eqb (byte x i) 0) (λ (i : ℕ). ltb i from || eqb (byte y i) 0)
-      (λ i g. ap (λ (v : ℕ). ltb i from || eqb v 0) (same i (omega arith)))
+      every-ext (to - from) (λ (k : ℕ). eqb (byte x (from + k)) 0) (λ (k : ℕ). eqb (byte y (from + k)) 0)
+      (λ k g. ap (λ (v : ℕ). eqb v 0) (same (from + k) (omega arith)))
 
   check : checkHolds x ≡ checkHolds y
   unfolding checkHolds checkOf

@@ -33,21 +33,21 @@ module _ (p : Place) (c : ℕ) (l : List ℕ) where
   sound pass = go (placeUnsound p c) refl
     where
       go : (b : Bool) → placeUnsound p c ≡ b → b ≡ false
-      go true e = absurd (pass .not2 (two-exactly p c l .1 e))
+      go true e = absurd (pass .notUnsound (two-exactly p c l .1 e))
       go false e = refl
 
   whole : PassesCheck p c l → blockShort p l ≡ false
   whole pass = go (blockShort p l) refl
     where
       go : (b : Bool) → blockShort p l ≡ b → b ≡ false
-      go true e = absurd (pass .not9 (nine-exactly p c l .1 (sound pass, e)))
+      go true e = absurd (pass .notShort (nine-exactly p c l .1 (sound pass, e)))
       go false e = refl
 
   checked : PassesCheck p c l → checkWrong p l ≡ false
   checked pass = go (checkWrong p l) refl
     where
       go : (b : Bool) → checkWrong p l ≡ b → b ≡ false
-      go true e = absurd (pass .not7 (seven-exactly p c l .1 (sound pass, whole pass, e)))
+      go true e = absurd (pass .notCheckWrong (seven-exactly p c l .1 (sound pass, whole pass, e)))
       go false e = refl
 
   pub passes-good : PassesCheck p c l → goodPlace p c ≡ true

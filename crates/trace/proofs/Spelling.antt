@@ -24,6 +24,9 @@ pub two-lt : (l : List ℕ) (from : ℕ) → ((i : ℕ) → byte l i < 256) → 
 unfolding bigEndian
 two-lt l from small = omega (arith, small (from + 0), small (from + 1))
 
+pub four-lt : (l : List ℕ) (from : ℕ) → ((i : ℕ) → byte l i < 256) → bigEndian l from 4 < 4294967296
+four-lt l from small = omega (arith, four-spell l from, two-lt l from small, two-lt l (from + 2) small)
+
 -- two bytes can be read off the number that they spell
 pub two-inj : (x y : List ℕ) (from : ℕ) → ((i : ℕ) → byte x i < 256) → ((i : ℕ) → byte y i < 256) → bigEndian x from 2 ≡ bigEndian y from 2
     → (byte x from ≡ byte y from) × (byte x (from + 1) ≡ byte y (from + 1))

@@ -37,6 +37,10 @@ mostHeld = 7
 abbrev pub numberOf : List ℕ → ℕ
 numberOf block = bigEndian block 2 4
 
+-- four bytes have so many numbers, so that a file has at most so many blocks
+abbrev pub blockNumbers : ℕ
+blockNumbers = 4294967296
+
 -- "8..509 body; 510..511 the check"
 abbrev pub bodyStart : ℕ
 bodyStart = 8

@@ -1,9 +1,9 @@
 -- The bytes of a block, and numbers and zeros among them.
 -- Assumes nothing.
-use mathlib.Core.Bool.{Bool, _||_}
+use mathlib.Core.Bool.{Bool}
 use mathlib.Core.List.{List}
-use Prim.Native.Nat.{ℕ, zero, suc, _+_, _*_, _<_}
-use lib.Dec.{eqb, ltb}
+use Prim.Native.Nat.{ℕ, zero, suc, _+_, _-_, _*_, _<_}
+use lib.Dec.{eqb}
 use lib.ListN.{getD}
 use Rattle.base.specs.Search.{every}
 
@@ -20,6 +20,6 @@ unfoldable pub bigEndian : List ℕ → ℕ → ℕ → ℕ
 bigEndian block from zero = 0
 bigEndian block from (suc n) = 256 * bigEndian block from n + byte block (from + n)
 
--- each byte at `from` or after it, and before `to`, is zero
+-- each of the bytes from `from` on, and before `to`, is zero
 unfoldable pub zeros : List ℕ → ℕ → ℕ → Bool
-zeros block from to = every to (λ (i : ℕ). ltb i from || eqb (byte block i) 0)
+zeros block from to = every (to - from) (λ (k : ℕ). eqb (byte block (from + k)) 0)

@@ -15,8 +15,9 @@ pub record ChangedAt (k : ℕ) (x y : List ℕ) : Type 0 where
   pub differs : byte x k ≡ byte y k → ⊥
   pub same : (i : ℕ) → i < blockLength → (i ≡ k → ⊥) → byte x i ≡ byte y i
 
--- at a place before the end block a block passes its check: judging it gives none of the numbers up to 7
+-- a block passes its check at its place: judging it there gives none of 2 "state not sound", 9 "fewer than 512 bytes in a block" and 7
+-- "block check wrong"
 pub record PassesCheck (p : Place) (c : ℕ) (block : List ℕ) : Type 0 where
-  pub not2 : judged p c block .number ≡ numbers.notSound → ⊥
-  pub not9 : judged p c block .number ≡ numbers.blockShort → ⊥
-  pub not7 : judged p c block .number ≡ numbers.checkWrong → ⊥
+  pub notUnsound : judged p c block .number ≡ numbers.notSound → ⊥
+  pub notShort : judged p c block .number ≡ numbers.blockShort → ⊥
+  pub notCheckWrong : judged p c block .number ≡ numbers.checkWrong → ⊥

@@ -1,7 +1,7 @@
 -- The way through a file, block by block: "A file is one configuration block, any number of cycle blocks, one end block." (01, blocks)
 -- Assumes nothing.
 use mathlib.Core.Path.{_≡_}
-use mathlib.Core.Bool.{false}
+use mathlib.Core.Bool.{Bool, false}
 use mathlib.Core.List.{List}
 use mathlib.Core.Option.{Option, some, none}
 use Prim.Native.Nat.{ℕ, _+_, _≤_}
@@ -20,10 +20,15 @@ cyclesIn (some (someCycles n)) = n
 cyclesIn (some theEnd) = 0
 cyclesIn (some noMore) = 0
 
--- some file leads to the place p with c cycles accepted: each block before it is refused by none of 9, 7, 8 and 1, and all cycles that it
--- holds were accepted
-pub data Way : Place → ℕ → Type 0 where
-  begins : Way start 0
-  goes-on : (p : Place) (c : ℕ) (block : List ℕ) → Way p c → AreBytes block → blockShort p block ≡ false → checkWrong p block ≡ false
-      → blockWrong p c block ≡ false → fieldWrong p block ≡ none → c + cyclesIn (taken p block .read) ≤ cycleLimit
-      → Way (taken p block .place) (c + cyclesIn (taken p block .read))
+-- of the cycles that a block holds so many were accepted: all, or where the caller skips those that are refused any number of them
+pub record Brought (skips : Bool) (held brought : ℕ) : Type 0 where
+  pub most : brought ≤ held
+  pub all : skips ≡ false → brought ≡ held
+
+-- some file leads to the place p with c cycles accepted: each block before it is refused by none of 9, 7, 8 and 1; of the cycles the
+-- caller has "refused ones skipped" (demand 3) or, as a run does, none
+pub data Way (skips : Bool) : Place → ℕ → Type 0 where
+  begins : Way skips start 0
+  goes-on : (p : Place) (c : ℕ) (block : List ℕ) (brought : ℕ) → Way skips p c → AreBytes block → blockShort p block ≡ false
+      → checkWrong p block ≡ false → blockWrong p c block ≡ false → fieldWrong p block ≡ none
+      → Brought skips (cyclesIn (taken p block .read)) brought → c + brought ≤ cycleLimit → Way skips (taken p block .place) (c + brought)

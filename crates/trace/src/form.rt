@@ -31,7 +31,7 @@ fn number_wrong(place: Place, block: &[u8]) -> bool
     requires { ⌜ 512 ≤ length (now block) ⌝ }
     ensures { λ r. ⌜ r ≡ numberWrong place (now (block .entry)) ⌝ }
 {
-    bytes::four_bytes(block, 2) != place.number
+    bytes::four_bytes(block, 2) as u64 != place.number
 }
 
 // "byte 1 cycles held (1..7, only in kind 2, else 0)"

@@ -5,9 +5,9 @@ use crate::form;
 use crate::place;
 ghost use mathlib.Core.Bool.{false};
 ghost use mathlib.Core.Path.{_≡_};
-ghost use Prim.Native.Nat.{_-_, _^_, _≤_, _<_};
+ghost use Prim.Native.Nat.{_≤_};
 ghost use lib.ListN.{length};
-ghost use Rattle.trace.specs.Blocks.{configOf};
+ghost use Rattle.trace.specs.Blocks.{blockNumbers, configOf};
 ghost use Rattle.trace.specs.Rules.{fieldWrong};
 ghost use Rattle.trace.specs.Judged.{blockOutcome, refused, byField, judged};
 
@@ -53,7 +53,7 @@ fn configuration(block: &[u8]) -> base::Config
 
 // What a block holds that no rule before 1 refuses, and the place after it.
 fn read(place: Place, block: &[u8]) -> Answer
-    requires { ⌜ (place .ended ≡ false) × (place .number < 2 ^ 32 - 1) × (512 ≤ length (now block)) ⌝ }
+    requires { ⌜ (place .ended ≡ false) × (place .number ≤ blockNumbers) × (512 ≤ length (now block)) ⌝ }
     ensures { λ r. ⌜ blockOutcome r ≡ byField (fieldWrong place (now (block .entry))) place (now (block .entry)) ⌝ }
 {
     let kind = block[0];

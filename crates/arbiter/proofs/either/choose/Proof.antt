@@ -44,7 +44,7 @@ choose-requires c κs =
     let k = known-is (a .places) (a .code) (a .n) (q .0) in
     let low = masked-lt (a .n) (a .requests .set) in
     let e = c .before .below .ensures in
-    (omega arith, q .1, rw e low)
+    (omega arith, q .1 (c .if2 .taken), rw e low)
 
 returns-2 : tie.Need-returns-2
 unfolding asks
