@@ -1,6 +1,7 @@
 // Stored traces through the run entry, cut into parts of any number of blocks. Standard input is a row of parts: two bytes with a part's
 // length, the higher first, and its bytes; a part of no bytes is the end of a trace, and the next part begins another. The lists go to
 // standard output one after another. Traces and lists are the second model's (docs/FORMATS.md says how they are made).
+use floor::Stop;
 use runs::Run;
 
 // A part's length, from the two bytes before it.
@@ -27,6 +28,10 @@ fn replay(head: &mut [u8], buf: &mut [u8], out: &mut [u8]) {
             return;
         }
         let passed = floor::pass(run, &buf[0..bytes], out, libc::STDOUT_FILENO);
+        let stop = passed.stop;
+        let Stop::Whole = stop else {
+            return;
+        };
         if bytes == 0 {
             run = Run::start();
             continue;
