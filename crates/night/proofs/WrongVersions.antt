@@ -53,9 +53,9 @@ abbrev cLinesCountedAsFlits : Printed → Ending → Line
 cLinesCountedAsFlits p finishes = finish (p .cycles) (length (p .lines))
 cLinesCountedAsFlits p (refuses n k) = refusal n (p .cycles) k
 
-abbrev flitsCountedInCycle0Only : Printed → Ending → Line
-flitsCountedInCycle0Only p finishes = finish (p .cycles) (flitLines (take 1 (p .lines)))
-flitsCountedInCycle0Only p (refuses n k) = refusal n (p .cycles) k
+abbrev flitsOfTheFirstLineOnly : Printed → Ending → Line
+flitsOfTheFirstLineOnly p finishes = finish (p .cycles) (flitLines (take 1 (p .lines)))
+flitsOfTheFirstLineOnly p (refuses n k) = refusal n (p .cycles) k
 
 -- of a block
 abbrev endsBeforeTheInputDoes : Option Read → BlockOutcome → List ℕ → Router → (Place → Router → Printed) → Printed
@@ -125,7 +125,7 @@ numberIn (refuses n k) = n
 pub record WrongVersions : Type 0 where
   -- the E line
   pub c-lines-counted-as-flits : Differ (lastLine printed finishes) (cLinesCountedAsFlits printed finishes) (finish 3 2) (finish 3 3)
-  pub flits-counted-in-cycle-0-only : Differ (lastLine printed finishes) (flitsCountedInCycle0Only printed finishes) (finish 3 2)
+  pub flits-of-the-first-line-only : Differ (lastLine printed finishes) (flitsOfTheFirstLineOnly printed finishes) (finish 3 2)
       (finish 3 1)
   -- how the list of a file ends that has a byte after its end block
   pub ends-before-the-input-does : Differ (atTheEnd blockThen .ending) (atTheEnd endsBeforeTheInputDoes .ending) (refuses 8 0) finishes
@@ -154,7 +154,7 @@ unfolding withInput withHomePlace config turns unbound freshRouter xor firstFrom
 wrong-versions =
     record {
       c-lines-counted-as-flits = record { right-is = refl; wrong-is = refl; apart = λ e. eqb-false 2 3 refl (ap flitsIn e) };
-      flits-counted-in-cycle-0-only = record { right-is = refl; wrong-is = refl; apart = λ e. eqb-false 2 1 refl (ap flitsIn e) };
+      flits-of-the-first-line-only = record { right-is = refl; wrong-is = refl; apart = λ e. eqb-false 2 1 refl (ap flitsIn e) };
       ends-before-the-input-does = record { right-is = refl; wrong-is = refl; apart = λ e. eqb-false 8 0 refl (ap numberIn e) };
       goes-on-after-a-refusal = record { right-is = refl; wrong-is = refl; apart = λ e. eqb-false 3 0 refl (ap numberIn e) };
       lines-of-a-cycle-twice = record { right-is = refl; wrong-is = refl; apart = eqb-false 1 2 refl };
