@@ -142,7 +142,7 @@ goes-fills : {full : ℕ} {piece : List ℕ} {h : Handed} {k : ℕ} {s : Stop} {
     → g .run .over ≡ false → runSound (h .run) ≡ true → length piece ≡ full
 goes-fills (uneven f) w o sound = absurd (true≢false (sym w))
 goes-fills (fills k s g f b e p) w o sound = e
-goes-fills {h = h} (last k s g l t e b f p q) w o sound = absurd (go q w o)
+goes-fills {h = h} (last k s g l t e v b f p q) w o sound = absurd (go q w o)
   where
     go : {l : ℕ} {t : Stop} {e : Handed} → Finishes g k s l t e → isWhole t ≡ true → e .run .over ≡ false → ⊥
     go (handing.stopped x) w o = true≢false (sym w ∙ x)
@@ -158,8 +158,8 @@ piece-hands (uneven f) w sound going later fits out after = absurd (true≢false
 piece-hands {full = full} (fills k s g f b e p) w sound going later fits out after =
     let k = even-fits full f in
     passes-hands p w sound going b later (inl (k .0, k .1, e ∙ k .2)) out after
-piece-hands {piece = piece} {h = h} (last k s g l t e b f p q) w sound going later (inl x) out after = absurd (omega (arith, x, f))
-piece-hands {piece = piece} {h = h} (last k s g l t e b f p q) w sound going later (inr x) out after = go q w after
+piece-hands {piece = piece} {h = h} (last k s g l t e v b f p q) w sound going later (inl x) out after = absurd (omega (arith, x, f))
+piece-hands {piece = piece} {h = h} (last k s g l t e v b f p q) w sound going later (inr x) out after = go q w after
   where
     go : {l : ℕ} {t : Stop} {e : Handed} (q : Finishes g k s l t e) → isWhole t ≡ true → After e later out
         → Hands (h .run) (piece ++ later) ((linesOf p ++ lastLines q) ++ out)
@@ -182,14 +182,14 @@ piece-bytes : {full : ℕ} {piece : List ℕ} {h : Handed} {k : ℕ} {s : Stop} 
     → AreBytes piece
 piece-bytes (uneven f) w = absurd (true≢false (sym w))
 piece-bytes (fills k s g f b e p) w = b
-piece-bytes (last k s g l t e b f p q) w = b
+piece-bytes (last k s g l t e v b f p q) w = b
 
 -- the run after a piece is sound
 piece-sound : {full : ℕ} {piece : List ℕ} {h : Handed} {k : ℕ} {s : Stop} {g : Handed} → HandsOver full piece h k s g
     → runSound (h .run) ≡ true → runSound (g .run) ≡ true
 piece-sound (uneven f) sound = sound
 piece-sound (fills k s g f b e p) sound = passes-sound p b sound
-piece-sound (last k s g l t e b f p q) sound = go q
+piece-sound (last k s g l t e v b f p q) sound = go q
   where
     go : {l : ℕ} {t : Stop} {e : Handed} → Finishes g k s l t e → runSound (e .run) ≡ true
     go (handing.stopped y) = passes-sound p b sound
@@ -230,7 +230,7 @@ piece-long : {full : ℕ} {piece : List ℕ} {h : Handed} {k : ℕ} {s : Stop} {
     → length piece ≤ full
 piece-long (uneven f) w = absurd (true≢false (sym w))
 piece-long (fills k s g f b e p) w = omega (arith, e)
-piece-long (last k s g l t e b f p q) w = omega (arith, f)
+piece-long (last k s g l t e v b f p q) w = omega (arith, f)
 
 lists-fill : {full : ℕ} {h : Handed} {pieces : List (List ℕ)} {r : Ended} {g : Handed} → Lists full h pieces r g → isOver r ≡ true
     → runSound (h .run) ≡ true → AllButLastFill full pieces

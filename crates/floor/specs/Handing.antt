@@ -5,7 +5,7 @@ use mathlib.Core.Path.{_≡_}
 use mathlib.Core.Bool.{Bool, true, false, cond, _&&_}
 use mathlib.Core.List.{List, [], _∷_, _++_}
 use mathlib.Core.Option.{Option, some, none}
-use Prim.Native.Nat.{ℕ, suc, _+_, _%_, _≤_, _<_}
+use Prim.Native.Nat.{ℕ, zero, suc, _+_, _%_, _≤_, _<_}
 use lib.Dec.{eqb, ltb}
 use lib.ListN.{length, take, drop}
 use Rattle.base.specs.Numbers as numbers
@@ -53,6 +53,11 @@ pub data Passes : List ℕ → Handed → ℕ → Stop → Handed → Type 0 whe
   goes : (part : List ℕ) (h : Handed) (k : ℕ) (s : Stop) (g : Handed) → stopOf (called part h .ran) ≡ none
       → Passes (drop (called part h .ran .used) part) (handedBy (called part h)) k s g → Passes part h (suc k) s g
 
+-- the run and the buffer after so many calls
+unfoldable pub calls : ℕ → List ℕ → Handed → Handed
+calls zero part h = h
+calls (suc k) part h = calls k (drop (called part h .ran .used) part) (handedBy (called part h))
+
 -- whether a buffer of so many bytes holds some whole blocks, and nothing else
 abbrev pub holdsBlocks : ℕ → Bool
 holdsBlocks bytes = ltb 0 bytes && eqb (bytes % blockLength) 0
@@ -77,7 +82,7 @@ pub data HandsOver (full : ℕ) (piece : List ℕ) (h : Handed) : ℕ → Stop �
   uneven : holdsBlocks full ≡ false → HandsOver full piece h 0 Uneven h
   fills : (k : ℕ) (s : Stop) (g : Handed) → holdsBlocks full ≡ true → AreBytes piece → length piece ≡ full → Passes piece h k s g
       → HandsOver full piece h k s g
-  last : (k : ℕ) (s : Stop) (g : Handed) (l : ℕ) (t : Stop) (e : Handed) → AreBytes piece → length piece < full
+  last : (k : ℕ) (s : Stop) (g : Handed) (l : ℕ) (t : Stop) (e : Handed) → holdsBlocks full ≡ true → AreBytes piece → length piece < full
       → Passes piece h k s g → Finishes g k s l t e → HandsOver full piece h l t e
 
 -- the first bytes of a buffer
@@ -111,7 +116,7 @@ lastLines (ends l t e w o p) = linesOf p
 unfoldable pub pieceLines : {full : ℕ} {piece : List ℕ} {h : Handed} {k : ℕ} {s : Stop} {g : Handed} → HandsOver full piece h k s g → List ℕ
 pieceLines (uneven f) = []
 pieceLines (fills k s g f b e p) = linesOf p
-pieceLines (last k s g l t e b f p q) = linesOf p ++ lastLines q
+pieceLines (last k s g l t e v b f p q) = linesOf p ++ lastLines q
 
 unfoldable pub nightLines : {full : ℕ} {h : Handed} {pieces : List (List ℕ)} {r : Ended} {g : Handed} → Lists full h pieces r g → List ℕ
 nightLines (unread h) = []

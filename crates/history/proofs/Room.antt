@@ -45,7 +45,8 @@ module _ (s : Router) (sound : Sound s) (i v : ℕ) (port : i < s .config .ports
   sound-queue-fits =
       omega (arith, queue-counted, credits-sum c (s .inputs) (s .wire) (s .home) (sound .flow .credits) i v port vc)
 
--- In a cycle that is accepted, from any state: after phases 1 to 4, when a flit has joined each queue and none has left, D at most are queued.
+-- In a cycle that is accepted, from any state: after phases 1 to 4, when flits have joined the queues and none has left, D at most are
+-- queued.
 pub landing-fits : (s : Router) (part : List ℕ) → AreBytes part → stepOf s part .verdict ≡ Accepted → (i v : ℕ)
     → i < s .config .ports → v < s .config .vcs → length (queue (s .config) (takenIn part s) i v) ≤ s .config .depth
 unfolding takenIn offersTaken landed creditsReturned creditsReached

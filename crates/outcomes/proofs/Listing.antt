@@ -1,6 +1,6 @@
 -- listing: no second outcome satisfies the contract of a public function, of the answer or of the buffer.
 -- Assumes nothing.
-use mathlib.Core.Path.{_≡_, refl, ap}
+use mathlib.Core.Path.{_≡_, refl, sym, ap, _∙_}
 use mathlib.Core.Bool.{cond}
 use mathlib.Core.List.{List}
 use Prim.Native.Nat.{ℕ}
@@ -9,6 +9,7 @@ use Rattle.base.specs.Numbers.{done, noRoom}
 use Rattle.listing.specs.declared.Written.{Written}
 use Rattle.listing.specs.declared.Written.the-variants.{Lines, NoRoom, OutOfRange}
 use Rattle.listing.specs.Writing.{WriteOutcome, writeOutcome}
+use Rattle.listing.proofs.has_room as room
 use Rattle.listing.proofs.write_cycle as cycle
 use Rattle.listing.proofs.write_end as end
 use Rattle.listing.proofs.write_refusal as refusal
@@ -41,3 +42,6 @@ write-end-once κs a = (tt, λ r s u v p q. let e = write-once r s (u .0) (v .0)
 
 pub write-refusal-once : Once refusal.ended refusal.Reads.Asked refusal.Reads.Learnt
 write-refusal-once κs a = (tt, λ r s u v p q. let e = write-once r s (u .0) (v .0) p q in (e .0, λ i. (e .1 i, v .1)))
+
+pub has-room-once : Once room.ended room.Reads.Asked room.Reads.Learnt
+has-room-once κs a = (tt, λ r s u v p q. (p ∙ sym q, refl))

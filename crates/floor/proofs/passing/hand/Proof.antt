@@ -98,7 +98,7 @@ returns-4 c =
     let l = before-holds-blocks (before-else2 at-else2) .if1 .left in
     let n = at-else3 .if3 .left in
     hands _ _ _ l
-    (last _ _ _ _ _ _ (are at-else2) (omega (arith, long at-else2, l, n)) (passed at-pass) (at-finish .finish .ensures))
+    (last _ _ _ _ _ _ (even at-else2) (are at-else2) (omega (arith, long at-else2, l, n)) (passed at-pass) (at-finish .finish .ensures))
 
 pub hand-spec : {M : Type 1} → statement M
 hand-spec =
