@@ -23,11 +23,11 @@ ghost use Rattle.router.specs.Inside.{Within, GoesOn, writingOf};
 // A run inside a call: the router's parts that travel by value, its cycle count, the run's other fields, and where the next line comes.
 pub struct RunParts {
     pub parts: Parts,
-    pub place: Place,
     pub cycle: u64,
     pub flits: u64,
     pub over: bool,
     pub at: usize,
+    pub place: Place,
 }
 
 // The bytes that a write took; a refused one took none.
