@@ -1,9 +1,8 @@
 -- The listing handed over by the night floor: all of it is used and the run is over, so that the floor's contract is not empty.
 -- Assumes nothing.
-use mathlib.Core.Path.{_≡_, refl}
+use mathlib.Core.Path.{refl}
 use mathlib.Core.Bool.{xor}
-use mathlib.Core.List.{[], _∷_, _++_}
-use Prim.Native.Nat.{_-_}
+use mathlib.Core.List.{[]}
 use Rattle.base.specs.Flit.{flitOf, kindOf, destinationOf, payloadOf, startsKind, endsKind, letterOf}
 use Rattle.base.specs.Search.{firstFrom, every, any, orElse}
 use Rattle.base.specs.Sizes.{inRange, firstIllegal, illegalField}
@@ -37,22 +36,23 @@ use Rattle.listing.specs.Digits.{glyph, decimalWithin, decimal, lastDigits, hex
 use Rattle.listing.specs.Lines.{spaced, print, text, byPort, creditLine, flitLine, cycleLines, flitLines}
 use Rattle.night.specs.File.{cyclesThen, fileFrom, cutInto, printedOf, listOf}
 use Rattle.examples.specs.Listing.{file}
-use mathlib.Core.Bool.{Bool, true}
-use mathlib.Core.Option.{Option, some, none}
-use lib.ListN.{replicate}
+use native.Mathlib.Omega.{arith}
+use lib.ListN.{replicate, drop}
 use Rattle.listing.specs.Lines.{valuesOf, allInRange, printable}
 use Rattle.listing.specs.Writing.{put, lacksRoom, written}
 use Rattle.state.specs.Blank.{noSizes, arbitersShaped, blank}
 use Rattle.runs.specs.Run.{started, betweenBlocks, stoppedInside, placeRight, runSound}
 use Rattle.router.specs.Running.{wrote, endedBy, cycled, cyclesFrom, blockTaken, lacksBlockRoom, goesOn, ranOf}
-use Rattle.floor.specs.Handing.{Handed, passed, finished, begun, handedOver}
+use Rattle.trace.proofs.Sealed.{known-bytes}
+use Rattle.floor.specs.declared.passing.Stop.the-variants.{Whole}
+use Rattle.floor.specs.Handing.{Handed, stops, goes, calls, ends, HandsOver, last}
 
-abbrev overIn : Option Handed → Option Bool
-overIn none = none
-overIn (some h) = some (h .run .over)
+abbrev started-with : Handed
+started-with = record { run = started; buffer = replicate 3100 0 }
 
--- 1,536 bytes were read into a buffer of one more, so that the input has ended
-pub listing-handed : overIn (handedOver started (file ++ 0 ∷ []) 1536 (replicate 3100 0)) ≡ some true
+-- 1,536 bytes, read into a buffer of 2,048, so that the input has ended: the second call finds too little room for the end block, which asks
+-- for 3,008 bytes, so it is handed over again; a third ends the run
+pub listing-handed : HandsOver 2048 file started-with 3 Whole (calls 1 [] (calls 2 file started-with))
 unfolding xor firstFrom every orElse inRange firstIllegal illegalField flitOf kindOf destinationOf payloadOf startsKind endsKind
     nextInTurn pointerAfter blankFrom arbiter.known arbiter.usable arbiter.choice arbiter.moved arbiter.after arbiter.fresh
     arbiter.sound queueAt places wireOf homeOf flat total isNone all configurationLegal cyclesFit creditsWhole creditsAddUp legalFlit
@@ -65,6 +65,8 @@ unfolding xor firstFrom every orElse inRange firstIllegal illegalField flitOf ki
     unusedWrong orderWrong totalWrong formWrong bytesFollow blockWrong fieldWrong readOf taken byField trace.judged cyclesThen fileFrom
     cutInto printedOf listOf glyph decimalWithin decimal lastDigits hex spaced print text byPort creditLine flitLine cycleLines
     flitLines letterOf valuesOf allInRange printable put lacksRoom written noSizes arbitersShaped blank started any
-    betweenBlocks stoppedInside placeRight runSound wrote endedBy cycled cyclesFrom blockTaken lacksBlockRoom goesOn ranOf passed
-    finished begun handedOver
-listing-handed = refl
+    betweenBlocks stoppedInside placeRight runSound wrote endedBy cycled cyclesFrom blockTaken lacksBlockRoom goesOn ranOf calls
+listing-handed =
+    last 2 Whole (calls 2 file started-with) 3 Whole (calls 1 [] (calls 2 file started-with)) refl (known-bytes file refl) (omega arith)
+    (goes file started-with 1 Whole (calls 2 file started-with) refl (stops (drop 1024 file) (calls 1 file started-with) Whole refl))
+    (ends 1 Whole (calls 1 [] (calls 2 file started-with)) refl refl (stops [] (calls 2 file started-with) Whole refl))

@@ -1,7 +1,7 @@
 -- Room for a cycle's lines: the longest cycle, and what is asked for on either side.
 -- Assumes nothing.
-use mathlib.Core.Path.{_≡_, refl}
-use mathlib.Core.List.{[]}
+use mathlib.Core.Path.{_≡_, refl, sym}
+use mathlib.Core.List.{List, []}
 use Prim.Native.Nat.{ℕ}
 use lib.ListN.{length, replicate}
 use Rattle.base.specs.declared.reply.Left.the-variants as left
@@ -13,6 +13,10 @@ use Rattle.base.specs.Reply.{emptyReply}
 use Rattle.listing.specs.Digits.{glyph, decimalWithin, decimal, lastDigits, hex}
 use Rattle.listing.specs.Lines.{spaced, print, text, printable, byPort, creditLine, flitLine, cycleLines}
 use Rattle.listing.specs.Writing.{lacksRoom, written}
+use Rattle.runs.specs.Run.{started}
+use Rattle.router.specs.Running.{lacksBlockRoom, CallOutcome, refusedWith, ranOf}
+use Rattle.router.proofs.RunLaws.{run-full, run-asks}
+use Rattle.night.proofs.Kept.{started-sound}
 
 -- C 999999999 i 3 and F 999999999 o 3 7 3 H ffffffff for every port
 abbrev full : Reply
@@ -40,3 +44,20 @@ room-serves = refl
 pub room-short : written (replicate 375 0) 0 [] .number ≡ noRoom
 unfolding printable lacksRoom written
 room-short = refl
+
+-- The run entry asks for 376 bytes, too, and 375 give 11; from there up to 3,007 it uses nothing, writes nothing and says that the next block
+-- asks for 3,008.
+pub run-room-short : (part : List ℕ) → ranOf started part (replicate 375 0) 0 ≡ refusedWith noRoom started (replicate 375 0)
+unfolding lacksRoom
+run-room-short part = sym (run-full started part (replicate 375 0) 0 started-sound refl)
+
+abbrev asking : List ℕ → CallOutcome
+asking buffer = record { ran = record { number = done; run = started; used = 0; written = 0; asks = 3008 }; buffer = buffer }
+
+pub run-room-376 : (part : List ℕ) → ranOf started part (replicate 376 0) 0 ≡ asking (replicate 376 0)
+unfolding lacksRoom lacksBlockRoom started
+run-room-376 part = sym (run-asks started part (replicate 376 0) 0 started-sound refl refl refl)
+
+pub run-room-3007 : (part : List ℕ) → ranOf started part (replicate 3007 0) 0 ≡ asking (replicate 3007 0)
+unfolding lacksRoom lacksBlockRoom started
+run-room-3007 part = sym (run-asks started part (replicate 3007 0) 0 started-sound refl refl refl)

@@ -38,7 +38,7 @@ use Rattle.listing.specs.Lines.{spaced, print, text, byPort, creditLine, flitLi
 use Rattle.history.specs.Run.{entryOf, runFrom, runOf}
 use Rattle.night.specs.File.{cyclesThen, fileFrom, cutInto, printedOf, listOf}
 use Rattle.trace.proofs.Sealed.{known-bytes}
-use Rattle.night.proofs.Night.{night, list-written}
+use Rattle.night.proofs.Night.{file-listed, list-written}
 use Rattle.examples.specs.Listing.{file}
 use Rattle.examples.specs.Starred.{verdicts, Starred}
 
@@ -62,7 +62,7 @@ unfolding xor firstFrom every orElse inRange firstIllegal illegalField flitOf ki
 starred =
     record {
       list-printed = refl;
-      written-always = night file file-bytes;
+      written-always = file-listed file file-bytes;
       written-by-some = list-written file file-bytes;
       after3 = refl;
       after5 = refl;

@@ -20,7 +20,7 @@ use Rattle.rules.specs.Step.{stepOf}
 use Rattle.history.specs.Run.{runOf}
 use Rattle.history.specs.Demand3.{storedCredits, buffered, onWire, goingHome}
 use Rattle.runs.specs.Run.{started}
-use Rattle.night.specs.Calls.{Calls}
+use Rattle.night.specs.Calls.{Hands}
 use Rattle.night.specs.File.{listOf}
 use Rattle.examples.specs.Listing.{config, cycle0, cycle1, cycle2, cycle3, cycle4, cycle5, block0, block2, file, printed}
 
@@ -69,8 +69,8 @@ refuses1 arbiter = verdicts (freshRouter (link 5 arbiter)) (replicate 6 offer ++
 pub record Starred : Type 0 where
   -- "Listing": the list of the file; and whatever calls of the run entry the file is handed over in, they write that, and some do
   pub list-printed : listOf file ≡ printed
-  pub written-always : (out : List ℕ) → Calls started file out → out ≡ printed
-  pub written-by-some : Calls started file printed
+  pub written-always : (out : List ℕ) → Hands started file out → out ≡ printed
+  pub written-by-some : Hands started file printed
   -- "After cycle 3, input 0 has credit 0, wire 0, queue 2, home 0; after cycle 5, 1, 0, 0, 1."
   pub after3 : countsAfter (cycle0 ∷ cycle1 ∷ cycle2 ∷ cycle3 ∷ []) ≡ 0 ∷ 0 ∷ 2 ∷ 0 ∷ []
   pub after5 : countsAfter (cycle0 ∷ cycle1 ∷ cycle2 ∷ cycle3 ∷ cycle4 ∷ cycle5 ∷ []) ≡ 1 ∷ 0 ∷ 0 ∷ 1 ∷ []
