@@ -64,8 +64,11 @@ byVerdict Accepted x w =
     (onRun (λ n. withRouter (x .router) (withFlits (flitLines (cycleLines (n .router .cycle) (x .reply))) n)) w)
 byVerdict (Refused r) x w = endedBy (refusal (r .number) (w .run .router .cycle) (r .port)) w
 
+abbrev pub byStep : Stepped → Writing → Writing
+byStep x w = byVerdict (x .verdict) x w
+
 unfoldable pub cycled : List ℕ → Writing → Writing
-cycled part w = byVerdict (stepOf (w .run .router) part .verdict) (stepOf (w .run .router) part) w
+cycled part w = byStep (stepOf (w .run .router) part) w
 
 -- the n cycles of a block from cycle k on, up to the first refusal
 unfoldable pub cyclesFrom : List ℕ → ℕ → ℕ → Writing → Writing
@@ -83,10 +86,11 @@ abbrev pub byOutcome : Option Read → trace.BlockOutcome → List ℕ → Writi
 byOutcome none o block w = endedBy (refusal (o .number) (w .run .router .cycle) (o .field)) w
 byOutcome (some r) o block w = byRead r block (onRun (withPlace (o .place)) w)
 
+abbrev pub byJudgement : trace.BlockOutcome → List ℕ → Writing → Writing
+byJudgement o block w = byOutcome (o .read) o block w
+
 unfoldable pub blockTaken : List ℕ → Writing → Writing
-blockTaken block w =
-    byOutcome (judged (w .run .place) (w .run .router .cycle) block .read)
-    (judged (w .run .place) (w .run .router .cycle) block) block w
+blockTaken block w = byJudgement (judged (w .run .place) (w .run .router .cycle) block) block w
 
 -- The blocks of a part handed over: 512 bytes each, the last perhaps shorter; an empty part is one empty block, the end of the input.
 abbrev pub blocksIn : List ℕ → ℕ
