@@ -50,8 +50,8 @@ use Rattle.floor.specs.Handing.{Handed, stops, goes, calls, ends, HandsOver, la
 abbrev started-with : Handed
 started-with = record { run = started; buffer = replicate 3100 0 }
 
--- 1,536 bytes, read into a buffer of 2,048, so that the input has ended: the second call finds too little room for the end block, which asks
--- for 3,008 bytes, so it is handed over again; a third ends the run
+-- 1,536 bytes, read into a buffer of 2,048, so that the input has ended: behind the first call's lines there is too little room for the end
+-- block, so it is handed over again, and a third call ends the run
 pub listing-handed : HandsOver 2048 file started-with 3 Whole (calls 1 [] (calls 2 file started-with))
 unfolding xor firstFrom every orElse inRange firstIllegal illegalField flitOf kindOf destinationOf payloadOf startsKind endsKind
     nextInTurn pointerAfter blankFrom arbiter.known arbiter.usable arbiter.choice arbiter.moved arbiter.after arbiter.fresh

@@ -45,8 +45,8 @@ pub room-short : written (replicate 375 0) 0 [] .number ≡ noRoom
 unfolding printable lacksRoom written
 room-short = refl
 
--- The run entry asks for 376 bytes, too, and 375 give 11; from there up to 3,007 it uses nothing, writes nothing and says that the next block
--- asks for 3,008.
+-- The run entry asks for 376 bytes, too, and 375 give 11; from there up to 3,007 it uses nothing, writes nothing and says that the next
+-- block asks for 3,008.
 pub run-room-short : (part : List ℕ) → ranOf started part (replicate 375 0) 0 ≡ refusedWith noRoom started (replicate 375 0)
 unfolding lacksRoom
 run-room-short part = sym (run-full started part (replicate 375 0) 0 started-sound refl)

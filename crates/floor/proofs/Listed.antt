@@ -28,8 +28,9 @@ use Rattle.floor.specs.declared.whole.Ended.{Ended}
 use Rattle.floor.specs.declared.whole.Ended.the-variants as ended
 use Rattle.floor.specs.declared.whole.Ended.the-variants.{Over, Unread}
 use Rattle.floor.specs.Handing as handing
-use Rattle.floor.specs.Handing.{Handed, called, handedBy, stopOf, Passes, stops, fails, goes, isWhole, holdsBlocks, Finishes, HandsOver}
-use Rattle.floor.specs.Handing.{uneven, fills, last, Lists, unread, linesOf, lastLines, pieceLines, nightLines, joined, AllButLastFill}
+use Rattle.floor.specs.Handing.{Handed, called, handedBy, stopOf, Passes, stops, fails, goes, isWhole, holdsBlocks, Finishes}
+use Rattle.floor.specs.Handing.{HandsOver, uneven, fills, last, Lists, unread, linesOf, lastLines, pieceLines, nightLines, joined}
+use Rattle.floor.specs.Handing.{AllButLastFill}
 use Rattle.floor.proofs.Calls.{none-told}
 
 -- a part of some whole blocks, or the last of the input

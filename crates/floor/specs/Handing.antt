@@ -1,5 +1,5 @@
--- What handing bytes over to the run entry comes to, call by call. What the system does with a call's lines is not said here: it takes them,
--- or it does not (`NotWritten`).
+-- What handing bytes over to the run entry comes to, call by call. What the system does with a call's lines is not said here: it takes
+-- them, or it does not (`NotWritten`).
 -- Assumes nothing.
 use mathlib.Core.Path.{_≡_}
 use mathlib.Core.Bool.{Bool, true, false, cond, _&&_}
@@ -101,7 +101,7 @@ pub data Lists (full : ℕ) : Handed → List (List ℕ) → Ended → Handed �
       → isWhole s ≡ true → g .run .over ≡ false → HandsOver full piece h k s g → Lists full g pieces r e
       → Lists full h (piece ∷ pieces) r e
 
--- ---- the lines that were handed to the system, call after call
+-- ---- the lines of the calls, one call's after another's
 
 unfoldable pub linesOf : {part : List ℕ} {h : Handed} {k : ℕ} {s : Stop} {g : Handed} → Passes part h k s g → List ℕ
 linesOf (stops part h s e) = wroteIn 0 (called part h)

@@ -1,5 +1,5 @@
--- What a call answers, and exactly when: 2, 11, or done; and then the run is over, or all of the part is used, or the room is asked for that
--- the next block needs.
+-- What a call answers, and exactly when: 2, 11, or done; and then the run is over, or all of the part is used, or the room is asked for
+-- that the next block needs.
 -- Assumes nothing.
 use mathlib.Core.Path.{_≡_, refl, sym, ap, subst, _∙_}
 use mathlib.Core.Logic.{_⊎_, inl, inr, _↔_}

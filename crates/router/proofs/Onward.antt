@@ -112,7 +112,8 @@ goes-on part (suc n) c =
 pub used-on : (part : List ℕ) (n : ℕ) (c : Call) → c .used ≤ goesOn part n c .used
 unfolding goesOn
 used-on part zero c = le-refl (c .used)
-used-on part (suc n) c = either (c .writing .run .over) (lacksBlockRoom (c .writing .buffer) (c .writing .at)) (used-on part n (takes part c))
+used-on part (suc n) c =
+    either (c .writing .run .over) (lacksBlockRoom (c .writing .buffer) (c .writing .at)) (used-on part n (takes part c))
   where
     either : (o f : Bool) → takes part c .used ≤ goesOn part n (takes part c) .used
         → c .used ≤ cond o c (cond f (stops c) (goesOn part n (takes part c))) .used

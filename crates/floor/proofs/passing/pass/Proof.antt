@@ -182,7 +182,8 @@ loop-again c =
           let e : at-loop .loop .calls + suc k ≡ at-loop .loop .calls + 1 + k = omega arith in
           subst (λ (m : ℕ). Passes (start .args .part .now) (record { run = start .args .before; buffer = start .args .out .now }) m s g) e
           (at-loop .loop .inv .3 (suc k) s g
-          (more-passes (left at-loop) (sofar at-loop) (outcome at-run) (is-call at-run) (fine (else1-else3 at-else3)) (at-else3 .if3 .left) u
+          (more-passes (left at-loop) (sofar at-loop) (outcome at-run) (is-call at-run) (fine (else1-else3 at-else3)) (at-else3 .if3 .left)
+          u
           k s g
           (subst (λ (l : List ℕ). Passes l (handedBy (outcome at-run)) k s g)
           (sym (drop-drop (at-run .run .result .used) (at-loop .loop .from) (start .args .part .now))) p)))),
@@ -202,7 +203,8 @@ pass-spec =
       refl,
       omega arith,
       (λ k s g p.
-          subst (λ (m : ℕ). Passes (c .before .before .args .part .now) (record { run = c .before .before .args .before; buffer = c .before .before .args .out .now }) m s g)
+          subst (λ (m : ℕ). Passes (c .before .before .args .part .now)
+          (record { run = c .before .before .args .before; buffer = c .before .before .args .out .now }) m s g)
           (sym (zero-add k)) p),
     ))
     (λ c. search needs)

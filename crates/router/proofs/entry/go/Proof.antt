@@ -42,8 +42,8 @@ returns c =
     let at-blocks2 = before-pack (c .before) in
     let at-unpack = before-blocks-arg (at-blocks2 .before) in
     let start = before-unpack at-unpack in
-    parts-answer (start .args .run) (at-unpack .unpack .result) (at-unpack .unpack .ensures) _ _ (start .args .start) _ _ (start .args .count)
-    (start .args .first) (start .args .part .now) _ _ _ _ _ _ (c .before .pack .ensures) (at-blocks2 .blocks2 .ensures)
+    parts-answer (start .args .run) (at-unpack .unpack .result) (at-unpack .unpack .ensures) _ _ (start .args .start) _ _
+    (start .args .count) (start .args .first) (start .args .part .now) _ _ _ _ _ _ (c .before .pack .ensures) (at-blocks2 .blocks2 .ensures)
 
 pub go-spec : {M : Type 1} → statement M
 go-spec =
