@@ -72,6 +72,7 @@ pub fn pass(before: Run, part: &[u8], out: &mut [u8], to: i32) -> Passed
         }
         from += ran.used;
     }
+    // never reached: what a call uses is inside the part
     Passed {
         run,
         calls,
