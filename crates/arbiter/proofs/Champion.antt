@@ -14,37 +14,37 @@ use lib.ListN.{get_or}
 use lib.Pow.{pow_mono, pow-lt}
 use borrow.Author.Tests.{eqb-true}
 use Rattle.base.specs.Bits.{bit}
-use Rattle.base.specs.Search.{firstFrom}
-use Rattle.base.proofs.Bits.{bit-ext, bit-and, bit-or, bit-pow, bit_below, bit_le, bit-take, bit-zero}
-use Rattle.base.proofs.Search.{First, both, every-at, all-every, first-at, first-none, first-ext, trailing-first}
-use Rattle.arbiter.specs.Matrix.{beats, beatsEveryOther, champion}
+use Rattle.base.specs.Search.{first_from}
+use Rattle.base.proofs.Bits.{bit_ext, bit_and-law, bit_or-law, bit_pow, bit_below, bit_le, bit_take, bit_zero}
+use Rattle.base.proofs.Search.{First, both, every_at, all_every, first_at, first_none, first_ext, trailing_first}
+use Rattle.arbiter.specs.Matrix.{beats, beats_every_other, champion}
 
 -- the test of the code: row i and i itself cover all that ask
 unfoldable pub covered : ℕ → List ℕ → ℕ → ℕ
 covered asking rows i = bit_or (bit_and asking (get_or rows i 0)) (2 ^ i)
 
-covered-bit : (asking : ℕ) (rows : List ℕ) (i j : ℕ) → bit (covered asking rows i) j ≡ (bit asking j && beats rows i j || eqb j i)
+covered_bit : (asking : ℕ) (rows : List ℕ) (i j : ℕ) → bit (covered asking rows i) j ≡ (bit asking j && beats rows i j || eqb j i)
 unfolding covered beats
-covered-bit asking rows i j =
-    bit-or (bit_and asking (get_or rows i 0)) (2 ^ i) j ∙ ap₂ ◌||◌ (bit-and asking (get_or rows i 0) j) (bit-pow i j)
+covered_bit asking rows i j =
+    bit_or-law (bit_and asking (get_or rows i 0)) (2 ^ i) j ∙ ap₂ ◌||◌ (bit_and-law asking (get_or rows i 0) j) (bit_pow i j)
 
 module _ (n asking : ℕ) (rows : List ℕ) (i : ℕ) (h : asking < 2 ^ n) (asks : bit asking i ≡ true) where
-  pub covers-beats : covered asking rows i ≡ asking → beatsEveryOther n (bit asking) rows i ≡ true
-  unfolding beatsEveryOther
-  covers-beats e =
-      all-every n (λ (j : ℕ). not (bit asking j) || eqb j i || beats rows i j)
-      (λ j l. go (bit asking j) (eqb j i) (beats rows i j) (sym (covered-bit asking rows i j) ∙ ap (λ (x : ℕ). bit x j) e))
+  pub covers_beats : covered asking rows i ≡ asking → beats_every_other n (bit asking) rows i ≡ true
+  unfolding beats_every_other
+  covers_beats e =
+      all_every n (λ (j : ℕ). not (bit asking j) || eqb j i || beats rows i j)
+      (λ j l. go (bit asking j) (eqb j i) (beats rows i j) (sym (covered_bit asking rows i j) ∙ ap (λ (x : ℕ). bit x j) e))
     where
       go : (a q b : Bool) → (a && b || q) ≡ a → (not a || q || b) ≡ true
       go true true b p = refl
       go true false b p = sym (or-false b) ∙ p
       go false q b p = refl
 
-  pub beats-covers : beatsEveryOther n (bit asking) rows i ≡ true → covered asking rows i ≡ asking
-  unfolding beatsEveryOther covered
-  beats-covers e =
-      bit-ext n (covered asking rows i) asking low h
-      (λ j l. covered-bit asking rows i j ∙ go j (eqb j i) refl (bit asking j) refl (every-at n _ e j l))
+  pub beats_covers : beats_every_other n (bit asking) rows i ≡ true → covered asking rows i ≡ asking
+  unfolding beats_every_other covered
+  beats_covers e =
+      bit_ext n (covered asking rows i) asking low h
+      (λ j l. covered_bit asking rows i j ∙ go j (eqb j i) refl (bit asking j) refl (every_at n _ e j l))
     where
       low : covered asking rows i < 2 ^ n
       low =
@@ -61,16 +61,16 @@ module _ (n asking : ℕ) (rows : List ℕ) (i : ℕ) (h : asking < 2 ^ n) (asks
 pub record Trying (n asking : ℕ) (rows : List ℕ) (left : ℕ) : Type 0 where
   pub low : left < 2 ^ n
   pub among : (j : ℕ) → bit left j ≡ true → bit asking j ≡ true
-  pub rest : firstFrom (λ (j : ℕ). bit left j && beatsEveryOther n (bit asking) rows j) n 0 ≡ champion n (bit asking) rows
+  pub rest : first_from (λ (j : ℕ). bit left j && beats_every_other n (bit asking) rows j) n 0 ≡ champion n (bit asking) rows
 
-pub trying-all : (n asking : ℕ) (rows : List ℕ) → asking < 2 ^ n → Trying n asking rows asking
+pub trying_all : (n asking : ℕ) (rows : List ℕ) → asking < 2 ^ n → Trying n asking rows asking
 unfolding champion
-trying-all n asking rows h = record { low = h; among = λ j p. p; rest = refl }
+trying_all n asking rows h = record { low = h; among = λ j p. p; rest = refl }
 
 module _ (n asking : ℕ) (rows : List ℕ) (left : ℕ) (w : n ≤ 32) (h : asking < 2 ^ n) (t : Trying n asking rows left) (some_left : 0 < left)
   where
     pub trying-first : First (bit left) 32 0 (count_trailing_zeros 32 left)
-    trying-first = trailing-first 32 left (lt_of_lt_of_le t.low (pow_mono w)) some_left
+    trying-first = trailing_first 32 left (lt_of_lt_of_le t.low (pow_mono w)) some_left
 
     pub trying-below : count_trailing_zeros 32 left < n
     trying-below = bit_below n left (count_trailing_zeros 32 left) t.low trying-first.passes
@@ -83,42 +83,42 @@ module _ (n asking : ℕ) (rows : List ℕ) (left : ℕ) (w : n ≤ 32) (h : ask
 
     pub trying-wins : covered asking rows (count_trailing_zeros 32 left) ≡ asking → some (count_trailing_zeros 32 left) ≡ champion n (bit asking) rows
     trying-wins e =
-        sym (first-at (λ (j : ℕ). bit left j && beatsEveryOther n (bit asking) rows j) n 0 (count_trailing_zeros 32 left)
+        sym (first_at (λ (j : ℕ). bit left j && beats_every_other n (bit asking) rows j) n 0 (count_trailing_zeros 32 left)
         (record {
           from = omega arith;
           below = let l = trying-below in omega arith;
-          passes = ap₂ ◌&&◌ trying-first.passes (covers-beats n asking rows (count_trailing_zeros 32 left) h asks e);
-          before = λ j l g. ap (λ (b : Bool). b && beatsEveryOther n (bit asking) rows j) (trying-first.before j l g);
+          passes = ap₂ ◌&&◌ trying-first.passes (covers_beats n asking rows (count_trailing_zeros 32 left) h asks e);
+          before = λ j l g. ap (λ (b : Bool). b && beats_every_other n (bit asking) rows j) (trying-first.before j l g);
         })) ∙ t.rest
 
     pub trying-less : (covered asking rows (count_trailing_zeros 32 left) ≡ asking → ⊥) → Trying n asking rows (left - 2 ^ count_trailing_zeros 32 left)
     trying-less d =
         record {
           low = lt_of_le_of_lt (omega arith) t.low;
-          among = λ j p. t.among j (both (bit left j) (not (eqb j i)) (sym (bit-take left i j trying-first.passes) ∙ p)).0;
-          rest = first-ext _ _ n 0 (λ j l g. same j (eqb j i) refl) ∙ t.rest;
+          among = λ j p. t.among j (both (bit left j) (not (eqb j i)) (sym (bit_take left i j trying-first.passes) ∙ p)).0;
+          rest = first_ext _ _ n 0 (λ j l g. same j (eqb j i) refl) ∙ t.rest;
         }
       where
         i : ℕ
         i = count_trailing_zeros 32 left
 
-        loses : (b : Bool) → beatsEveryOther n (bit asking) rows i ≡ b → b ≡ false
-        loses true e = absurd (d (beats-covers n asking rows i h asks e))
+        loses : (b : Bool) → beats_every_other n (bit asking) rows i ≡ b → b ≡ false
+        loses true e = absurd (d (beats_covers n asking rows i h asks e))
         loses false e = refl
 
         same : (j : ℕ) (q : Bool) → eqb j i ≡ q
-            → (bit (left - 2 ^ i) j && beatsEveryOther n (bit asking) rows j) ≡ (bit left j && beatsEveryOther n (bit asking) rows j)
+            → (bit (left - 2 ^ i) j && beats_every_other n (bit asking) rows j) ≡ (bit left j && beats_every_other n (bit asking) rows j)
         same j true e =
             let j≡i : j ≡ i = eqb-true j i e in
-            let lost : beatsEveryOther n (bit asking) rows j ≡ false =
-            ap (beatsEveryOther n (bit asking) rows) j≡i ∙ loses (beatsEveryOther n (bit asking) rows i) refl in
+            let lost : beats_every_other n (bit asking) rows j ≡ false =
+            ap (beats_every_other n (bit asking) rows) j≡i ∙ loses (beats_every_other n (bit asking) rows i) refl in
             ap (λ (b : Bool). bit (left - 2 ^ i) j && b) lost ∙ and-false (bit (left - 2 ^ i) j)
             ∙ sym (ap (λ (b : Bool). bit left j && b) lost ∙ and-false (bit left j))
         same j false e =
-            ap (λ (b : Bool). b && beatsEveryOther n (bit asking) rows j)
-            (bit-take left i j trying-first.passes ∙ ap (λ (b : Bool). bit left j && not b) e ∙ and-true (bit left j))
+            ap (λ (b : Bool). b && beats_every_other n (bit asking) rows j)
+            (bit_take left i j trying-first.passes ∙ ap (λ (b : Bool). bit left j && not b) e ∙ and-true (bit left j))
 
-pub trying-none : (n asking : ℕ) (rows : List ℕ) (left : ℕ) → Trying n asking rows left → left ≡ 0 → none ≡ champion n (bit asking) rows
-trying-none n asking rows left t e =
-    sym (first-none (λ (j : ℕ). bit left j && beatsEveryOther n (bit asking) rows j) n 0
-    (λ j l g. ap (λ (b : Bool). b && beatsEveryOther n (bit asking) rows j) (ap (λ (x : ℕ). bit x j) e ∙ bit-zero j))) ∙ t.rest
+pub trying_none : (n asking : ℕ) (rows : List ℕ) (left : ℕ) → Trying n asking rows left → left ≡ 0 → none ≡ champion n (bit asking) rows
+trying_none n asking rows left t e =
+    sym (first_none (λ (j : ℕ). bit left j && beats_every_other n (bit asking) rows j) n 0
+    (λ j l g. ap (λ (b : Bool). b && beats_every_other n (bit asking) rows j) (ap (λ (x : ℕ). bit x j) e ∙ bit_zero j))) ∙ t.rest

@@ -12,7 +12,7 @@ use lib.Dec.{eqb}
 use lib.ListN.{length, get_or, set, replicate, length-set}
 use lib.Seq.{get_or-set_same, get_or-set_other}
 use borrow.Author.Tests.{eqb-true, eqb-false}
-use Rattle.base.proofs.Lists.{getD-zeros}
+use Rattle.base.proofs.Lists.{get_d_zeros}
 
 abbrev pub rank_of : List ℕ → ℕ → ℕ
 rank_of rows i = ones (get_or rows i 0)
@@ -23,14 +23,14 @@ pub record Ranked (n : ℕ) (rows at : List ℕ) (i : ℕ) : Type 0 where
   pub inside : (k : ℕ) → get_or at k 0 < n
   pub same : (k : ℕ) → k < i → rank_of rows (get_or at (rank_of rows k) 0) ≡ rank_of rows k
 
-pub ranked-none : (n : ℕ) (rows : List ℕ) → 1 ≤ n → Ranked n rows (replicate 33 0) 0
-ranked-none n rows h =
-    record { room = refl; inside = λ k. subst (λ (x : ℕ). x < n) (sym (getD-zeros 33 k)) h; same = λ k l. absurd (omega arith) }
+pub ranked_none : (n : ℕ) (rows : List ℕ) → 1 ≤ n → Ranked n rows (replicate 33 0) 0
+ranked_none n rows h =
+    record { room = refl; inside = λ k. subst (λ (x : ℕ). x < n) (sym (get_d_zeros 33 k)) h; same = λ k l. absurd (omega arith) }
 
 -- one row more
-pub ranked-more : (n : ℕ) (rows at : List ℕ) (i : ℕ) → n ≤ 32 → i < n → rank_of rows i < 33 → Ranked n rows at i
+pub ranked_more : (n : ℕ) (rows at : List ℕ) (i : ℕ) → n ≤ 32 → i < n → rank_of rows i < 33 → Ranked n rows at i
     → Ranked n rows (set at (rank_of rows i) (i % 256)) (i + 1)
-ranked-more n rows at i w h r t =
+ranked_more n rows at i w h r t =
     record {
       room = length-set at (rank_of rows i) (i % 256) ∙ t.room;
       inside = λ k. inside k (eqb k (rank_of rows i)) refl;

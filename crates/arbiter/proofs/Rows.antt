@@ -14,20 +14,20 @@ use lib.ListN.{length, get_or, set, take, length-set, length-append, get_or-appe
 use lib.Pow.{pow_mono, pow_pos}
 use lib.Seq.{take-suc-set, get_or-set_same, get_or-set_other, get_or_at}
 use borrow.Author.Tests.{eqb-true, eqb-false, ltb-true, ltb-false, le-ltb}
-use Rattle.base.specs.Bits.{bit, word_of, withBit}
-use Rattle.base.proofs.Bits.{or-with, bit-zero, bit-with, bit_word, word_lt, with-lt}
-use Rattle.arbiter.specs.Matrix.{beats, raised, defeated, list_of, fresh_row, freshRows}
+use Rattle.base.specs.Bits.{bit, word_of, with_bit}
+use Rattle.base.proofs.Bits.{or_with, bit_zero, bit_with, bit_word, word_lt, with_lt}
+use Rattle.arbiter.specs.Matrix.{beats, raised, defeated, list_of, fresh_row, fresh_rows}
 
-pub length-raised : (w k : ℕ) (rows : List ℕ) → length (raised w k rows) ≡ length rows
+pub length_raised : (w k : ℕ) (rows : List ℕ) → length (raised w k rows) ≡ length rows
 unfolding raised
-length-raised w zero rows = refl
-length-raised w (suc k) rows = length-set (raised w k rows) k (withBit w (get_or (raised w k rows) k 0)) ∙ length-raised w k rows
+length_raised w zero rows = refl
+length_raised w (suc k) rows = length-set (raised w k rows) k (with_bit w (get_or (raised w k rows) k 0)) ∙ length_raised w k rows
 
 -- one row more
-pub raised-more : (w k : ℕ) (rows now : List ℕ) → now ≡ raised w k rows → set now k (bit_or (get_or now k 0) (2 ^ w)) ≡ raised w (k + 1) rows
+pub raised_more : (w k : ℕ) (rows now : List ℕ) → now ≡ raised w k rows → set now k (bit_or (get_or now k 0) (2 ^ w)) ≡ raised w (k + 1) rows
 unfolding raised
-raised-more w k rows now e =
-    ap₂ (λ (l : List ℕ) (x : ℕ). set l k x) e (or-with (get_or now k 0) w ∙ ap (λ (l : List ℕ). withBit w (get_or l k 0)) e)
+raised_more w k rows now e =
+    ap₂ (λ (l : List ℕ) (x : ℕ). set l k x) e (or_with (get_or now k 0) w ∙ ap (λ (l : List ℕ). with_bit w (get_or l k 0)) e)
     ∙ sym (ap (λ (m : ℕ). raised w m rows) (add-one k))
 
 -- nobody below n is above i
@@ -66,76 +66,76 @@ filled_more f rows i x h e v =
 -- ---- who beats whom
 
 -- the rows from k on are not raised, those below are
-raised-from : (w k : ℕ) (rows : List ℕ) (i : ℕ) → k ≤ i → get_or (raised w k rows) i 0 ≡ get_or rows i 0
+raised_from : (w k : ℕ) (rows : List ℕ) (i : ℕ) → k ≤ i → get_or (raised w k rows) i 0 ≡ get_or rows i 0
 unfolding raised
-raised-from w zero rows i h = refl
-raised-from w (suc k) rows i h =
-    get_or-set_other (raised w k rows) k i (withBit w (get_or (raised w k rows) k 0)) 0 (λ e. omega arith)
-    ∙ raised-from w k rows i (omega arith)
+raised_from w zero rows i h = refl
+raised_from w (suc k) rows i h =
+    get_or-set_other (raised w k rows) k i (with_bit w (get_or (raised w k rows) k 0)) 0 (λ e. omega arith)
+    ∙ raised_from w k rows i (omega arith)
 
-raised_below : (w k : ℕ) (rows : List ℕ) (i : ℕ) → k ≤ length rows → i < k → get_or (raised w k rows) i 0 ≡ withBit w (get_or rows i 0)
+raised_below : (w k : ℕ) (rows : List ℕ) (i : ℕ) → k ≤ length rows → i < k → get_or (raised w k rows) i 0 ≡ with_bit w (get_or rows i 0)
 unfolding raised
 raised_below w zero rows i h l = absurd (omega arith)
 raised_below w (suc k) rows i h l = go (eqb i k) refl (raised_below w k rows i (omega arith))
   where
     x : ℕ
-    x = withBit w (get_or (raised w k rows) k 0)
+    x = with_bit w (get_or (raised w k rows) k 0)
 
-    go : (b : Bool) → eqb i k ≡ b → (i < k → get_or (raised w k rows) i 0 ≡ withBit w (get_or rows i 0))
-        → get_or (set (raised w k rows) k x) i 0 ≡ withBit w (get_or rows i 0)
+    go : (b : Bool) → eqb i k ≡ b → (i < k → get_or (raised w k rows) i 0 ≡ with_bit w (get_or rows i 0))
+        → get_or (set (raised w k rows) k x) i 0 ≡ with_bit w (get_or rows i 0)
     go true e rest =
         let same : i ≡ k = eqb-true i k e in
         ap (λ (m : ℕ). get_or (set (raised w k rows) k x) m 0) same
-        ∙ get_or-set_same (raised w k rows) k x 0 (omega (arith, length-raised w k rows))
-        ∙ ap (withBit w) (raised-from w k rows k (le_refl k) ∙ ap (λ (m : ℕ). get_or rows m 0) (sym same))
+        ∙ get_or-set_same (raised w k rows) k x 0 (omega (arith, length_raised w k rows))
+        ∙ ap (with_bit w) (raised_from w k rows k (le_refl k) ∙ ap (λ (m : ℕ). get_or rows m 0) (sym same))
     go false e rest =
         get_or-set_other (raised w k rows) k i x 0 (eqb-false i k e) ∙ rest (lt_of_le-ne (omega arith) (eqb-false i k e))
 
 -- after its win w beats nobody, each other of the n beats w, and between others nothing has changed
-pub defeated-beats : (n w : ℕ) (rows : List ℕ) → n ≤ length rows → w < n → (i j : ℕ) → i < n
+pub defeated_beats : (n w : ℕ) (rows : List ℕ) → n ≤ length rows → w < n → (i j : ℕ) → i < n
     → beats (defeated n w rows) i j ≡ (not (eqb i w) && (beats rows i j || eqb j w))
 unfolding beats defeated
-defeated-beats n w rows h g i j l = go (eqb i w) refl
+defeated_beats n w rows h g i j l = go (eqb i w) refl
   where
     go : (b : Bool) → eqb i w ≡ b → bit (get_or (set (raised w n rows) w 0) i 0) j ≡ (not b && (beats rows i j || eqb j w))
     go true e =
         ap (λ (m : ℕ). bit (get_or (set (raised w n rows) w 0) m 0) j) (eqb-true i w e)
-        ∙ ap (λ (x : ℕ). bit x j) (get_or-set_same (raised w n rows) w 0 0 (omega (arith, length-raised w n rows))) ∙ bit-zero j
+        ∙ ap (λ (x : ℕ). bit x j) (get_or-set_same (raised w n rows) w 0 0 (omega (arith, length_raised w n rows))) ∙ bit_zero j
     go false e =
         ap (λ (x : ℕ). bit x j) (get_or-set_other (raised w n rows) w i 0 0 (eqb-false i w e) ∙ raised_below w n rows i h l)
-        ∙ bit-with w (get_or rows i 0) j
+        ∙ bit_with w (get_or rows i 0) j
 
 -- rows at or beyond the width stay as they were
-pub defeated-beyond : (n w : ℕ) (rows : List ℕ) → w < n → (i : ℕ) → n ≤ i → get_or (defeated n w rows) i 0 ≡ get_or rows i 0
+pub defeated_beyond : (n w : ℕ) (rows : List ℕ) → w < n → (i : ℕ) → n ≤ i → get_or (defeated n w rows) i 0 ≡ get_or rows i 0
 unfolding defeated
-defeated-beyond n w rows g i l =
-    get_or-set_other (raised w n rows) w i 0 0 (λ e. omega arith) ∙ raised-from w n rows i l
+defeated_beyond n w rows g i l =
+    get_or-set_other (raised w n rows) w i 0 0 (λ e. omega arith) ∙ raised_from w n rows i l
 
 -- and no bit beyond the width is set
-pub defeated-within : (n w : ℕ) (rows : List ℕ) → n ≤ length rows → w < n → ((i : ℕ) → i < n → get_or rows i 0 < 2 ^ n) → (i : ℕ) → i < n
+pub defeated_within : (n w : ℕ) (rows : List ℕ) → n ≤ length rows → w < n → ((i : ℕ) → i < n → get_or rows i 0 < 2 ^ n) → (i : ℕ) → i < n
     → get_or (defeated n w rows) i 0 < 2 ^ n
 unfolding defeated
-defeated-within n w rows h g narrow i l = go (eqb i w) refl
+defeated_within n w rows h g narrow i l = go (eqb i w) refl
   where
     go : (b : Bool) → eqb i w ≡ b → get_or (set (raised w n rows) w 0) i 0 < 2 ^ n
     go true e =
         subst (λ (x : ℕ). x < 2 ^ n)
         (sym (ap (λ (m : ℕ). get_or (set (raised w n rows) w 0) m 0) (eqb-true i w e)
-        ∙ get_or-set_same (raised w n rows) w 0 0 (omega (arith, length-raised w n rows))))
+        ∙ get_or-set_same (raised w n rows) w 0 0 (omega (arith, length_raised w n rows))))
         (pow_pos n)
     go false e =
         subst (λ (x : ℕ). x < 2 ^ n) (sym (get_or-set_other (raised w n rows) w i 0 0 (eqb-false i w e) ∙ raised_below w n rows i h l))
-        (with-lt n w (get_or rows i 0) (narrow i l) g)
+        (with_lt n w (get_or rows i 0) (narrow i l) g)
 
-pub length-defeated : (n w : ℕ) (rows : List ℕ) → length (defeated n w rows) ≡ length rows
+pub length_defeated : (n w : ℕ) (rows : List ℕ) → length (defeated n w rows) ≡ length rows
 unfolding defeated
-length-defeated n w rows = length-set (raised w n rows) w 0 ∙ length-raised w n rows
+length_defeated n w rows = length-set (raised w n rows) w 0 ∙ length_raised w n rows
 
 -- fresh, a lower number beats a higher
-length-list : (f : ℕ → ℕ) (k : ℕ) → length (list_of f k) ≡ k
+length_list : (f : ℕ → ℕ) (k : ℕ) → length (list_of f k) ≡ k
 unfolding list_of
-length-list f zero = refl
-length-list f (suc k) = length-append (list_of f k) (f k ∷ []) ∙ ap (λ (m : ℕ). m + 1) (length-list f k) ∙ add-one k
+length_list f zero = refl
+length_list f (suc k) = length-append (list_of f k) (f k ∷ []) ∙ ap (λ (m : ℕ). m + 1) (length_list f k) ∙ add-one k
 
 list_at : (f : ℕ → ℕ) (k i : ℕ) → i < k → get_or (list_of f k) i 0 ≡ f i
 unfolding list_of
@@ -145,23 +145,23 @@ list_at f (suc k) i h = go (eqb i k) refl (list_at f k i)
     go : (b : Bool) → eqb i k ≡ b → (i < k → get_or (list_of f k) i 0 ≡ f i) → get_or (list_of f k ++ (f k ∷ [])) i 0 ≡ f i
     go true e rest =
         let same : i ≡ k = eqb-true i k e in
-        get_or_at (list_of f k) (f k) [] 0 i (length-list f k ∙ sym same) ∙ ap f (sym same)
+        get_or_at (list_of f k) (f k) [] 0 i (length_list f k ∙ sym same) ∙ ap f (sym same)
     go false e rest =
         let l : i < k = lt_of_le-ne (omega arith) (eqb-false i k e) in
-        get_or-append (list_of f k) (f k ∷ []) 0 i (omega (arith, length-list f k)) ∙ rest l
+        get_or-append (list_of f k) (f k ∷ []) 0 i (omega (arith, length_list f k)) ∙ rest l
 
-pub fresh-row : (places n i : ℕ) → i < places → get_or (freshRows places n) i 0 ≡ fresh_row n i
-unfolding freshRows
-fresh-row places n i h = list_at (fresh_row n) places i h
+pub fresh_row-law : (places n i : ℕ) → i < places → get_or (fresh_rows places n) i 0 ≡ fresh_row n i
+unfolding fresh_rows
+fresh_row-law places n i h = list_at (fresh_row n) places i h
 
-pub length-fresh : (places n : ℕ) → length (freshRows places n) ≡ places
-unfolding freshRows
-length-fresh places n = length-list (fresh_row n) places
+pub length_fresh : (places n : ℕ) → length (fresh_rows places n) ≡ places
+unfolding fresh_rows
+length_fresh places n = length_list (fresh_row n) places
 
-pub fresh-beats : (places n i j : ℕ) → i < places → j < n → beats (freshRows places n) i j ≡ ltb i j
+pub fresh_beats : (places n i j : ℕ) → i < places → j < n → beats (fresh_rows places n) i j ≡ ltb i j
 unfolding beats fresh_row
-fresh-beats places n i j h g = ap (λ (x : ℕ). bit x j) (fresh-row places n i h) ∙ bit_word (λ (j : ℕ). ltb i j) n j g
+fresh_beats places n i j h g = ap (λ (x : ℕ). bit x j) (fresh_row-law places n i h) ∙ bit_word (λ (j : ℕ). ltb i j) n j g
 
-pub fresh-lt : (n i : ℕ) → fresh_row n i < 2 ^ n
+pub fresh_lt : (n i : ℕ) → fresh_row n i < 2 ^ n
 unfolding fresh_row
-fresh-lt n i = word_lt (λ (j : ℕ). ltb i j) n
+fresh_lt n i = word_lt (λ (j : ℕ). ltb i j) n

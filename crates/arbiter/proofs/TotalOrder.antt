@@ -8,8 +8,8 @@ use Prim.Native.Nat.{ℕ, ◌<◌}
 use lib.Dec.{eqb}
 use borrow.Author.Tests.{eqb-false, ne_eqb, not-true}
 use Rattle.base.specs.Search.{every}
-use Rattle.base.proofs.Search.{both, every-at, all-every}
-use Rattle.arbiter.specs.Matrix.{beats, totalOrder}
+use Rattle.base.proofs.Search.{both, every_at, all_every}
+use Rattle.arbiter.specs.Matrix.{beats, total_order}
 
 -- the four facts of a total order, as a reader would state them
 pub record Order (n : ℕ) (rows : List ℕ) : Type 0 where
@@ -18,39 +18,39 @@ pub record Order (n : ℕ) (rows : List ℕ) : Type 0 where
   pub asymmetric : (i j : ℕ) → i < n → j < n → beats rows i j ≡ true → beats rows j i ≡ false
   pub transitive : (i j k : ℕ) → i < n → j < n → k < n → beats rows i j ≡ true → beats rows j k ≡ true → beats rows i k ≡ true
 
--- the three tests of `totalOrder`, each a fact
+-- the three tests of `total_order`, each a fact
 module _ (n : ℕ) (rows : List ℕ) where
-  abbrev nobodyItself : ℕ → Bool
-  nobodyItself i = not (beats rows i i)
+  abbrev nobody_itself : ℕ → Bool
+  nobody_itself i = not (beats rows i i)
 
-  abbrev exactlyOne : ℕ → ℕ → Bool
-  exactlyOne i j = eqb i j || xor (beats rows i j) (beats rows j i)
+  abbrev exactly_one : ℕ → ℕ → Bool
+  exactly_one i j = eqb i j || xor (beats rows i j) (beats rows j i)
 
-  abbrev carriesOver : ℕ → ℕ → ℕ → Bool
-  carriesOver i j k = not (beats rows i j && beats rows j k) || beats rows i k
+  abbrev carries_over : ℕ → ℕ → ℕ → Bool
+  carries_over i j k = not (beats rows i j && beats rows j k) || beats rows i k
 
-  pub order-of : totalOrder n rows ≡ true → Order n rows
-  unfolding totalOrder xor
-  order-of e =
+  pub order_of : total_order n rows ≡ true → Order n rows
+  unfolding total_order xor
+  order_of e =
       record {
-        irreflexive = λ i h. not-true (beats rows i i) (every-at n nobodyItself parts.0 i h);
+        irreflexive = λ i h. not-true (beats rows i i) (every_at n nobody_itself parts.0 i h);
         total = total;
         asymmetric = asymmetric;
         transitive = transitive;
       }
     where
-      parts : (every n nobodyItself ≡ true) × (every n (λ (i : ℕ). every n (exactlyOne i)) ≡ true)
-          × (every n (λ (i : ℕ). every n (λ (j : ℕ). every n (carriesOver i j))) ≡ true)
+      parts : (every n nobody_itself ≡ true) × (every n (λ (i : ℕ). every n (exactly_one i)) ≡ true)
+          × (every n (λ (i : ℕ). every n (λ (j : ℕ). every n (carries_over i j))) ≡ true)
       parts =
-          let p = both (every n nobodyItself && every n (λ (i : ℕ). every n (exactlyOne i)))
-          (every n (λ (i : ℕ). every n (λ (j : ℕ). every n (carriesOver i j)))) e in
-          let q = both (every n nobodyItself) (every n (λ (i : ℕ). every n (exactlyOne i))) p.0 in
+          let p = both (every n nobody_itself && every n (λ (i : ℕ). every n (exactly_one i)))
+          (every n (λ (i : ℕ). every n (λ (j : ℕ). every n (carries_over i j)))) e in
+          let q = both (every n nobody_itself) (every n (λ (i : ℕ). every n (exactly_one i))) p.0 in
           (q.0, q.1, p.1)
 
       one-wins : (i j : ℕ) → i < n → j < n → (i ≡ j → ⊥) → xor (beats rows i j) (beats rows j i) ≡ true
       one-wins i j h g d =
           subst (λ (b : Bool). (b || xor (beats rows i j) (beats rows j i)) ≡ true) (ne_eqb i j d)
-          (every-at n (exactlyOne i) (every-at n (λ (i : ℕ). every n (exactlyOne i)) parts.1 i h) j g)
+          (every_at n (exactly_one i) (every_at n (λ (i : ℕ). every n (exactly_one i)) parts.1 i h) j g)
 
       either : (a b : Bool) → xor a b ≡ true → (a ≡ true) ⊎ (b ≡ true)
       either true b q = inl refl
@@ -72,23 +72,23 @@ module _ (n : ℕ) (rows : List ℕ) where
       asymmetric i j h g b =
           not-both (beats rows i j) (beats rows j i)
           (one-wins i j h g (λ same. true≢false (sym b ∙ ap (beats rows i) (sym same)
-          ∙ not-true (beats rows i i) (every-at n nobodyItself parts.0 i h)))) b
+          ∙ not-true (beats rows i i) (every_at n nobody_itself parts.0 i h)))) b
 
       transitive : (i j k : ℕ) → i < n → j < n → k < n → beats rows i j ≡ true → beats rows j k ≡ true → beats rows i k ≡ true
       transitive i j k h g l p q =
           subst (λ (b : Bool). (not b || beats rows i k) ≡ true) (ap₂ ◌&&◌ p q)
-          (every-at n (carriesOver i j) (every-at n (λ (j : ℕ). every n (carriesOver i j))
-          (every-at n (λ (i : ℕ). every n (λ (j : ℕ). every n (carriesOver i j))) parts.2 i h) j g) k l)
+          (every_at n (carries_over i j) (every_at n (λ (j : ℕ). every n (carries_over i j))
+          (every_at n (λ (i : ℕ). every n (λ (j : ℕ). every n (carries_over i j))) parts.2 i h) j g) k l)
 
-  pub order-holds : Order n rows → totalOrder n rows ≡ true
-  unfolding totalOrder xor
-  order-holds o =
+  pub order_holds : Order n rows → total_order n rows ≡ true
+  unfolding total_order xor
+  order_holds o =
       ap₂ ◌&&◌
-      (ap₂ ◌&&◌ (all-every n nobodyItself (λ i h. ap not (o.irreflexive i h)))
-      (all-every n (λ (i : ℕ). every n (exactlyOne i)) (λ i h. all-every n (exactlyOne i) (λ j g. one i j h g (eqb i j) refl))))
-      (all-every n (λ (i : ℕ). every n (λ (j : ℕ). every n (carriesOver i j)))
-      (λ i h. all-every n (λ (j : ℕ). every n (carriesOver i j))
-      (λ j g. all-every n (carriesOver i j) (λ k l. over (beats rows i j) (beats rows j k) (beats rows i k)
+      (ap₂ ◌&&◌ (all_every n nobody_itself (λ i h. ap not (o.irreflexive i h)))
+      (all_every n (λ (i : ℕ). every n (exactly_one i)) (λ i h. all_every n (exactly_one i) (λ j g. one i j h g (eqb i j) refl))))
+      (all_every n (λ (i : ℕ). every n (λ (j : ℕ). every n (carries_over i j)))
+      (λ i h. all_every n (λ (j : ℕ). every n (carries_over i j))
+      (λ j g. all_every n (carries_over i j) (λ k l. over (beats rows i j) (beats rows j k) (beats rows i k)
       (o.transitive i j k h g l)))))
     where
       over : (a b c : Bool) → (a ≡ true → b ≡ true → c ≡ true) → (not (a && b) || c) ≡ true

@@ -11,12 +11,12 @@ use native.Mathlib.Nat.{mod-eq_of_lt, le_refl, add-mod_right}
 use native.Mathlib.Omega.{arith}
 use lib.Dec.{eqb, ltb}
 use borrow.Author.Tests.{eqb-true, eqb-false, eq-eqb, ne_eqb, ltb-true, ltb-false}
-use Rattle.base.specs.Search.{firstFrom, or_else}
-use Rattle.base.proofs.Search.{First, both, every-at, all-every, first_found, first-at, first-none, first-missing}
-use Rattle.arbiter.specs.RoundRobin.{nextInTurn}
-use Rattle.arbiter.specs.Matrix.{beats, beatsEveryOther, champion}
+use Rattle.base.specs.Search.{first_from, or_else}
+use Rattle.base.proofs.Search.{First, both, every_at, all_every, first_found, first_at, first_none, first_missing}
+use Rattle.arbiter.specs.RoundRobin.{next_in_turn}
+use Rattle.arbiter.specs.Matrix.{beats, beats_every_other, champion}
 use Rattle.arbiter.specs.Arbiter.{Arbiter, usable, choice, after}
-use Rattle.arbiter.proofs.ByKind.{usable-is, usable-holds}
+use Rattle.arbiter.proofs.ByKind.{usable_is, usable_holds}
 use Rattle.arbiter.proofs.Soundness.{Sound}
 use Rattle.arbiter.proofs.Top.{Top, None, top}
 use Rattle.arbiter.proofs.TotalOrder.{Order}
@@ -24,57 +24,57 @@ use Rattle.arbiter.proofs.TotalOrder.{Order}
 -- ---- round robin
 
 -- the next in turn is found at or after the pointer, or else before it with nobody at or after
-turn-cases : (n p : ℕ) (ask : ℕ → Bool) (w : ℕ) → nextInTurn n ask p ≡ some w
-    → First ask (n - p) p w ⊎ (First ask p 0 w × (firstFrom ask (n - p) p ≡ none))
-unfolding nextInTurn or_else
-turn-cases n p ask w e = go (firstFrom ask (n - p) p) refl e
+turn_cases : (n p : ℕ) (ask : ℕ → Bool) (w : ℕ) → next_in_turn n ask p ≡ some w
+    → First ask (n - p) p w ⊎ (First ask p 0 w × (first_from ask (n - p) p ≡ none))
+unfolding next_in_turn or_else
+turn_cases n p ask w e = go (first_from ask (n - p) p) refl e
   where
-    go : (o : Option ℕ) → firstFrom ask (n - p) p ≡ o → or_else o (firstFrom ask p 0) ≡ some w
-        → First ask (n - p) p w ⊎ (First ask p 0 w × (firstFrom ask (n - p) p ≡ none))
+    go : (o : Option ℕ) → first_from ask (n - p) p ≡ o → or_else o (first_from ask p 0) ≡ some w
+        → First ask (n - p) p w ⊎ (First ask p 0 w × (first_from ask (n - p) p ≡ none))
     go (some x) q f = inl (first_found ask (n - p) p w (q ∙ f))
     go none q f = inr (first_found ask p 0 w f, q)
 
 -- how many turns a requester is from the pointer
-abbrev pub turnsFrom : ℕ → ℕ → ℕ → ℕ
-turnsFrom n p j = (j + (n - p)) % n
+abbrev pub turns_from : ℕ → ℕ → ℕ → ℕ
+turns_from n p j = (j + (n - p)) % n
 
-turns-after : (n p j : ℕ) → p ≤ j → j < n → turnsFrom n p j ≡ j - p
-turns-after n p j h g =
+turns_after : (n p j : ℕ) → p ≤ j → j < n → turns_from n p j ≡ j - p
+turns_after n p j h g =
     let e : j + (n - p) ≡ j - p + n = omega arith in
     ap (λ (x : ℕ). x % n) e ∙ add-mod_right (j - p) n ∙ mod-eq_of_lt (omega arith)
 
-turns-before : (n p j : ℕ) → j < p → p < n → turnsFrom n p j ≡ j + (n - p)
-turns-before n p j h g = mod-eq_of_lt (omega arith)
+turns_before : (n p j : ℕ) → j < p → p < n → turns_from n p j ≡ j + (n - p)
+turns_before n p j h g = mod-eq_of_lt (omega arith)
 
 -- two of the n are not equally far from the pointer
-turns-differ : (n p j k : ℕ) → p < n → j < n → k < n → turnsFrom n p j ≡ turnsFrom n p k → j ≡ k
-turns-differ n p j k h g l e = go (ltb j p) refl (ltb k p) refl
+turns_differ : (n p j k : ℕ) → p < n → j < n → k < n → turns_from n p j ≡ turns_from n p k → j ≡ k
+turns_differ n p j k h g l e = go (ltb j p) refl (ltb k p) refl
   where
     go : (b : Bool) → ltb j p ≡ b → (d : Bool) → ltb k p ≡ d → j ≡ k
     go true q true r =
-        let x = turns-before n p j (ltb-true j p q) h in let y = turns-before n p k (ltb-true k p r) h in omega arith
+        let x = turns_before n p j (ltb-true j p q) h in let y = turns_before n p k (ltb-true k p r) h in omega arith
     go true q false r =
-        let x = turns-before n p j (ltb-true j p q) h in
-        let y = turns-after n p k (ltb-false k p r) l in
+        let x = turns_before n p j (ltb-true j p q) h in
+        let y = turns_after n p k (ltb-false k p r) l in
         let m = ltb-true j p q in
         let o = ltb-false k p r in
         absurd (omega arith)
     go false q true r =
-        let x = turns-after n p j (ltb-false j p q) g in
-        let y = turns-before n p k (ltb-true k p r) h in
+        let x = turns_after n p j (ltb-false j p q) g in
+        let y = turns_before n p k (ltb-true k p r) h in
         let m = ltb-false j p q in
         let o = ltb-true k p r in
         absurd (omega arith)
     go false q false r =
-        let x = turns-after n p j (ltb-false j p q) g in
-        let y = turns-after n p k (ltb-false k p r) l in
+        let x = turns_after n p j (ltb-false j p q) g in
+        let y = turns_after n p k (ltb-false k p r) l in
         let m = ltb-false j p q in
         let o = ltb-false k p r in
         omega arith
 
 -- who passes a search is not before what it found
-not-before : (test : ℕ → Bool) (k i w j : ℕ) → First test k i w → test j ≡ true → i ≤ j → w ≤ j
-not-before test k i w j f t h = go (ltb j w) refl
+not_before : (test : ℕ → Bool) (k i w j : ℕ) → First test k i w → test j ≡ true → i ≤ j → w ≤ j
+not_before test k i w j f t h = go (ltb j w) refl
   where
     go : (b : Bool) → ltb j w ≡ b → w ≤ j
     go true e = absurd (true≢false (sym t ∙ f.before j h (ltb-true j w e)))
@@ -82,55 +82,55 @@ not-before test k i w j f t h = go (ltb j w) refl
 
 module _ (n p : ℕ) (ask : ℕ → Bool) (low : p < n) where
   -- "the first requester at or after it, cyclically": no requester is fewer turns from the pointer
-  turn-nearest : (w : ℕ) → nextInTurn n ask p ≡ some w → (j : ℕ) → j < n → ask j ≡ true → turnsFrom n p w ≤ turnsFrom n p j
-  turn-nearest w e j h t = go (turn-cases n p ask w e) (ltb j p) refl
+  turn_nearest : (w : ℕ) → next_in_turn n ask p ≡ some w → (j : ℕ) → j < n → ask j ≡ true → turns_from n p w ≤ turns_from n p j
+  turn_nearest w e j h t = go (turn_cases n p ask w e) (ltb j p) refl
     where
-      go : First ask (n - p) p w ⊎ (First ask p 0 w × (firstFrom ask (n - p) p ≡ none)) → (b : Bool) → ltb j p ≡ b
-          → turnsFrom n p w ≤ turnsFrom n p j
+      go : First ask (n - p) p w ⊎ (First ask p 0 w × (first_from ask (n - p) p ≡ none)) → (b : Bool) → ltb j p ≡ b
+          → turns_from n p w ≤ turns_from n p j
       go (inl f) true q =
           let l : w < n = let b = f.below in omega arith in
-          let x = turns-after n p w f.from l in
-          let y = turns-before n p j (ltb-true j p q) low in
+          let x = turns_after n p w f.from l in
+          let y = turns_before n p j (ltb-true j p q) low in
           omega arith
       go (inl f) false q =
           let l : w < n = let b = f.below in omega arith in
-          let m = not-before ask (n - p) p w j f t (ltb-false j p q) in
-          let x = turns-after n p w f.from l in
-          let y = turns-after n p j (ltb-false j p q) h in
+          let m = not_before ask (n - p) p w j f t (ltb-false j p q) in
+          let x = turns_after n p w f.from l in
+          let y = turns_after n p j (ltb-false j p q) h in
           omega arith
       go (inr (f, missing)) true q =
           let b = f.below in
-          let m = not-before ask p 0 w j f t (omega arith) in
-          let x = turns-before n p w (omega arith) low in
-          let y = turns-before n p j (ltb-true j p q) low in
+          let m = not_before ask p 0 w j f t (omega arith) in
+          let x = turns_before n p w (omega arith) low in
+          let y = turns_before n p j (ltb-true j p q) low in
           omega arith
       go (inr (f, missing)) false q =
-          absurd (true≢false (sym t ∙ first-missing ask (n - p) p missing j (ltb-false j p q) (omega arith)))
+          absurd (true≢false (sym t ∙ first_missing ask (n - p) p missing j (ltb-false j p q) (omega arith)))
 
-  turn-asks : (w : ℕ) → nextInTurn n ask p ≡ some w → (w < n) × (ask w ≡ true)
-  turn-asks w e = go (turn-cases n p ask w e)
+  turn_asks : (w : ℕ) → next_in_turn n ask p ≡ some w → (w < n) × (ask w ≡ true)
+  turn_asks w e = go (turn_cases n p ask w e)
     where
-      go : First ask (n - p) p w ⊎ (First ask p 0 w × (firstFrom ask (n - p) p ≡ none)) → (w < n) × (ask w ≡ true)
+      go : First ask (n - p) p w ⊎ (First ask p 0 w × (first_from ask (n - p) p ≡ none)) → (w < n) × (ask w ≡ true)
       go (inl f) = (let b = f.below in omega arith, f.passes)
       go (inr (f, missing)) = (let b = f.below in omega arith, f.passes)
 
-  turn-somebody : (i : ℕ) → i < n → ask i ≡ true → (w : ℕ) × (nextInTurn n ask p ≡ some w)
-  unfolding nextInTurn or_else
-  turn-somebody i h t = go (firstFrom ask (n - p) p) refl (firstFrom ask p 0) refl
+  turn_somebody : (i : ℕ) → i < n → ask i ≡ true → (w : ℕ) × (next_in_turn n ask p ≡ some w)
+  unfolding next_in_turn or_else
+  turn_somebody i h t = go (first_from ask (n - p) p) refl (first_from ask p 0) refl
     where
-      go : (o : Option ℕ) → firstFrom ask (n - p) p ≡ o → (q : Option ℕ) → firstFrom ask p 0 ≡ q → (w : ℕ) × (or_else o q ≡ some w)
+      go : (o : Option ℕ) → first_from ask (n - p) p ≡ o → (q : Option ℕ) → first_from ask p 0 ≡ q → (w : ℕ) × (or_else o q ≡ some w)
       go (some w) e q f = (w, refl)
       go none e (some w) f = (w, refl)
       go none e none f = absurd (nobody (ltb i p) refl)
         where
           nobody : (b : Bool) → ltb i p ≡ b → ⊥
-          nobody true l = true≢false (sym t ∙ first-missing ask p 0 f i (omega arith) (omega (arith, ltb-true i p l)))
-          nobody false l = true≢false (sym t ∙ first-missing ask (n - p) p e i (ltb-false i p l) (omega arith))
+          nobody true l = true≢false (sym t ∙ first_missing ask p 0 f i (omega arith) (omega (arith, ltb-true i p l)))
+          nobody false l = true≢false (sym t ∙ first_missing ask (n - p) p e i (ltb-false i p l) (omega arith))
 
-  turn-nobody : ((i : ℕ) → i < n → ask i ≡ false) → nextInTurn n ask p ≡ none
-  unfolding nextInTurn or_else
-  turn-nobody off =
-      rw (first-none ask (n - p) p (λ j h g. off j (omega arith)), first-none ask p 0 (λ j h g. off j (omega arith)))
+  turn_nobody : ((i : ℕ) → i < n → ask i ≡ false) → next_in_turn n ask p ≡ none
+  unfolding next_in_turn or_else
+  turn_nobody off =
+      rw (first_none ask (n - p) p (λ j h g. off j (omega arith)), first_none ask p 0 (λ j h g. off j (omega arith)))
 
 -- ---- matrix
 
@@ -139,34 +139,34 @@ abbrev pub BeatsOthers : ℕ → (ℕ → Bool) → List ℕ → ℕ → Type 0
 BeatsOthers n ask rows w = (j : ℕ) → j < n → ask j ≡ true → (j ≡ w → ⊥) → beats rows w j ≡ true
 
 module _ (n : ℕ) (ask : ℕ → Bool) (rows : List ℕ) where
-  every-other : (w : ℕ) → beatsEveryOther n ask rows w ≡ true → BeatsOthers n ask rows w
-  unfolding beatsEveryOther
-  every-other w e j h t d =
+  every_other : (w : ℕ) → beats_every_other n ask rows w ≡ true → BeatsOthers n ask rows w
+  unfolding beats_every_other
+  every_other w e j h t d =
       subst (λ (b : Bool). (b || beats rows w j) ≡ true) (ne_eqb j w d)
       (subst (λ (b : Bool). (not b || eqb j w || beats rows w j) ≡ true) t
-      (every-at n (λ (j : ℕ). not (ask j) || eqb j w || beats rows w j) e j h))
+      (every_at n (λ (j : ℕ). not (ask j) || eqb j w || beats rows w j) e j h))
 
-  others-every : (w : ℕ) → BeatsOthers n ask rows w → beatsEveryOther n ask rows w ≡ true
-  unfolding beatsEveryOther
-  others-every w all = all-every n (λ (j : ℕ). not (ask j) || eqb j w || beats rows w j) (λ j h. go j h (ask j) refl (eqb j w) refl)
+  others_every : (w : ℕ) → BeatsOthers n ask rows w → beats_every_other n ask rows w ≡ true
+  unfolding beats_every_other
+  others_every w all = all_every n (λ (j : ℕ). not (ask j) || eqb j w || beats rows w j) (λ j h. go j h (ask j) refl (eqb j w) refl)
     where
       go : (j : ℕ) → j < n → (a : Bool) → ask j ≡ a → (b : Bool) → eqb j w ≡ b → (not a || b || beats rows w j) ≡ true
       go j h true t true e = refl
       go j h true t false e = all j h t (eqb-false j w e)
       go j h false t b e = refl
 
-  champion-is : (w : ℕ) → champion n ask rows ≡ some w → (w < n) × (ask w ≡ true) × BeatsOthers n ask rows w
+  champion_is : (w : ℕ) → champion n ask rows ≡ some w → (w < n) × (ask w ≡ true) × BeatsOthers n ask rows w
   unfolding champion
-  champion-is w e =
-      let f = first_found (λ (i : ℕ). ask i && beatsEveryOther n ask rows i) n 0 w e in
-      let p = both (ask w) (beatsEveryOther n ask rows w) f.passes in
-      (omega (arith, f.below), p.0, every-other w p.1)
+  champion_is w e =
+      let f = first_found (λ (i : ℕ). ask i && beats_every_other n ask rows i) n 0 w e in
+      let p = both (ask w) (beats_every_other n ask rows w) f.passes in
+      (omega (arith, f.below), p.0, every_other w p.1)
 
-  champion-nobody : ((i : ℕ) → i < n → ask i ≡ false) → champion n ask rows ≡ none
+  champion_nobody : ((i : ℕ) → i < n → ask i ≡ false) → champion n ask rows ≡ none
   unfolding champion
-  champion-nobody off =
-      first-none (λ (i : ℕ). ask i && beatsEveryOther n ask rows i) n 0
-      (λ j h g. ap (λ (b : Bool). b && beatsEveryOther n ask rows j) (off j (omega arith)))
+  champion_nobody off =
+      first_none (λ (i : ℕ). ask i && beats_every_other n ask rows i) n 0
+      (λ j h g. ap (λ (b : Bool). b && beats_every_other n ask rows j) (off j (omega arith)))
 
   module _ (o : Order n rows) where
     -- in a total order only one beats every other requester
@@ -187,20 +187,20 @@ module _ (n : ℕ) (ask : ℕ → Bool) (rows : List ℕ) where
         go (inl nobody) = absurd (true≢false (sym t ∙ nobody i h))
         go (inr (m, q)) = (
           m,
-          first-at (λ (i : ℕ). ask i && beatsEveryOther n ask rows i) n 0 m
+          first_at (λ (i : ℕ). ask i && beats_every_other n ask rows i) n 0 m
               (record {
                 from = omega arith;
                 below = let l = q.below in omega arith;
-                passes = ap₂ ◌&&◌ q.passes (others-every m q.others);
-                before = λ j l g. only j g (ask j && beatsEveryOther n ask rows j) refl;
+                passes = ap₂ ◌&&◌ q.passes (others_every m q.others);
+                before = λ j l g. only j g (ask j && beats_every_other n ask rows j) refl;
               }),
         )
           where
-            only : (j : ℕ) → j < m → (b : Bool) → (ask j && beatsEveryOther n ask rows j) ≡ b → b ≡ false
+            only : (j : ℕ) → j < m → (b : Bool) → (ask j && beats_every_other n ask rows j) ≡ b → b ≡ false
             only j g true e =
-                let p = both (ask j) (beatsEveryOther n ask rows j) e in
+                let p = both (ask j) (beats_every_other n ask rows j) e in
                 let l = q.below in
-                let same : j ≡ m = champion-only j m (omega arith) q.below p.0 q.passes (every-other j p.1) q.others in
+                let same : j ≡ m = champion-only j m (omega arith) q.below p.0 q.passes (every_other j p.1) q.others in
                 absurd (omega arith)
             only j g false e = refl
 
@@ -209,38 +209,38 @@ module _ (n : ℕ) (ask : ℕ → Bool) (rows : List ℕ) where
 module _ (places code n : ℕ) (ask : ℕ → Bool) (a : Arbiter) where
   by_kind : (o : Option ℕ) → choice places code n ask a ≡ o → (b : Bool) → usable places code n a.pointer ≡ b → (d : Bool)
       → eqb code 1 ≡ d
-      → cond b (cond d (nextInTurn n ask a.pointer) (champion n ask a.rows)) none ≡ o
+      → cond b (cond d (next_in_turn n ask a.pointer) (champion n ask a.rows)) none ≡ o
   unfolding choice
   by_kind o e b f d g =
-      ap₂ (λ (b d : Bool). cond b (cond d (nextInTurn n ask a.pointer) (champion n ask a.rows)) none) (sym f) (sym g) ∙ e
+      ap₂ (λ (b d : Bool). cond b (cond d (next_in_turn n ask a.pointer) (champion n ask a.rows)) none) (sym f) (sym g) ∙ e
 
   -- the winner is one of the n, and it asks
-  pub winner-asks : (w : ℕ) → choice places code n ask a ≡ some w → (w < n) × (ask w ≡ true)
-  winner-asks w e = go (usable places code n a.pointer) refl (eqb code 1) refl
+  pub winner_asks : (w : ℕ) → choice places code n ask a ≡ some w → (w < n) × (ask w ≡ true)
+  winner_asks w e = go (usable places code n a.pointer) refl (eqb code 1) refl
     where
       go : (b : Bool) → usable places code n a.pointer ≡ b → (d : Bool) → eqb code 1 ≡ d → (w < n) × (ask w ≡ true)
-      go true f true g = turn-asks n a.pointer ask ((usable-is places code n a.pointer f).1 (eqb-true code 1 g)) w
+      go true f true g = turn_asks n a.pointer ask ((usable_is places code n a.pointer f).1 (eqb-true code 1 g)) w
           (by_kind (some w) e true f true g)
-      go true f false g = let c = champion-is n ask a.rows w (by_kind (some w) e true f false g) in (c.0, c.1)
+      go true f false g = let c = champion_is n ask a.rows w (by_kind (some w) e true f false g) in (c.0, c.1)
       go false f d g = absurd (none-ne-some w (by_kind (some w) e false f d g))
 
   -- "No request: no winner, nothing moves."
-  pub no-request-no-winner : ((i : ℕ) → i < n → ask i ≡ false) → choice places code n ask a ≡ none
-  no-request-no-winner off = go (choice places code n ask a) refl
+  pub no_request_no_winner : ((i : ℕ) → i < n → ask i ≡ false) → choice places code n ask a ≡ none
+  no_request_no_winner off = go (choice places code n ask a) refl
     where
       go : (o : Option ℕ) → choice places code n ask a ≡ o → o ≡ none
       go none e = refl
-      go (some w) e = let p = winner-asks w e in absurd (true≢false (sym p.1 ∙ off w p.0))
+      go (some w) e = let p = winner_asks w e in absurd (true≢false (sym p.1 ∙ off w p.0))
 
-  pub no-request-nothing-moves : ((i : ℕ) → i < n → ask i ≡ false) → after places code n (choice places code n ask a) a ≡ a
+  pub no_request_nothing_moves : ((i : ℕ) → i < n → ask i ≡ false) → after places code n (choice places code n ask a) a ≡ a
   unfolding after
-  no-request-nothing-moves off = ap (λ (o : Option ℕ). after places code n o a) (no-request-no-winner off)
+  no_request_nothing_moves off = ap (λ (o : Option ℕ). after places code n o a) (no_request_no_winner off)
 
   module _ (s : Sound places code n a) where
     is-usable : usable places code n a.pointer ≡ true
-    is-usable = usable-holds places code n a.pointer s.given s.pointer-below
+    is-usable = usable_holds places code n a.pointer s.given s.pointer_below
 
-    turn-choice : code ≡ 1 → choice places code n ask a ≡ nextInTurn n ask a.pointer
+    turn-choice : code ≡ 1 → choice places code n ask a ≡ next_in_turn n ask a.pointer
     unfolding choice
     turn-choice one = rw (is-usable, eq-eqb code 1 one)
 
@@ -253,29 +253,29 @@ module _ (places code n : ℕ) (ask : ℕ → Bool) (a : Arbiter) where
     request-has-winner i h t = go s.given.kind
       where
         go : (code ≡ 1) ⊎ (code ≡ 2) → (w : ℕ) × (choice places code n ask a ≡ some w)
-        go (inl one) = let q = turn-somebody n a.pointer ask (s.pointer-below one) i h t in (q.0, turn-choice one ∙ q.1)
+        go (inl one) = let q = turn_somebody n a.pointer ask (s.pointer_below one) i h t in (q.0, turn-choice one ∙ q.1)
         go (inr two) = let q = champion-somebody n ask a.rows (s.order two) i h t in (q.0, matrix-choice two ∙ q.1)
 
     -- round robin: the winner is "the first requester at or after" the pointer, "cyclically", and the only one
     pub winner-first-in-turn : code ≡ 1 → (w : ℕ) → choice places code n ask a ≡ some w
-        → (j : ℕ) → j < n → ask j ≡ true → turnsFrom n a.pointer w ≤ turnsFrom n a.pointer j
-    winner-first-in-turn one w e = turn-nearest n a.pointer ask (s.pointer-below one) w (sym (turn-choice one) ∙ e)
+        → (j : ℕ) → j < n → ask j ≡ true → turns_from n a.pointer w ≤ turns_from n a.pointer j
+    winner-first-in-turn one w e = turn_nearest n a.pointer ask (s.pointer_below one) w (sym (turn-choice one) ∙ e)
 
     pub first-in-turn-wins : code ≡ 1 → (w : ℕ) → w < n → ask w ≡ true
-        → ((j : ℕ) → j < n → ask j ≡ true → turnsFrom n a.pointer w ≤ turnsFrom n a.pointer j) → choice places code n ask a ≡ some w
+        → ((j : ℕ) → j < n → ask j ≡ true → turns_from n a.pointer w ≤ turns_from n a.pointer j) → choice places code n ask a ≡ some w
     first-in-turn-wins one w h t nearest =
         let q = request-has-winner w h t in
-        let r = winner-asks q.0 q.1 in
+        let r = winner_asks q.0 q.1 in
         let x = winner-first-in-turn one q.0 q.1 w h t in
         let y = nearest q.0 r.0 r.1 in
-        q.1 ∙ ap some (turns-differ n a.pointer q.0 w (s.pointer-below one) r.0 h (omega arith))
+        q.1 ∙ ap some (turns_differ n a.pointer q.0 w (s.pointer_below one) r.0 h (omega arith))
 
     -- matrix: the winner "beats every other requester", and is the only one that does
     pub winner-beats-others : code ≡ 2 → (w : ℕ) → choice places code n ask a ≡ some w → BeatsOthers n ask a.rows w
-    winner-beats-others two w e = (champion-is n ask a.rows w (sym (matrix-choice two) ∙ e)).2
+    winner-beats-others two w e = (champion_is n ask a.rows w (sym (matrix-choice two) ∙ e)).2
 
     pub beats-others-wins : code ≡ 2 → (w : ℕ) → w < n → ask w ≡ true → BeatsOthers n ask a.rows w → choice places code n ask a ≡ some w
     beats-others-wins two w h t all =
         let q = request-has-winner w h t in
-        let r = winner-asks q.0 q.1 in
+        let r = winner_asks q.0 q.1 in
         q.1 ∙ ap some (champion-only n ask a.rows (s.order two) q.0 w r.0 h r.1 t (winner-beats-others two q.0 q.1) all)

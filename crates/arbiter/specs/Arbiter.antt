@@ -5,62 +5,62 @@ use Rattle.std.specs.Prelude.{Bool, cond, not, ◌&&◌, ◌||◌, List, ℕ, eq
 use Rattle.std.proofs.Math.Option.{Option, some, none}
 use Rattle.arbiter.specs.declared.Narrow.{Narrow}
 use Rattle.arbiter.specs.declared.Wide.{Wide}
-use Rattle.arbiter.specs.RoundRobin.{nextInTurn, pointerAfter}
-use Rattle.arbiter.specs.Matrix.{champion, defeated, freshRows, totalOrder, blankFrom, within}
+use Rattle.arbiter.specs.RoundRobin.{next_in_turn, pointer_after}
+use Rattle.arbiter.specs.Matrix.{champion, defeated, fresh_rows, total_order, blank_from, within}
 
 -- what both structs hold
 pub record Arbiter : Type 0 where
   pub pointer : ℕ
   pub rows : List ℕ
 
-abbrev pub arbiterOf : ℕ → List ℕ → Arbiter
-arbiterOf pointer rows = record { pointer = pointer; rows = rows }
+abbrev pub arbiter_of : ℕ → List ℕ → Arbiter
+arbiter_of pointer rows = record { pointer = pointer; rows = rows }
 
-abbrev pub ofNarrow : Narrow → Arbiter
-ofNarrow a = arbiterOf a.pointer a.rows
+abbrev pub of_narrow : Narrow → Arbiter
+of_narrow a = arbiter_of a.pointer a.rows
 
-abbrev pub ofWide : Wide → Arbiter
-ofWide a = arbiterOf a.pointer a.rows
+abbrev pub of_wide : Wide → Arbiter
+of_wide a = arbiter_of a.pointer a.rows
 
 -- an arbiter in its struct
-abbrev pub asNarrow : Arbiter → Narrow
-asNarrow a = record { pointer = a.pointer; rows = a.rows }
+abbrev pub as_narrow : Arbiter → Narrow
+as_narrow a = record { pointer = a.pointer; rows = a.rows }
 
 abbrev pub as_wide : Arbiter → Wide
 as_wide a = record { pointer = a.pointer; rows = a.rows }
 
 -- one of the two changed, the other kept
-abbrev pub withPointer : ℕ → Arbiter → Arbiter
-withPointer pointer a = arbiterOf pointer a.rows
+abbrev pub with_pointer : ℕ → Arbiter → Arbiter
+with_pointer pointer a = arbiter_of pointer a.rows
 
-abbrev pub withRows : List ℕ → Arbiter → Arbiter
-withRows rows a = arbiterOf a.pointer rows
+abbrev pub with_rows : List ℕ → Arbiter → Arbiter
+with_rows rows a = arbiter_of a.pointer rows
 
 -- "Arbiter code 1 (round robin) or 2 (matrix)" (01, sizes)
-abbrev pub roundRobin : ℕ
-roundRobin = 1
+abbrev pub round_robin : ℕ
+round_robin = 1
 
 abbrev pub matrix : ℕ
 matrix = 2
 
 -- a known code, and a width that is at least 1 and within the room
 unfoldable pub known : ℕ → ℕ → ℕ → Bool
-known places code n = (eqb code roundRobin || eqb code matrix) && (leb 1 n && leb n places)
+known places code n = (eqb code round_robin || eqb code matrix) && (leb 1 n && leb n places)
 
 -- known, and of round robin, which alone has a pointer, it is below the width
 unfoldable pub usable : ℕ → ℕ → ℕ → ℕ → Bool
-usable places code n pointer = known places code n && (not (eqb code roundRobin) || ltb pointer n)
+usable places code n pointer = known places code n && (not (eqb code round_robin) || ltb pointer n)
 
 -- who wins among those of the n that ask
 unfoldable pub choice : ℕ → ℕ → ℕ → (ℕ → Bool) → Arbiter → Option ℕ
 choice places code n ask a =
-    cond (usable places code n a.pointer) (cond (eqb code roundRobin) (nextInTurn n ask a.pointer) (champion n ask a.rows)) none
+    cond (usable places code n a.pointer) (cond (eqb code round_robin) (next_in_turn n ask a.pointer) (champion n ask a.rows)) none
 
 -- the arbiter after requester w has won
 unfoldable pub moved : ℕ → ℕ → ℕ → ℕ → Arbiter → Arbiter
 moved places code n w a =
     cond (usable places code n a.pointer && ltb w n)
-    (cond (eqb code roundRobin) (withPointer (pointerAfter n w) a) (withRows (defeated n w a.rows) a)) a
+    (cond (eqb code round_robin) (with_pointer (pointer_after n w) a) (with_rows (defeated n w a.rows) a)) a
 
 -- "No request: no winner, nothing moves."
 unfoldable pub after : ℕ → ℕ → ℕ → Option ℕ → Arbiter → Arbiter
@@ -70,12 +70,12 @@ after places code n (some w) a = moved places code n w a
 -- a fresh arbiter; the rows of round robin, and of an arbiter that is not known, are zero
 unfoldable pub fresh : ℕ → ℕ → ℕ → Arbiter
 fresh places code n =
-    arbiterOf 0 (cond (known places code n && eqb code matrix) (freshRows places n) (replicate places 0))
+    arbiter_of 0 (cond (known places code n && eqb code matrix) (fresh_rows places n) (replicate places 0))
 
 -- "one row of priority bits for each requester" there is room for; "round-robin pointers are below their width and matrices are a total
 -- order, no requester beating itself"; rows and bits beyond the width, and the other kind's state, are zero (01, sound states)
 unfoldable pub sound : ℕ → ℕ → ℕ → Arbiter → Bool
 sound places code n a =
     known places code n && eqb (length a.rows) places
-    && cond (eqb code roundRobin) (ltb a.pointer n && blankFrom 0 places a.rows)
-    (eqb a.pointer 0 && (totalOrder n a.rows && within n a.rows && blankFrom n places a.rows))
+    && cond (eqb code round_robin) (ltb a.pointer n && blank_from 0 places a.rows)
+    (eqb a.pointer 0 && (total_order n a.rows && within n a.rows && blank_from n places a.rows))

@@ -4,25 +4,25 @@
 use Rattle.std.specs.Prelude.{Bool, not, ◌&&◌, ◌||◌, List, [], ◌∷◌, ◌++◌, ℕ, zero, suc, ◌+◌, ◌-◌, ◌^◌, eqb, ltb, get_or, set}
 use Rattle.std.specs.Bool.{xor}
 use Rattle.std.proofs.Math.Option.{Option}
-use Rattle.base.specs.Bits.{bit, word_of, withBit}
-use Rattle.base.specs.Search.{firstFrom, every}
+use Rattle.base.specs.Bits.{bit, word_of, with_bit}
+use Rattle.base.specs.Search.{first_from, every}
 
 -- row i holds those that requester i beats
 unfoldable pub beats : List ℕ → ℕ → ℕ → Bool
 beats rows i j = bit (get_or rows i 0) j
 
 -- i "beats every other requester" among the n
-unfoldable pub beatsEveryOther : ℕ → (ℕ → Bool) → List ℕ → ℕ → Bool
-beatsEveryOther n ask rows i = every n (λ (j : ℕ). not (ask j) || eqb j i || beats rows i j)
+unfoldable pub beats_every_other : ℕ → (ℕ → Bool) → List ℕ → ℕ → Bool
+beats_every_other n ask rows i = every n (λ (j : ℕ). not (ask j) || eqb j i || beats rows i j)
 
 -- "the winner beats every other requester"
 unfoldable pub champion : ℕ → (ℕ → Bool) → List ℕ → Option ℕ
-champion n ask rows = firstFrom (λ (i : ℕ). ask i && beatsEveryOther n ask rows i) n 0
+champion n ask rows = first_from (λ (i : ℕ). ask i && beats_every_other n ask rows i) n 0
 
 -- the first k rows, each with w among those it beats
 unfoldable pub raised : ℕ → ℕ → List ℕ → List ℕ
 raised w zero rows = rows
-raised w (suc k) rows = set (raised w k rows) k (withBit w (get_or (raised w k rows) k 0))
+raised w (suc k) rows = set (raised w k rows) k (with_bit w (get_or (raised w k rows) k 0))
 
 -- "then loses to all": each of the n beats w, and w beats nobody
 unfoldable pub defeated : ℕ → ℕ → List ℕ → List ℕ
@@ -37,13 +37,13 @@ list_of f (suc k) = list_of f k ++ (f k ∷ [])
 unfoldable pub fresh_row : ℕ → ℕ → ℕ
 fresh_row n i = word_of (λ (j : ℕ). ltb i j) n
 
-unfoldable pub freshRows : ℕ → ℕ → List ℕ
-freshRows places n = list_of (fresh_row n) places
+unfoldable pub fresh_rows : ℕ → ℕ → List ℕ
+fresh_rows places n = list_of (fresh_row n) places
 
 -- "matrices are a total order, no requester beating itself" (01, sound states): nobody beats itself; of two, exactly one beats the
 -- other; who beats one that beats a third beats the third
-unfoldable pub totalOrder : ℕ → List ℕ → Bool
-totalOrder n rows =
+unfoldable pub total_order : ℕ → List ℕ → Bool
+total_order n rows =
     every n (λ (i : ℕ). not (beats rows i i))
     && every n (λ (i : ℕ). every n (λ (j : ℕ). eqb i j || xor (beats rows i j) (beats rows j i)))
     && every n (λ (i : ℕ). every n (λ (j : ℕ). every n (λ (k : ℕ). not (beats rows i j && beats rows j k) || beats rows i k)))
@@ -53,5 +53,5 @@ unfoldable pub within : ℕ → List ℕ → Bool
 within n rows = every n (λ (i : ℕ). ltb (get_or rows i 0) (2 ^ n))
 
 -- of the rows, those from k on are zero
-unfoldable pub blankFrom : ℕ → ℕ → List ℕ → Bool
-blankFrom k places rows = every (places - k) (λ (i : ℕ). eqb (get_or rows (k + i) 0) 0)
+unfoldable pub blank_from : ℕ → ℕ → List ℕ → Bool
+blank_from k places rows = every (places - k) (λ (i : ℕ). eqb (get_or rows (k + i) 0) 0)

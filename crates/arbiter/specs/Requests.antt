@@ -12,6 +12,6 @@ unfoldable pub asks : Requests → ℕ → Bool
 asks r i = bit r.set i
 
 -- the winner that an answer names, if it names one
-abbrev pub winnerOf : Pick → Option ℕ
-winnerOf Nobody = none
-winnerOf (Winner w) = some w
+abbrev pub winner_of : Pick → Option ℕ
+winner_of Nobody = none
+winner_of (Winner w) = some w

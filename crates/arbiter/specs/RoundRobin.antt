@@ -3,12 +3,12 @@
 -- Assumes nothing.
 use Rattle.std.specs.Prelude.{Bool, ℕ, ◌+◌, ◌-◌, ◌%◌}
 use Rattle.std.proofs.Math.Option.{Option}
-use Rattle.base.specs.Search.{firstFrom, or_else}
+use Rattle.base.specs.Search.{first_from, or_else}
 
 -- "the first requester at or after it, cyclically": from the pointer up to n, else from 0 up to the pointer
-unfoldable pub nextInTurn : ℕ → (ℕ → Bool) → ℕ → Option ℕ
-nextInTurn n ask pointer = or_else (firstFrom ask (n - pointer) pointer) (firstFrom ask pointer 0)
+unfoldable pub next_in_turn : ℕ → (ℕ → Bool) → ℕ → Option ℕ
+next_in_turn n ask pointer = or_else (first_from ask (n - pointer) pointer) (first_from ask pointer 0)
 
 -- "the pointer becomes winner+1 modulo n"
-unfoldable pub pointerAfter : ℕ → ℕ → ℕ
-pointerAfter n winner = (winner + 1) % n
+unfoldable pub pointer_after : ℕ → ℕ → ℕ
+pointer_after n winner = (winner + 1) % n

@@ -1,8 +1,8 @@
 // Either kind, over the rows of either struct: what is given is tested here, once.
 ghost use Rattle.std.specs.Prelude.{◌≡◌, ◌≤◌, length, replicate};
-ghost use Rattle.arbiter.specs.Requests.{asks, winnerOf};
-ghost use Rattle.arbiter.specs.Matrix.{blankFrom};
-ghost use Rattle.arbiter.specs.Arbiter.{Arbiter, arbiterOf, known, usable, choice, moved, fresh, sound};
+ghost use Rattle.arbiter.specs.Requests.{asks, winner_of};
+ghost use Rattle.arbiter.specs.Matrix.{blank_from};
+ghost use Rattle.arbiter.specs.Arbiter.{Arbiter, arbiter_of, known, usable, choice, moved, fresh, sound};
 
 use crate::{Pick, Requests, asking, matrix, order, round_robin};
 
@@ -62,7 +62,7 @@ pub(crate) fn choose(
     rows: &[u32],
 ) -> Pick
     requires { (places ≤ 32) × (length rows.now ≡ places) }
-    ensures { winnerOf result ≡ choice places code n (asks requests) (arbiterOf pointer rows.now) }
+    ensures { winner_of result ≡ choice places code n (asks requests) (arbiter_of pointer rows.now) }
 {
     if !is_usable(places, code, n, pointer) {
         return Pick::Nobody;
@@ -77,8 +77,8 @@ pub(crate) fn choose(
 // The pointer after w has won; the rows are changed where they lie.
 pub(crate) fn settle(places: u32, code: u8, n: u32, w: u32, pointer: u32, rows: &mut [u32]) -> u32
     requires { (places ≤ 32) × (length rows.old ≡ places) }
-    ensures { ◌≡◌ {A = Arbiter} (arbiterOf result rows.new)
-        (moved places code n w (arbiterOf pointer rows.old)) }
+    ensures { ◌≡◌ {A = Arbiter} (arbiter_of result rows.new)
+        (moved places code n w (arbiter_of pointer rows.old)) }
 {
     if !is_usable(places, code, n, pointer) {
         return pointer;
@@ -95,7 +95,7 @@ pub(crate) fn settle(places: u32, code: u8, n: u32, w: u32, pointer: u32, rows: 
 
 pub(crate) fn is_sound(places: u32, code: u8, n: u32, pointer: u32, rows: &[u32]) -> bool
     requires { (places ≤ 32) × (length rows.now ≡ places) }
-    ensures { result ≡ sound places code n (arbiterOf pointer rows.now) }
+    ensures { result ≡ sound places code n (arbiter_of pointer rows.now) }
 {
     if !is_known(places, code, n) {
         return false;
@@ -118,7 +118,7 @@ pub(crate) fn is_sound(places: u32, code: u8, n: u32, pointer: u32, rows: &[u32]
 // Whether all rows from `from` on are zero.
 fn are_blank(from: u32, rows: &[u32]) -> bool
     requires { from ≤ length rows.now }
-    ensures { result ≡ blankFrom from (length rows.now) rows.now }
+    ensures { result ≡ blank_from from (length rows.now) rows.now }
 {
     let mut any: u32 = 0;
     let mut i: usize = from as usize;

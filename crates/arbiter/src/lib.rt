@@ -9,8 +9,8 @@ mod order;
 mod round_robin;
 
 ghost use Rattle.std.specs.Prelude.{◌≡◌};
-ghost use Rattle.arbiter.specs.Requests.{asks, winnerOf};
-ghost use Rattle.arbiter.specs.Arbiter.{ofNarrow, ofWide, choice, moved, fresh, sound};
+ghost use Rattle.arbiter.specs.Requests.{asks, winner_of};
+ghost use Rattle.arbiter.specs.Arbiter.{of_narrow, of_wide, choice, moved, fresh, sound};
 
 // Who asks: requester i when bit i of the set is 1.
 #[derive(Drop)]
@@ -42,7 +42,7 @@ pub struct Wide {
 impl Narrow {
     // A fresh arbiter of this kind and width; all zero where there is none.
     pub fn fresh(code: u8, n: u32) -> Self
-        ensures { ofNarrow result ≡ fresh 8 code n }
+        ensures { of_narrow result ≡ fresh 8 code n }
     {
         let mut rows = [0u32; 8];
         either::fill(8, code, n, &mut rows);
@@ -51,7 +51,7 @@ impl Narrow {
 
     // The winner among those of the n that ask, if there is one. Nothing moves.
     pub fn choose(self, code: u8, n: u32, requests: Requests) -> Pick
-        ensures { winnerOf result ≡ choice 8 code n (asks requests) (ofNarrow self) }
+        ensures { winner_of result ≡ choice 8 code n (asks requests) (of_narrow self) }
     {
         let rows = self.rows;
         either::choose(8, code, n, requests, self.pointer, &rows)
@@ -59,7 +59,7 @@ impl Narrow {
 
     // The arbiter after requester w has won.
     pub fn moved(self, code: u8, n: u32, w: u32) -> Self
-        ensures { ofNarrow result ≡ moved 8 code n w (ofNarrow self) }
+        ensures { of_narrow result ≡ moved 8 code n w (of_narrow self) }
     {
         let mut rows = self.rows;
         let pointer = either::settle(8, code, n, w, self.pointer, &mut rows);
@@ -68,7 +68,7 @@ impl Narrow {
 
     // Whether this is a sound arbiter of this kind and width.
     pub fn is_sound(self, code: u8, n: u32) -> bool
-        ensures { result ≡ sound 8 code n (ofNarrow self) }
+        ensures { result ≡ sound 8 code n (of_narrow self) }
     {
         let rows = self.rows;
         either::is_sound(8, code, n, self.pointer, &rows)
@@ -78,7 +78,7 @@ impl Narrow {
 impl Wide {
     // A fresh arbiter of this kind and width; all zero where there is none.
     pub fn fresh(code: u8, n: u32) -> Self
-        ensures { ofWide result ≡ fresh 32 code n }
+        ensures { of_wide result ≡ fresh 32 code n }
     {
         let mut rows = [0u32; 32];
         either::fill(32, code, n, &mut rows);
@@ -87,7 +87,7 @@ impl Wide {
 
     // The winner among those of the n that ask, if there is one. Nothing moves.
     pub fn choose(self, code: u8, n: u32, requests: Requests) -> Pick
-        ensures { winnerOf result ≡ choice 32 code n (asks requests) (ofWide self) }
+        ensures { winner_of result ≡ choice 32 code n (asks requests) (of_wide self) }
     {
         let rows = self.rows;
         either::choose(32, code, n, requests, self.pointer, &rows)
@@ -95,7 +95,7 @@ impl Wide {
 
     // The arbiter after requester w has won.
     pub fn moved(self, code: u8, n: u32, w: u32) -> Self
-        ensures { ofWide result ≡ moved 32 code n w (ofWide self) }
+        ensures { of_wide result ≡ moved 32 code n w (of_wide self) }
     {
         let mut rows = self.rows;
         let pointer = either::settle(32, code, n, w, self.pointer, &mut rows);
@@ -104,7 +104,7 @@ impl Wide {
 
     // Whether this is a sound arbiter of this kind and width.
     pub fn is_sound(self, code: u8, n: u32) -> bool
-        ensures { result ≡ sound 32 code n (ofWide self) }
+        ensures { result ≡ sound 32 code n (of_wide self) }
     {
         let rows = self.rows;
         either::is_sound(32, code, n, self.pointer, &rows)

@@ -1,15 +1,15 @@
 // Matrix: the champion among those that ask, and its fall behind all others.
 ghost use Rattle.std.specs.Prelude.{◌≡◌, ◌^◌, ◌<◌, ◌≤◌, length};
 ghost use Rattle.base.specs.Bits.{bit};
-ghost use Rattle.arbiter.specs.Requests.{winnerOf};
-ghost use Rattle.arbiter.specs.Matrix.{champion, defeated, freshRows};
+ghost use Rattle.arbiter.specs.Requests.{winner_of};
+ghost use Rattle.arbiter.specs.Matrix.{champion, defeated, fresh_rows};
 
 use crate::{Pick, asking};
 
 // The first of `asking` whose row and own bit cover all of `asking`. Only set bits are tried.
 pub(crate) fn choose(n: u32, asking: u32, rows: &[u32]) -> Pick
     requires { (n ≤ 32) × (n ≤ length rows.now) × (asking < 2 ^ n) }
-    ensures { winnerOf result ≡ champion n (bit asking) rows.now }
+    ensures { winner_of result ≡ champion n (bit asking) rows.now }
 {
     let mut left = asking;
     while left != 0 {
@@ -41,7 +41,7 @@ pub(crate) fn defeat(n: u32, w: u32, rows: &mut [u32])
 // A lower number beats a higher: row i holds the numbers above i and below n.
 pub(crate) fn order(n: u32, rows: &mut [u32])
     requires { (n ≤ 32) × (length rows.old ≤ 32) }
-    ensures { rows.new ≡ freshRows (length rows.old) n }
+    ensures { rows.new ≡ fresh_rows (length rows.old) n }
 {
     let mut i: usize = 0;
     while i < rows.len() {

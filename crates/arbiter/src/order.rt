@@ -1,7 +1,7 @@
 // Whether the rows of a matrix are a total order, in two passes over the rows instead of one over all triples.
 ghost use Rattle.std.specs.Prelude.{◌≡◌, ◌&&◌, ℕ, ◌<◌, ◌≤◌, length, get_or};
 ghost use Rattle.std.specs.Int.Count.{ones};
-ghost use Rattle.arbiter.specs.Matrix.{totalOrder, within};
+ghost use Rattle.arbiter.specs.Matrix.{total_order, within};
 
 use crate::asking;
 
@@ -25,7 +25,7 @@ fn by_rank(n: u32, rows: &[u32]) -> [u8; 33]
 // Each rank's requester beats exactly those of the ranks before, and in the end these are all.
 pub(crate) fn is_total(n: u32, rows: &[u32]) -> bool
     requires { (1 ≤ n) × (n ≤ 32) × (n ≤ length rows.now) }
-    ensures { result ≡ (totalOrder n rows.now && within n rows.now) }
+    ensures { result ≡ (total_order n rows.now && within n rows.now) }
 {
     let at = by_rank(n, rows);
     let mut lower: u32 = 0;

@@ -1,15 +1,15 @@
 // Round robin: the next in turn from the pointer on.
 ghost use Rattle.std.specs.Prelude.{◌≡◌, ◌^◌, ◌<◌, ◌≤◌};
 ghost use Rattle.base.specs.Bits.{bit};
-ghost use Rattle.arbiter.specs.Requests.{winnerOf};
-ghost use Rattle.arbiter.specs.RoundRobin.{nextInTurn, pointerAfter};
+ghost use Rattle.arbiter.specs.Requests.{winner_of};
+ghost use Rattle.arbiter.specs.RoundRobin.{next_in_turn, pointer_after};
 
 use crate::Pick;
 
 // The first bit of `asking` at or after the pointer, else its first.
 pub(crate) fn choose(n: u32, asking: u32, pointer: u32) -> Pick
     requires { (n ≤ 32) × (pointer < n) × (asking < 2 ^ n) }
-    ensures { winnerOf result ≡ nextInTurn n (bit asking) pointer }
+    ensures { winner_of result ≡ next_in_turn n (bit asking) pointer }
 {
     let after = asking >> pointer;
     if after != 0 {
@@ -24,7 +24,7 @@ pub(crate) fn choose(n: u32, asking: u32, pointer: u32) -> Pick
 // The pointer after w has won.
 pub(crate) fn next(n: u32, w: u32) -> u32
     requires { w < n }
-    ensures { result ≡ pointerAfter n w }
+    ensures { result ≡ pointer_after n w }
 {
     if w + 1 == n { 0 } else { w + 1 }
 }

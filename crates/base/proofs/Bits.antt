@@ -13,7 +13,7 @@ use lib.Pow.{pow_pos, pow_mono, pow-lt, shr-shr, split, field, mod-mod-pow}
 use lib.Arith.{lt_of_le-ne, digits_div}
 use lib.Bits.{bit_and, bit_or, and_shr, or_shr, and_mod, or_mod, and_le_r, or_lt, or_add_and, or_disjoint, or_zero_l, and_mask}
 use borrow.Author.Tests.{eqb-true, eqb-false, eq-eqb, ne_eqb, ltb-true, ltb-false}
-use Rattle.base.specs.Bits.{bit, word_of, withBit}
+use Rattle.base.specs.Bits.{bit, word_of, with_bit}
 
 -- a digit is 0 or 1
 pub digit : (x : ℕ) → (x % 2 ≡ 0) ⊎ (x % 2 ≡ 1)
@@ -35,14 +35,14 @@ by_digits P p00 p01 p10 p11 x y = go (digit x) (digit y)
     go (inr p) (inr q) = subst₂ P (sym p) (sym q) p11
 
 -- a digit is its test
-digit-of : (x y : ℕ) → eqb (x % 2) 1 ≡ eqb (y % 2) 1 → x % 2 ≡ y % 2
-digit-of x y =
+digit_of : (x y : ℕ) → eqb (x % 2) 1 ≡ eqb (y % 2) 1 → x % 2 ≡ y % 2
+digit_of x y =
     by_digits (λ (a b : ℕ). eqb a 1 ≡ eqb b 1 → a ≡ b) (λ e. refl) (λ e. absurd (false≢true e)) (λ e. absurd (true≢false e)) (λ e. refl)
     x y
 
-pub bit-zero : (i : ℕ) → bit 0 i ≡ false
+pub bit_zero : (i : ℕ) → bit 0 i ≡ false
 unfolding bit
-bit-zero i = ap (λ (q : ℕ). eqb (q % 2) 1) (zero-div (2 ^ i))
+bit_zero i = ap (λ (q : ℕ). eqb (q % 2) 1) (zero-div (2 ^ i))
 
 -- no bit stands at or above the width
 pub bit_high : (k x i : ℕ) → x < 2 ^ k → k ≤ i → bit x i ≡ false
@@ -50,122 +50,122 @@ unfolding bit
 bit_high k x i h g = ap (λ (q : ℕ). eqb (q % 2) 1) (div-eq_of_lt (lt_of_lt_of_le h (pow_mono g)))
 
 -- `x >> p`: the bits from p on
-pub bit-shr : (x p i : ℕ) → bit (x / 2 ^ p) i ≡ bit x (p + i)
+pub bit_shr : (x p i : ℕ) → bit (x / 2 ^ p) i ≡ bit x (p + i)
 unfolding bit
-bit-shr x p i = ap (λ (q : ℕ). eqb (q % 2) 1) (shr-shr x p i)
+bit_shr x p i = ap (λ (q : ℕ). eqb (q % 2) 1) (shr-shr x p i)
 
 -- `x % 2 ^ k`: the bits below k
-pub bit-mod : (x k i : ℕ) → i < k → bit (x % 2 ^ k) i ≡ bit x i
+pub bit_mod : (x k i : ℕ) → i < k → bit (x % 2 ^ k) i ≡ bit x i
 unfolding bit
-bit-mod x k i h =
+bit_mod x k i h =
     let j = k - suc i in
     let e : j + 1 + i ≡ k = omega arith in
     subst (λ (n : ℕ). eqb (x % 2 ^ n / 2 ^ i % 2) 1 ≡ eqb (x / 2 ^ i % 2) 1) e
     (ap (λ (q : ℕ). eqb (q % 2) 1) (field x (j + 1) i) ∙ ap (λ (q : ℕ). eqb q 1) (mod-mod-pow (x / 2 ^ i) j 1))
 
-pub bit-and : (x y i : ℕ) → bit (bit_and x y) i ≡ (bit x i && bit y i)
+pub bit_and-law : (x y i : ℕ) → bit (bit_and x y) i ≡ (bit x i && bit y i)
 unfolding bit
-bit-and x y i =
+bit_and-law x y i =
     ap (λ (q : ℕ). eqb (q % 2) 1) (and_shr x y i) ∙ ap (λ (q : ℕ). eqb q 1) (and_mod (x / 2 ^ i) (y / 2 ^ i) 1)
     ∙ by_digits (λ (a b : ℕ). eqb (bit_and a b) 1 ≡ (eqb a 1 && eqb b 1)) refl refl refl refl (x / 2 ^ i) (y / 2 ^ i)
 
-pub bit-or : (x y i : ℕ) → bit (bit_or x y) i ≡ (bit x i || bit y i)
+pub bit_or-law : (x y i : ℕ) → bit (bit_or x y) i ≡ (bit x i || bit y i)
 unfolding bit
-bit-or x y i =
+bit_or-law x y i =
     ap (λ (q : ℕ). eqb (q % 2) 1) (or_shr x y i) ∙ ap (λ (q : ℕ). eqb q 1) (or_mod (x / 2 ^ i) (y / 2 ^ i) 1)
     ∙ by_digits (λ (a b : ℕ). eqb (bit_or a b) 1 ≡ (eqb a 1 || eqb b 1)) refl refl refl refl (x / 2 ^ i) (y / 2 ^ i)
 
 -- the lowest bit, and the bits of the rest
-pub bit-first : (x : ℕ) → bit x 0 ≡ eqb (x % 2) 1
+pub bit_first : (x : ℕ) → bit x 0 ≡ eqb (x % 2) 1
 unfolding bit
-bit-first x = ap (λ (q : ℕ). eqb (q % 2) 1) (div-one x)
+bit_first x = ap (λ (q : ℕ). eqb (q % 2) 1) (div-one x)
 
-pub bit-half : (x i : ℕ) → bit (x / 2) i ≡ bit x (suc i)
-bit-half x i = bit-shr x 1 i ∙ ap (bit x) (one-add i)
+pub bit_half : (x i : ℕ) → bit (x / 2) i ≡ bit x (suc i)
+bit_half x i = bit_shr x 1 i ∙ ap (bit x) (one-add i)
 
 half_lt : (x k : ℕ) → x < 2 ^ suc k → x / 2 < 2 ^ k
 half_lt x k h = omega (arith, pow-suc 2 k)
 
 -- two words of k bits with the same bits are the same
-pub bit-ext : (k x y : ℕ) → x < 2 ^ k → y < 2 ^ k → ((i : ℕ) → i < k → bit x i ≡ bit y i) → x ≡ y
-bit-ext zero x y hx hy same = omega arith
-bit-ext (suc k) x y hx hy same =
-    let low : x % 2 ≡ y % 2 = digit-of x y (sym (bit-first x) ∙ same 0 (omega arith) ∙ bit-first y) in
-    let rest : x / 2 ≡ y / 2 = bit-ext k (x / 2) (y / 2) (half_lt x k hx) (half_lt y k hy)
-    (λ i h. bit-half x i ∙ same (suc i) (omega arith) ∙ sym (bit-half y i)) in
+pub bit_ext : (k x y : ℕ) → x < 2 ^ k → y < 2 ^ k → ((i : ℕ) → i < k → bit x i ≡ bit y i) → x ≡ y
+bit_ext zero x y hx hy same = omega arith
+bit_ext (suc k) x y hx hy same =
+    let low : x % 2 ≡ y % 2 = digit_of x y (sym (bit_first x) ∙ same 0 (omega arith) ∙ bit_first y) in
+    let rest : x / 2 ≡ y / 2 = bit_ext k (x / 2) (y / 2) (half_lt x k hx) (half_lt y k hy)
+    (λ i h. bit_half x i ∙ same (suc i) (omega arith) ∙ sym (bit_half y i)) in
     omega arith
 
 -- `1 << w`: the one bit w
-pub bit-pow : (w i : ℕ) → bit (2 ^ w) i ≡ eqb i w
+pub bit_pow : (w i : ℕ) → bit (2 ^ w) i ≡ eqb i w
 unfolding bit
-bit-pow zero zero = refl
-bit-pow zero (suc i) = bit_high 1 1 (suc i) (lit< tt) (omega arith) ∙ sym (eqb-suc-zero i)
-bit-pow (suc w) zero =
+bit_pow zero zero = refl
+bit_pow zero (suc i) = bit_high 1 1 (suc i) (lit< tt) (omega arith) ∙ sym (eqb-suc-zero i)
+bit_pow (suc w) zero =
     let even : 2 ^ suc w % 2 ≡ 0 = omega (arith, pow-suc 2 w) in
-    bit-first (2 ^ suc w) ∙ ap (λ (q : ℕ). eqb q 1) even ∙ sym (eqb-zero-suc w)
-bit-pow (suc w) (suc i) =
+    bit_first (2 ^ suc w) ∙ ap (λ (q : ℕ). eqb q 1) even ∙ sym (eqb-zero-suc w)
+bit_pow (suc w) (suc i) =
     let half : 2 ^ suc w / 2 ≡ 2 ^ w = omega (arith, pow-suc 2 w) in
-    sym (bit-half (2 ^ suc w) i) ∙ ap (λ (q : ℕ). bit q i) half ∙ bit-pow w i ∙ sym (eqb-suc-suc i w)
+    sym (bit_half (2 ^ suc w) i) ∙ ap (λ (q : ℕ). bit q i) half ∙ bit_pow w i ∙ sym (eqb-suc-suc i w)
 
 -- the part of a word that is its bit w
-and-bit : (x w i : ℕ) → bit (bit_and x (2 ^ w)) i ≡ (bit x w && eqb i w)
-and-bit x w i = bit-and x (2 ^ w) i ∙ ap (λ (b : Bool). bit x i && b) (bit-pow w i) ∙ go (eqb i w) refl
+and_bit : (x w i : ℕ) → bit (bit_and x (2 ^ w)) i ≡ (bit x w && eqb i w)
+and_bit x w i = bit_and-law x (2 ^ w) i ∙ ap (λ (b : Bool). bit x i && b) (bit_pow w i) ∙ go (eqb i w) refl
   where
     go : (b : Bool) → eqb i w ≡ b → (bit x i && b) ≡ (bit x w && b)
     go true e = ap (λ (k : ℕ). bit x k && true) (eqb-true i w e)
     go false e = and-false (bit x i) ∙ sym (and-false (bit x w))
 
-and-pow-lt : (x w : ℕ) → bit_and x (2 ^ w) < 2 ^ suc w
-and-pow-lt x w = omega (arith, and_le_r x (2 ^ w), pow-suc 2 w, pow_pos w)
+and_pow_lt : (x w : ℕ) → bit_and x (2 ^ w) < 2 ^ suc w
+and_pow_lt x w = omega (arith, and_le_r x (2 ^ w), pow-suc 2 w, pow_pos w)
 
-pub and-clear : (x w : ℕ) → bit x w ≡ false → bit_and x (2 ^ w) ≡ 0
-and-clear x w clear =
-    bit-ext (suc w) (bit_and x (2 ^ w)) 0 (and-pow-lt x w) (pow_pos (suc w))
-    (λ i h. and-bit x w i ∙ ap (λ (b : Bool). b && eqb i w) clear ∙ sym (bit-zero i))
+pub and_clear : (x w : ℕ) → bit x w ≡ false → bit_and x (2 ^ w) ≡ 0
+and_clear x w clear =
+    bit_ext (suc w) (bit_and x (2 ^ w)) 0 (and_pow_lt x w) (pow_pos (suc w))
+    (λ i h. and_bit x w i ∙ ap (λ (b : Bool). b && eqb i w) clear ∙ sym (bit_zero i))
 
-pub clear-and : (x w : ℕ) → bit_and x (2 ^ w) ≡ 0 → bit x w ≡ false
-clear-and x w e =
-    sym (and-true (bit x w)) ∙ ap (λ (b : Bool). bit x w && b) (sym (eq-eqb w w refl)) ∙ sym (and-bit x w w) ∙ ap (λ (q : ℕ). bit q w) e
-    ∙ bit-zero w
+pub clear_and : (x w : ℕ) → bit_and x (2 ^ w) ≡ 0 → bit x w ≡ false
+clear_and x w e =
+    sym (and-true (bit x w)) ∙ ap (λ (b : Bool). bit x w && b) (sym (eq-eqb w w refl)) ∙ sym (and_bit x w w) ∙ ap (λ (q : ℕ). bit q w) e
+    ∙ bit_zero w
 
-and-there : (x w : ℕ) → bit x w ≡ true → bit_and x (2 ^ w) ≡ 2 ^ w
-and-there x w there =
-    bit-ext (suc w) (bit_and x (2 ^ w)) (2 ^ w) (and-pow-lt x w) (omega (arith, pow-suc 2 w, pow_pos w))
-    (λ i h. and-bit x w i ∙ ap (λ (b : Bool). b && eqb i w) there ∙ sym (bit-pow w i))
+and_there : (x w : ℕ) → bit x w ≡ true → bit_and x (2 ^ w) ≡ 2 ^ w
+and_there x w there =
+    bit_ext (suc w) (bit_and x (2 ^ w)) (2 ^ w) (and_pow_lt x w) (omega (arith, pow-suc 2 w, pow_pos w))
+    (λ i h. and_bit x w i ∙ ap (λ (b : Bool). b && eqb i w) there ∙ sym (bit_pow w i))
 
 -- `a | b` is 0 just when both are
-pub or-zero : (a b : ℕ) → eqb (bit_or a b) 0 ≡ (eqb a 0 && eqb b 0)
-or-zero a b = go (eqb a 0) refl
+pub or_zero : (a b : ℕ) → eqb (bit_or a b) 0 ≡ (eqb a 0 && eqb b 0)
+or_zero a b = go (eqb a 0) refl
   where
     go : (t : Bool) → eqb a 0 ≡ t → eqb (bit_or a b) 0 ≡ (t && eqb b 0)
     go true e = ap (λ (x : ℕ). eqb (bit_or x b) 0) (eqb-true a 0 e) ∙ ap (λ (x : ℕ). eqb x 0) (or_zero_l b)
     go false e = ne_eqb (bit_or a b) 0 (λ z. eqb-false a 0 e (omega (arith, or_add_and a b, and_le_r a b)))
 
 -- `x | 1 << w` sets bit w
-pub or-with : (x w : ℕ) → bit_or x (2 ^ w) ≡ withBit w x
-unfolding withBit
-or-with x w = go (bit x w) refl
+pub or_with : (x w : ℕ) → bit_or x (2 ^ w) ≡ with_bit w x
+unfolding with_bit
+or_with x w = go (bit x w) refl
   where
     go : (b : Bool) → bit x w ≡ b → bit_or x (2 ^ w) ≡ cond b x (x + 2 ^ w)
-    go true e = omega (arith, or_add_and x (2 ^ w), and-there x w e)
-    go false e = or_disjoint x (2 ^ w) (and-clear x w e)
+    go true e = omega (arith, or_add_and x (2 ^ w), and_there x w e)
+    go false e = or_disjoint x (2 ^ w) (and_clear x w e)
 
-pub bit-with : (w x i : ℕ) → bit (withBit w x) i ≡ (bit x i || eqb i w)
-bit-with w x i = ap (λ (q : ℕ). bit q i) (sym (or-with x w)) ∙ bit-or x (2 ^ w) i ∙ ap (λ (b : Bool). bit x i || b) (bit-pow w i)
+pub bit_with : (w x i : ℕ) → bit (with_bit w x) i ≡ (bit x i || eqb i w)
+bit_with w x i = ap (λ (q : ℕ). bit q i) (sym (or_with x w)) ∙ bit_or-law x (2 ^ w) i ∙ ap (λ (b : Bool). bit x i || b) (bit_pow w i)
 
-pub with-lt : (k w x : ℕ) → x < 2 ^ k → w < k → withBit w x < 2 ^ k
-with-lt k w x h g = subst (λ (q : ℕ). q < 2 ^ k) (or-with x w) (or_lt k x (2 ^ w) h (pow-lt g))
+pub with_lt : (k w x : ℕ) → x < 2 ^ k → w < k → with_bit w x < 2 ^ k
+with_lt k w x h g = subst (λ (q : ℕ). q < 2 ^ k) (or_with x w) (or_lt k x (2 ^ w) h (pow-lt g))
 
 -- `1 << w` at a width that holds it
 pub shl_one : (width w : ℕ) → w < width → 1 * 2 ^ w % 2 ^ width ≡ 2 ^ w
 shl_one width w h = ap (λ (x : ℕ). x % 2 ^ width) (one-mul (2 ^ w)) ∙ mod-eq_of_lt (pow-lt h)
 
 -- `2 ^ k - 1`: all bits below k
-pub bit-all : (k i : ℕ) → i < k → bit (2 ^ k - 1) i ≡ true
-bit-all k i h =
-    let own : bit (2 ^ i) i ≡ true = bit-pow i i ∙ eq-eqb i i refl in
+pub bit_all : (k i : ℕ) → i < k → bit (2 ^ k - 1) i ≡ true
+bit_all k i h =
+    let own : bit (2 ^ i) i ≡ true = bit_pow i i ∙ eq-eqb i i refl in
     let kept : bit_and (2 ^ i) (2 ^ k - 1) ≡ 2 ^ i = and_mask (2 ^ i) k ∙ mod-eq_of_lt (pow-lt h) in
-    ap (λ (b : Bool). b && bit (2 ^ k - 1) i) (sym own) ∙ sym (bit-and (2 ^ i) (2 ^ k - 1) i) ∙ ap (λ (x : ℕ). bit x i) kept ∙ own
+    ap (λ (b : Bool). b && bit (2 ^ k - 1) i) (sym own) ∙ sym (bit_and-law (2 ^ i) (2 ^ k - 1) i) ∙ ap (λ (x : ℕ). bit x i) kept ∙ own
 
 -- a bit that is there stands below the width
 pub bit_below : (k x i : ℕ) → x < 2 ^ k → bit x i ≡ true → i < k
@@ -176,13 +176,13 @@ bit_below k x i h there = go (ltb i k) refl
     go false e = absurd (true≢false (sym there ∙ bit_high k x i h (ltb-false i k e)))
 
 -- adding a bit that is not there sets it and no other
-pub bit-add : (x w i : ℕ) → bit x w ≡ false → bit (x + 2 ^ w) i ≡ (bit x i || eqb i w)
-unfolding withBit
-bit-add x w i clear = ap (λ (b : Bool). bit (cond b x (x + 2 ^ w)) i) (sym clear) ∙ bit-with w x i
+pub bit_add : (x w i : ℕ) → bit x w ≡ false → bit (x + 2 ^ w) i ≡ (bit x i || eqb i w)
+unfolding with_bit
+bit_add x w i clear = ap (λ (b : Bool). bit (cond b x (x + 2 ^ w)) i) (sym clear) ∙ bit_with w x i
 
-taken-clear : (x w : ℕ) → bit x w ≡ true → (2 ^ w ≤ x) × (bit (x - 2 ^ w) w ≡ false)
+taken_clear : (x w : ℕ) → bit x w ≡ true → (2 ^ w ≤ x) × (bit (x - 2 ^ w) w ≡ false)
 unfolding bit
-taken-clear x w there =
+taken_clear x w there =
     let q = x / 2 ^ w in
     let p = q - 1 in
     let odd : q % 2 ≡ 1 = eqb-true (q % 2) 1 there in
@@ -196,23 +196,23 @@ taken-clear x w there =
 
 -- a word is at least each of its bits
 pub bit_le : (x w : ℕ) → bit x w ≡ true → 2 ^ w ≤ x
-bit_le x w there = (taken-clear x w there).0
+bit_le x w there = (taken_clear x w there).0
 
 -- taking a bit away that is there clears it and no other
-pub bit-take : (x w i : ℕ) → bit x w ≡ true → bit (x - 2 ^ w) i ≡ (bit x i && not (eqb i w))
-bit-take x w i there = go (eqb i w) refl
+pub bit_take : (x w i : ℕ) → bit x w ≡ true → bit (x - 2 ^ w) i ≡ (bit x i && not (eqb i w))
+bit_take x w i there = go (eqb i w) refl
   where
     y : ℕ
     y = x - 2 ^ w
 
     clear : (2 ^ w ≤ x) × (bit y w ≡ false)
-    clear = taken-clear x w there
+    clear = taken_clear x w there
 
     back : y + 2 ^ w ≡ x
     back = let h = clear.0 in omega arith
 
     more : bit x i ≡ (bit y i || eqb i w)
-    more = ap (λ (q : ℕ). bit q i) (sym back) ∙ bit-add y w i clear.1
+    more = ap (λ (q : ℕ). bit q i) (sym back) ∙ bit_add y w i clear.1
 
     go : (b : Bool) → eqb i w ≡ b → bit y i ≡ (bit x i && not b)
     go true e = ap (bit y) (eqb-true i w e) ∙ clear.1 ∙ sym (and-false (bit x i))
@@ -233,7 +233,7 @@ unfolding word_of
 word_more set n i = go (set n)
   where
     go : (b : Bool) → bit (word_of set n + cond b (2 ^ n) 0) i ≡ (bit (word_of set n) i || (b && eqb i n))
-    go true = bit-add (word_of set n) n i (bit_high n (word_of set n) n (word_lt set n) (le_refl n))
+    go true = bit_add (word_of set n) n i (bit_high n (word_of set n) n (word_lt set n) (le_refl n))
     go false = ap (λ (q : ℕ). bit q i) (add-zero (word_of set n)) ∙ sym (or-false (bit (word_of set n) i))
 
 pub bit_word : (set : ℕ → Bool) (n i : ℕ) → i < n → bit (word_of set n) i ≡ set i
@@ -250,5 +250,5 @@ bit_word set (suc n) i h = word_more set n i ∙ go (eqb i n) refl (bit_word set
         ap (λ (b : Bool). bit (word_of set n) i || b) (and-false (set n)) ∙ or-false (bit (word_of set n) i) ∙ below h'
 
 -- a word is the word of its bits
-pub word-of : (k x : ℕ) → x < 2 ^ k → word_of (bit x) k ≡ x
-word-of k x h = bit-ext k (word_of (bit x) k) x (word_lt (bit x) k) h (λ i g. bit_word (bit x) k i g)
+pub word_of-law : (k x : ℕ) → x < 2 ^ k → word_of (bit x) k ≡ x
+word_of-law k x h = bit_ext k (word_of (bit x) k) x (word_lt (bit x) k) h (λ i g. bit_word (bit x) k i g)

@@ -13,8 +13,8 @@ use lib.ListN.{length, get_or}
 use borrow.Author.Tests.{leb-true, le-leb}
 use Rattle.base.specs.declared.config.Config.{Config}
 use Rattle.base.specs.declared.config.Judged.{Judged}
-use Rattle.base.specs.Sizes.{Bounds, Field, field, fields_of, in_range, firstIllegal, illegalField, field_of, ConfigOutcome}
-use Rattle.base.specs.Sizes.{numbered, configOutcome}
+use Rattle.base.specs.Sizes.{Bounds, Field, field, fields_of, in_range, first_illegal, illegal_field, field_of, ConfigOutcome}
+use Rattle.base.specs.Sizes.{numbered, config_outcome}
 use Rattle.base.proofs.Search.{both}
 
 -- the field at place m, counted from 0; past the last, one that is in range
@@ -27,13 +27,13 @@ pub record FirstOut (fs : List Field) (m : ℕ) : Type 0 where
   pub out : in_range (field_at fs m) ≡ false
   pub before : (j : ℕ) → j < m → in_range (field_at fs j) ≡ true
 
-first_out : (k : ℕ) (fs : List Field) (x : ℕ) → firstIllegal k fs ≡ some x → (m : ℕ) × (x ≡ k + m) × FirstOut fs m
-unfolding firstIllegal
+first_out : (k : ℕ) (fs : List Field) (x : ℕ) → first_illegal k fs ≡ some x → (m : ℕ) × (x ≡ k + m) × FirstOut fs m
+unfolding first_illegal
 first_out k [] x e = absurd (none-ne-some x e)
 first_out k (f ∷ fs) x e = go (in_range f) refl e (λ q. first_out (suc k) fs x q)
   where
-    go : (b : Bool) → in_range f ≡ b → cond b (firstIllegal (suc k) fs) (some k) ≡ some x
-        → (firstIllegal (suc k) fs ≡ some x → (m : ℕ) × (x ≡ suc k + m) × FirstOut fs m) → (m : ℕ) × (x ≡ k + m) × FirstOut (f ∷ fs) m
+    go : (b : Bool) → in_range f ≡ b → cond b (first_illegal (suc k) fs) (some k) ≡ some x
+        → (first_illegal (suc k) fs ≡ some x → (m : ℕ) × (x ≡ suc k + m) × FirstOut fs m) → (m : ℕ) × (x ≡ k + m) × FirstOut (f ∷ fs) m
     go true p q rest =
         let r = rest q in (
           suc r.0,
@@ -50,40 +50,40 @@ first_out k (f ∷ fs) x e = go (in_range f) refl e (λ q. first_out (suc k) fs 
       record { there = omega arith; out = p; before = λ j l. absurd (omega arith) },
     )
 
-out_first : (k : ℕ) (fs : List Field) (m : ℕ) → FirstOut fs m → firstIllegal k fs ≡ some (k + m)
-unfolding firstIllegal
+out_first : (k : ℕ) (fs : List Field) (m : ℕ) → FirstOut fs m → first_illegal k fs ≡ some (k + m)
+unfolding first_illegal
 out_first k [] m o = absurd (let l = o.there in omega arith)
 out_first k (f ∷ fs) zero o =
-    ap (λ (b : Bool). cond b (firstIllegal (suc k) fs) (some k)) o.out ∙ ap some (sym (add-zero k))
+    ap (λ (b : Bool). cond b (first_illegal (suc k) fs) (some k)) o.out ∙ ap some (sym (add-zero k))
 out_first k (f ∷ fs) (suc m) o =
     let e : suc k + m ≡ k + suc m = omega arith in
-    ap (λ (b : Bool). cond b (firstIllegal (suc k) fs) (some k)) (o.before 0 (omega arith))
+    ap (λ (b : Bool). cond b (first_illegal (suc k) fs) (some k)) (o.before 0 (omega arith))
     ∙ out_first (suc k) fs m
     (record { there = let l = o.there in omega arith; out = o.out; before = λ j l. o.before (suc j) (omega arith) })
     ∙ ap some e
 
 -- 1 with field m + 1 comes exactly when that field is the first out of its range
-pub illegal-exact : (c : Config) (m : ℕ) → (illegalField c ≡ some (suc m)) ↔ FirstOut (fields_of c) m
-unfolding illegalField
-illegal-exact c m = (first, back)
+pub illegal_exact : (c : Config) (m : ℕ) → (illegal_field c ≡ some (suc m)) ↔ FirstOut (fields_of c) m
+unfolding illegal_field
+illegal_exact c m = (first, back)
   where
-    first : firstIllegal 1 (fields_of c) ≡ some (suc m) → FirstOut (fields_of c) m
+    first : first_illegal 1 (fields_of c) ≡ some (suc m) → FirstOut (fields_of c) m
     first e = let r = first_out 1 (fields_of c) (suc m) e in subst (FirstOut (fields_of c)) (omega (arith, r.1)) r.2
 
-    back : FirstOut (fields_of c) m → firstIllegal 1 (fields_of c) ≡ some (suc m)
+    back : FirstOut (fields_of c) m → first_illegal 1 (fields_of c) ≡ some (suc m)
     back o = let e : 1 + m ≡ suc m = omega arith in out_first 1 (fields_of c) m o ∙ ap some e
 
 -- a legal configuration
 abbrev pub Legal : Config → Type 0
 Legal c = Bounds 1 c
 
-all-in-range : (k : ℕ) (fs : List Field) → firstIllegal k fs ≡ none → (j : ℕ) → j < length fs → in_range (field_at fs j) ≡ true
-unfolding firstIllegal
-all-in-range k [] e j l = absurd (omega arith)
-all-in-range k (f ∷ fs) e j l = go (in_range f) refl e (λ q. all-in-range (suc k) fs q) j l
+all_in_range : (k : ℕ) (fs : List Field) → first_illegal k fs ≡ none → (j : ℕ) → j < length fs → in_range (field_at fs j) ≡ true
+unfolding first_illegal
+all_in_range k [] e j l = absurd (omega arith)
+all_in_range k (f ∷ fs) e j l = go (in_range f) refl e (λ q. all_in_range (suc k) fs q) j l
   where
-    go : (b : Bool) → in_range f ≡ b → cond b (firstIllegal (suc k) fs) (some k) ≡ none
-        → (firstIllegal (suc k) fs ≡ none → (j : ℕ) → j < length fs → in_range (field_at fs j) ≡ true)
+    go : (b : Bool) → in_range f ≡ b → cond b (first_illegal (suc k) fs) (some k) ≡ none
+        → (first_illegal (suc k) fs ≡ none → (j : ℕ) → j < length fs → in_range (field_at fs j) ≡ true)
         → (j : ℕ) → j < suc (length fs) → in_range (field_at (f ∷ fs) j) ≡ true
     go true p q rest zero l = p
     go true p q rest (suc j) l = rest q j (omega arith)
@@ -94,21 +94,21 @@ range : (x a b : ℕ) → in_range (field x a b) ≡ true → (a ≤ x) × (x �
 unfolding in_range
 range x a b e = let p = both (leb a x) (leb x b) e in (leb-true a x p.0, leb-true x b p.1)
 
-pub in-range : (x a b : ℕ) → a ≤ x → x ≤ b → in_range (field x a b) ≡ true
+pub in_range-law : (x a b : ℕ) → a ≤ x → x ≤ b → in_range (field x a b) ≡ true
 unfolding in_range
-in-range x a b l m = ap₂ ◌&&◌ (le-leb a x l) (le-leb x b m)
+in_range-law x a b l m = ap₂ ◌&&◌ (le-leb a x l) (le-leb x b m)
 
 -- no field is named exactly when the configuration is legal
-pub legal-exact : (c : Config) → (illegalField c ≡ none) ↔ Legal c
-unfolding illegalField firstIllegal
-legal-exact c = (is, holds)
+pub legal_exact : (c : Config) → (illegal_field c ≡ none) ↔ Legal c
+unfolding illegal_field first_illegal
+legal_exact c = (is, holds)
   where
     fits : (x a b : ℕ) → (a ≤ x) × (x ≤ b) → in_range (field x a b) ≡ true
-    fits x a b r = in-range x a b r.0 r.1
+    fits x a b r = in_range-law x a b r.0 r.1
 
-    is : firstIllegal 1 (fields_of c) ≡ none → Legal c
+    is : first_illegal 1 (fields_of c) ≡ none → Legal c
     is e =
-        let r = all-in-range 1 (fields_of c) e in
+        let r = all_in_range 1 (fields_of c) e in
         record {
           ports = range c.ports 1 8 (r 0 (omega arith));
           vcs = range c.vcs 1 4 (r 1 (omega arith));
@@ -119,7 +119,7 @@ legal-exact c = (is, holds)
           arbiter = range c.arbiter 1 2 (r 6 (omega arith));
         }
 
-    holds : Legal c → firstIllegal 1 (fields_of c) ≡ none
+    holds : Legal c → first_illegal 1 (fields_of c) ≡ none
     holds l =
         rw (
           fits c.ports 1 8 l.ports,
@@ -132,12 +132,12 @@ legal-exact c = (is, holds)
         )
 
 -- number and field say which field it is, if any
-numbered-field : (o q : Option ℕ) → numbered o ≡ numbered q → q ≡ o
-numbered-field none none e = refl
-numbered-field none (some k) e = let h = ap (λ (x : ConfigOutcome). x.number) e in absurd (omega (arith, h))
-numbered-field (some j) none e = let h = ap (λ (x : ConfigOutcome). x.number) e in absurd (omega (arith, h))
-numbered-field (some j) (some k) e = ap some (sym (ap (λ (x : ConfigOutcome). x.field) e))
+numbered_field : (o q : Option ℕ) → numbered o ≡ numbered q → q ≡ o
+numbered_field none none e = refl
+numbered_field none (some k) e = let h = ap (λ (x : ConfigOutcome). x.number) e in absurd (omega (arith, h))
+numbered_field (some j) none e = let h = ap (λ (x : ConfigOutcome). x.number) e in absurd (omega (arith, h))
+numbered_field (some j) (some k) e = ap some (sym (ap (λ (x : ConfigOutcome). x.field) e))
 
 -- so what is learnt of an answer is its field
-pub judged-field : (j : Judged) (o : Option ℕ) → configOutcome j ≡ numbered o → o ≡ field_of j
-judged-field j o e = numbered-field (field_of j) o e
+pub judged_field : (j : Judged) (o : Option ℕ) → config_outcome j ≡ numbered o → o ≡ field_of j
+judged_field j o e = numbered_field (field_of j) o e

@@ -8,17 +8,17 @@ use lib.ListN.{length, get_or, replicate, take, drop, length-drop}
 use lib.Seq.{take_all, take-take}
 
 -- a row of zeros has nothing but zeros
-pub getD-zeros : (n k : ℕ) → ◌≡◌ {A = ℕ} (get_or (replicate n 0) k 0) 0
-getD-zeros zero k = refl
-getD-zeros (suc n) zero = refl
-getD-zeros (suc n) (suc k) = getD-zeros n k
+pub get_d_zeros : (n k : ℕ) → ◌≡◌ {A = ℕ} (get_or (replicate n 0) k 0) 0
+get_d_zeros zero k = refl
+get_d_zeros (suc n) zero = refl
+get_d_zeros (suc n) (suc k) = get_d_zeros n k
 
 -- what lies inside the first m is there in the whole
-pub take-inside : (n u m : ℕ) (l : List ℕ) → u + n ≤ m → take n (drop u (take m l)) ≡ take n (drop u l)
-take-inside n zero m l h = take-take n m l (omega arith)
-take-inside n (suc u) zero l h = absurd (omega arith)
-take-inside n (suc u) (suc m) [] h = refl
-take-inside n (suc u) (suc m) (x ∷ l) h = take-inside n u m l (omega arith)
+pub take_inside : (n u m : ℕ) (l : List ℕ) → u + n ≤ m → take n (drop u (take m l)) ≡ take n (drop u l)
+take_inside n zero m l h = take-take n m l (omega arith)
+take_inside n (suc u) zero l h = absurd (omega arith)
+take_inside n (suc u) (suc m) [] h = refl
+take_inside n (suc u) (suc m) (x ∷ l) h = take_inside n u m l (omega arith)
 
 -- all from a place on, as a slice up to its end has it
 pub rest_of : (i : ℕ) (l : List ℕ) → take (length l - i) (drop i l) ≡ drop i l

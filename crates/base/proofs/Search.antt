@@ -1,4 +1,4 @@
--- Laws of `every`, `any` and `firstFrom`, and that the trailing zeros of a word are the first of its bits.
+-- Laws of `every`, `any` and `first_from`, and that the trailing zeros of a word are the first of its bits.
 -- Assumes nothing.
 use mathlib.Core.Path.{◌≡◌, refl, sym, ap, subst, ◌∙◌}
 use mathlib.Core.Logic.{◌⊎◌, inl, inr}
@@ -12,8 +12,8 @@ use lib.Count.{count_trailing_zeros, under}
 use lib.Dec.{eqb}
 use borrow.Author.Tests.{eqb-true, eqb-false}
 use Rattle.base.specs.Bits.{bit}
-use Rattle.base.specs.Search.{firstFrom, every, any}
-use Rattle.base.proofs.Bits.{digit, bit-first, bit-half}
+use Rattle.base.specs.Search.{first_from, every, any}
+use Rattle.base.proofs.Bits.{digit, bit_first, bit_half}
 
 -- both halves of an `&&`
 pub both : (a b : Bool) → (a && b) ≡ true → (a ≡ true) × (b ≡ true)
@@ -41,34 +41,34 @@ pub one_less : (n : ℕ) → (n ≡ 0 → ⊥) → n - 1 + 1 ≡ n
 one_less zero e = absurd (e refl)
 one_less (suc n) e = omega arith
 
-pub every-at : (n : ℕ) (test : ℕ → Bool) → every n test ≡ true → (i : ℕ) → i < n → test i ≡ true
+pub every_at : (n : ℕ) (test : ℕ → Bool) → every n test ≡ true → (i : ℕ) → i < n → test i ≡ true
 unfolding every
-every-at zero test e i h = absurd (not-suc-le-zero h)
-every-at (suc n) test e i h = go (eqb i n) refl (both (every n test) (test n) e) (λ p. every-at n test p i)
+every_at zero test e i h = absurd (not-suc-le-zero h)
+every_at (suc n) test e i h = go (eqb i n) refl (both (every n test) (test n) e) (λ p. every_at n test p i)
   where
     go : (b : Bool) → eqb i n ≡ b → (every n test ≡ true) × (test n ≡ true) → (every n test ≡ true → i < n → test i ≡ true) → test i ≡ true
     go true q p rest = ap test (eqb-true i n q) ∙ p.1
     go false q p rest = rest p.0 (lt_of_le-ne (omega arith) (eqb-false i n q))
 
-pub all-every : (n : ℕ) (test : ℕ → Bool) → ((i : ℕ) → i < n → test i ≡ true) → every n test ≡ true
+pub all_every : (n : ℕ) (test : ℕ → Bool) → ((i : ℕ) → i < n → test i ≡ true) → every n test ≡ true
 unfolding every
-all-every zero test f = refl
-all-every (suc n) test f =
-    ap (λ (b : Bool). b && test n) (all-every n test (λ i h. f i (omega arith))) ∙ f n (le_refl (suc n))
+all_every zero test f = refl
+all_every (suc n) test f =
+    ap (λ (b : Bool). b && test n) (all_every n test (λ i h. f i (omega arith))) ∙ f n (le_refl (suc n))
 
-pub every-ext : (n : ℕ) (f g : ℕ → Bool) → ((i : ℕ) → i < n → f i ≡ g i) → every n f ≡ every n g
+pub every_ext : (n : ℕ) (f g : ℕ → Bool) → ((i : ℕ) → i < n → f i ≡ g i) → every n f ≡ every n g
 unfolding every
-every-ext zero f g same = refl
-every-ext (suc n) f g same =
-    ap (λ (b : Bool). b && f n) (every-ext n f g (λ i h. same i (omega arith)))
+every_ext zero f g same = refl
+every_ext (suc n) f g same =
+    ap (λ (b : Bool). b && f n) (every_ext n f g (λ i h. same i (omega arith)))
     ∙ ap (λ (b : Bool). every n g && b) (same n (le_refl (suc n)))
 
 -- a test that fails somewhere is not passed by all
-pub not-every : (n : ℕ) (test : ℕ → Bool) (i : ℕ) → i < n → test i ≡ false → every n test ≡ false
-not-every n test i h e = go (every n test) refl
+pub not_every : (n : ℕ) (test : ℕ → Bool) (i : ℕ) → i < n → test i ≡ false → every n test ≡ false
+not_every n test i h e = go (every n test) refl
   where
     go : (b : Bool) → every n test ≡ b → b ≡ false
-    go true q = absurd (true≢false (sym (every-at n test q i h) ∙ e))
+    go true q = absurd (true≢false (sym (every_at n test q i h) ∙ e))
     go false q = refl
 
 -- of two tests the second suffices
@@ -98,11 +98,11 @@ pub record First (test : ℕ → Bool) (k i w : ℕ) : Type 0 where
   pub passes : test w ≡ true
   pub before : (j : ℕ) → i ≤ j → j < w → test j ≡ false
 
-first-here : (test : ℕ → Bool) (k i : ℕ) → test i ≡ true → First test (suc k) i i
-first-here test k i q = record { from = le_refl i; below = omega arith; passes = q; before = λ j h g. absurd (omega arith) }
+first_here : (test : ℕ → Bool) (k i : ℕ) → test i ≡ true → First test (suc k) i i
+first_here test k i q = record { from = le_refl i; below = omega arith; passes = q; before = λ j h g. absurd (omega arith) }
 
-first-later : (test : ℕ → Bool) (k i w : ℕ) → test i ≡ false → First test k (suc i) w → First test (suc k) i w
-first-later test k i w q f =
+first_later : (test : ℕ → Bool) (k i w : ℕ) → test i ≡ false → First test k (suc i) w → First test (suc k) i w
+first_later test k i w q f =
     record {
       from = let h = f.from in omega arith;
       below = let h = f.below in omega arith;
@@ -114,26 +114,26 @@ first-later test k i w q f =
     go j h g true e = ap test (sym (eqb-true i j e)) ∙ q
     go j h g false e = f.before j (lt_of_le-ne h (eqb-false i j e)) g
 
-pub first_found : (test : ℕ → Bool) (k i w : ℕ) → firstFrom test k i ≡ some w → First test k i w
-unfolding firstFrom
+pub first_found : (test : ℕ → Bool) (k i w : ℕ) → first_from test k i ≡ some w → First test k i w
+unfolding first_from
 first_found test zero i w e = absurd (none-ne-some w e)
 first_found test (suc k) i w e = go (test i) refl e (λ q. first_found test k (suc i) w q)
   where
-    go : (b : Bool) → test i ≡ b → cond b (some i) (firstFrom test k (suc i)) ≡ some w
-        → (firstFrom test k (suc i) ≡ some w → First test k (suc i) w) → First test (suc k) i w
-    go true q f rest = subst (First test (suc k) i) (some-injective i w f) (first-here test k i q)
-    go false q f rest = first-later test k i w q (rest f)
+    go : (b : Bool) → test i ≡ b → cond b (some i) (first_from test k (suc i)) ≡ some w
+        → (first_from test k (suc i) ≡ some w → First test k (suc i) w) → First test (suc k) i w
+    go true q f rest = subst (First test (suc k) i) (some-injective i w f) (first_here test k i q)
+    go false q f rest = first_later test k i w q (rest f)
 
-pub first-at : (test : ℕ → Bool) (k i w : ℕ) → First test k i w → firstFrom test k i ≡ some w
-unfolding firstFrom
-first-at test zero i w f = absurd (let p = f.from in let q = f.below in omega arith)
-first-at test (suc k) i w f = go (test i) refl (first-at test k (suc i) w)
+pub first_at : (test : ℕ → Bool) (k i w : ℕ) → First test k i w → first_from test k i ≡ some w
+unfolding first_from
+first_at test zero i w f = absurd (let p = f.from in let q = f.below in omega arith)
+first_at test (suc k) i w f = go (test i) refl (first_at test k (suc i) w)
   where
     later : test i ≡ false → i < w
     later q = lt_of_le-ne f.from (λ e. true≢false (sym f.passes ∙ ap test (sym e) ∙ q))
 
-    go : (b : Bool) → test i ≡ b → (First test k (suc i) w → firstFrom test k (suc i) ≡ some w)
-        → cond b (some i) (firstFrom test k (suc i)) ≡ some w
+    go : (b : Bool) → test i ≡ b → (First test k (suc i) w → first_from test k (suc i) ≡ some w)
+        → cond b (some i) (first_from test k (suc i)) ≡ some w
     go true q rest = ap some (reached (eqb i w) refl)
       where
         reached : (b : Bool) → eqb i w ≡ b → i ≡ w
@@ -147,20 +147,20 @@ first-at test (suc k) i w f = go (test i) refl (first-at test k (suc i) w)
           before = λ j h g. f.before j (omega arith) g;
         })
 
-pub first-none : (test : ℕ → Bool) (k i : ℕ) → ((j : ℕ) → i ≤ j → j < i + k → test j ≡ false) → firstFrom test k i ≡ none
-unfolding firstFrom
-first-none test zero i f = refl
-first-none test (suc k) i f =
-    ap (λ (b : Bool). cond b (some i) (firstFrom test k (suc i))) (f i (le_refl i) (omega arith))
-    ∙ first-none test k (suc i) (λ j h g. f j (omega arith) (omega arith))
+pub first_none : (test : ℕ → Bool) (k i : ℕ) → ((j : ℕ) → i ≤ j → j < i + k → test j ≡ false) → first_from test k i ≡ none
+unfolding first_from
+first_none test zero i f = refl
+first_none test (suc k) i f =
+    ap (λ (b : Bool). cond b (some i) (first_from test k (suc i))) (f i (le_refl i) (omega arith))
+    ∙ first_none test k (suc i) (λ j h g. f j (omega arith) (omega arith))
 
-pub first-missing : (test : ℕ → Bool) (k i : ℕ) → firstFrom test k i ≡ none → (j : ℕ) → i ≤ j → j < i + k → test j ≡ false
-unfolding firstFrom
-first-missing test zero i e j h g = absurd (omega arith)
-first-missing test (suc k) i e j h g = go (test i) refl e (λ q. first-missing test k (suc i) q j)
+pub first_missing : (test : ℕ → Bool) (k i : ℕ) → first_from test k i ≡ none → (j : ℕ) → i ≤ j → j < i + k → test j ≡ false
+unfolding first_from
+first_missing test zero i e j h g = absurd (omega arith)
+first_missing test (suc k) i e j h g = go (test i) refl e (λ q. first_missing test k (suc i) q j)
   where
-    go : (b : Bool) → test i ≡ b → cond b (some i) (firstFrom test k (suc i)) ≡ none
-        → (firstFrom test k (suc i) ≡ none → suc i ≤ j → j < suc i + k → test j ≡ false) → test j ≡ false
+    go : (b : Bool) → test i ≡ b → cond b (some i) (first_from test k (suc i)) ≡ none
+        → (first_from test k (suc i) ≡ none → suc i ≤ j → j < suc i + k → test j ≡ false) → test j ≡ false
     go true q f rest = absurd (some-ne-none i f)
     go false q f rest = at (eqb i j) refl
       where
@@ -168,18 +168,18 @@ first-missing test (suc k) i e j h g = go (test i) refl e (λ q. first-missing t
         at true e = ap test (sym (eqb-true i j e)) ∙ q
         at false e = let l : i < j = lt_of_le-ne h (eqb-false i j e) in rest f l (omega arith)
 
-pub first-ext : (f g : ℕ → Bool) (k i : ℕ) → ((j : ℕ) → i ≤ j → j < i + k → f j ≡ g j) → firstFrom f k i ≡ firstFrom g k i
-unfolding firstFrom
-first-ext f g zero i same = refl
-first-ext f g (suc k) i same =
-    ap (λ (b : Bool). cond b (some i) (firstFrom f k (suc i))) (same i (le_refl i) (omega arith))
-    ∙ ap (cond (g i) (some i)) (first-ext f g k (suc i) (λ j h l. same j (omega arith) (omega arith)))
+pub first_ext : (f g : ℕ → Bool) (k i : ℕ) → ((j : ℕ) → i ≤ j → j < i + k → f j ≡ g j) → first_from f k i ≡ first_from g k i
+unfolding first_from
+first_ext f g zero i same = refl
+first_ext f g (suc k) i same =
+    ap (λ (b : Bool). cond b (some i) (first_from f k (suc i))) (same i (le_refl i) (omega arith))
+    ∙ ap (cond (g i) (some i)) (first_ext f g k (suc i) (λ j h l. same j (omega arith) (omega arith)))
 
 -- `trailing_zeros` of a word that is not 0: its first bit
-pub trailing-first : (k x : ℕ) → x < 2 ^ k → 0 < x → First (bit x) k 0 (count_trailing_zeros k x)
+pub trailing_first : (k x : ℕ) → x < 2 ^ k → 0 < x → First (bit x) k 0 (count_trailing_zeros k x)
 unfolding count_trailing_zeros
-trailing-first zero x h p = absurd (omega arith)
-trailing-first (suc k) x h p = go (digit x) (trailing-first k (x / 2))
+trailing_first zero x h p = absurd (omega arith)
+trailing_first (suc k) x h p = go (digit x) (trailing_first k (x / 2))
   where
     go : (x % 2 ≡ 0) ⊎ (x % 2 ≡ 1) → (x / 2 < 2 ^ k → 0 < x / 2 → First (bit (x / 2)) k 0 (count_trailing_zeros k (x / 2)))
         → First (bit x) (suc k) 0 (under (x % 2) (count_trailing_zeros k (x / 2)))
@@ -192,13 +192,13 @@ trailing-first (suc k) x h p = go (digit x) (trailing-first k (x / 2))
             record {
               from = omega arith;
               below = let q = f.below in omega arith;
-              passes = sym (bit-half x t) ∙ f.passes;
+              passes = sym (bit_half x t) ∙ f.passes;
               before = below;
             }
           where
             below : (j : ℕ) → 0 ≤ j → j < suc t → bit x j ≡ false
-            below zero l g = bit-first x ∙ ap (λ (d : ℕ). eqb d 1) e
-            below (suc j) l g = sym (bit-half x j) ∙ f.before j (omega arith) (omega arith)
+            below zero l g = bit_first x ∙ ap (λ (d : ℕ). eqb d 1) e
+            below (suc j) l g = sym (bit_half x j) ∙ f.before j (omega arith) (omega arith)
     go (inr e) rest =
         subst (λ (d : ℕ). First (bit x) (suc k) 0 (under d (count_trailing_zeros k (x / 2)))) (sym e)
-        (first-here (bit x) k 0 (bit-first x ∙ ap (λ (d : ℕ). eqb d 1) e))
+        (first_here (bit x) k 0 (bit_first x ∙ ap (λ (d : ℕ). eqb d 1) e))

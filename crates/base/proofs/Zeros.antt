@@ -10,39 +10,39 @@ use lib.Dec.{eqb}
 use lib.ListN.{get_or}
 use borrow.Author.Tests.{eqb-true, eq-eqb}
 use Rattle.base.specs.Search.{every}
-use Rattle.base.proofs.Bits.{or-zero}
-use Rattle.base.proofs.Search.{every-at, all-every}
+use Rattle.base.proofs.Bits.{or_zero}
+use Rattle.base.proofs.Search.{every_at, all_every}
 
 -- k places after `from` there is a zero
-abbrev pub zeroAfter : ℕ → List ℕ → ℕ → Bool
-zeroAfter from l k = eqb (get_or l (from + k) 0) 0
+abbrev pub zero_after : ℕ → List ℕ → ℕ → Bool
+zero_after from l k = eqb (get_or l (from + k) 0) 0
 
 -- the numbers from `from` on, and before `to`, are zero
 abbrev pub blank : ℕ → ℕ → List ℕ → Bool
-blank from to l = every (to - from) (zeroAfter from l)
+blank from to l = every (to - from) (zero_after from l)
 
 -- nothing is passed yet
 pub blank_none : (from : ℕ) (l : List ℕ) → true ≡ blank from from l
 unfolding every
-blank_none from l = let none : from - from ≡ 0 = omega arith in ap (λ (n : ℕ). every n (zeroAfter from l)) (sym none)
+blank_none from l = let none : from - from ≡ 0 = omega arith in ap (λ (n : ℕ). every n (zero_after from l)) (sym none)
 
 -- one number more
-pub blank-more : (from i any : ℕ) (l : List ℕ) → from ≤ i → eqb any 0 ≡ blank from i l
+pub blank_more : (from i any : ℕ) (l : List ℕ) → from ≤ i → eqb any 0 ≡ blank from i l
     → eqb (bit_or any (get_or l i 0)) 0 ≡ blank from (i + 1) l
 unfolding every
-blank-more from i any l h e =
+blank_more from i any l h e =
     let there : i ≡ from + (i - from) = omega arith in
     let more : suc (i - from) ≡ i + 1 - from = omega arith in
-    or-zero any (get_or l i 0) ∙ ap₂ ◌&&◌ e (ap (λ (k : ℕ). eqb (get_or l k 0) 0) there)
-    ∙ ap (λ (n : ℕ). every n (zeroAfter from l)) more
+    or_zero any (get_or l i 0) ∙ ap₂ ◌&&◌ e (ap (λ (k : ℕ). eqb (get_or l k 0) 0) there)
+    ∙ ap (λ (n : ℕ). every n (zero_after from l)) more
 
 -- each of them is zero
-pub blank-at : (from to : ℕ) (l : List ℕ) → blank from to l ≡ true → (i : ℕ) → from ≤ i → i < to → get_or l i 0 ≡ 0
-blank-at from to l e i h g =
+pub blank_at : (from to : ℕ) (l : List ℕ) → blank from to l ≡ true → (i : ℕ) → from ≤ i → i < to → get_or l i 0 ≡ 0
+blank_at from to l e i h g =
     let there : i ≡ from + (i - from) = omega arith in
     ap (λ (k : ℕ). get_or l k 0) there
-    ∙ eqb-true (get_or l (from + (i - from)) 0) 0 (every-at (to - from) (zeroAfter from l) e (i - from) (omega arith))
+    ∙ eqb-true (get_or l (from + (i - from)) 0) 0 (every_at (to - from) (zero_after from l) e (i - from) (omega arith))
 
-pub all-blank : (from to : ℕ) (l : List ℕ) → ((i : ℕ) → from ≤ i → i < to → get_or l i 0 ≡ 0) → blank from to l ≡ true
-all-blank from to l all =
-    all-every (to - from) (zeroAfter from l) (λ k g. eq-eqb (get_or l (from + k) 0) 0 (all (from + k) (omega arith) (omega arith)))
+pub all_blank : (from to : ℕ) (l : List ℕ) → ((i : ℕ) → from ≤ i → i < to → get_or l i 0 ≡ 0) → blank from to l ≡ true
+all_blank from to l all =
+    all_every (to - from) (zero_after from l) (λ k g. eq-eqb (get_or l (from + k) 0) 0 (all (from + k) (omega arith) (omega arith)))

@@ -12,5 +12,5 @@ word_of set zero = 0
 word_of set (suc n) = word_of set n + cond (set n) (2 ^ n) 0
 
 -- the word x with bit w set
-unfoldable pub withBit : ℕ → ℕ → ℕ
-withBit w x = cond (bit x w) x (x + 2 ^ w)
+unfoldable pub with_bit : ℕ → ℕ → ℕ
+with_bit w x = cond (bit x w) x (x + 2 ^ w)

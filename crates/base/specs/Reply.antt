@@ -10,15 +10,15 @@ use Rattle.base.specs.declared.reply.Left.TheVariants as left
 use Rattle.base.specs.declared.reply.Reply.{Reply}
 
 -- the VC whose credit reached a sender, if one did
-abbrev pub creditOf : Reached → Option ℕ
-creditOf reached.Nothing = none
-creditOf (reached.Vc v) = some v
+abbrev pub credit_of : Reached → Option ℕ
+credit_of reached.Nothing = none
+credit_of (reached.Vc v) = some v
 
 -- the flit that left, if one did
-abbrev pub departureOf : Left → Option Departure
-departureOf left.Nothing = none
-departureOf (left.Flit d) = some d
+abbrev pub departure_of : Left → Option Departure
+departure_of left.Nothing = none
+departure_of (left.Flit d) = some d
 
 -- a reply that reports nothing
-abbrev pub emptyReply : Reply
-emptyReply = record { senders = replicate 8 (record { reached = reached.Nothing }); outputs = replicate 8 (record { left = left.Nothing }) }
+abbrev pub empty_reply : Reply
+empty_reply = record { senders = replicate 8 (record { reached = reached.Nothing }); outputs = replicate 8 (record { left = left.Nothing }) }

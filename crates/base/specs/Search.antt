@@ -4,9 +4,9 @@ use Rattle.std.specs.Prelude.{Bool, true, false, cond, ◌&&◌, ◌||◌, ℕ, 
 use Rattle.std.proofs.Math.Option.{Option, some, none}
 
 -- the first of the k numbers from i on that passes the test
-unfoldable pub firstFrom : (ℕ → Bool) → ℕ → ℕ → Option ℕ
-firstFrom test zero i = none
-firstFrom test (suc k) i = cond (test i) (some i) (firstFrom test k (suc i))
+unfoldable pub first_from : (ℕ → Bool) → ℕ → ℕ → Option ℕ
+first_from test zero i = none
+first_from test (suc k) i = cond (test i) (some i) (first_from test k (suc i))
 
 -- all numbers below n pass the test
 unfoldable pub every : ℕ → (ℕ → Bool) → Bool

@@ -8,31 +8,31 @@ use Rattle.base.specs.declared.config.Judged.{Judged}
 use Rattle.base.specs.declared.config.Judged.TheVariants.{Legal, Illegal}
 
 -- "Ports P 1..8. VCs per port V 1..4."
-abbrev pub mostPorts : ℕ
-mostPorts = 8
+abbrev pub most_ports : ℕ
+most_ports = 8
 
-abbrev pub mostVcs : ℕ
-mostVcs = 4
+abbrev pub most_vcs : ℕ
+most_vcs = 4
 
 -- so at most 32 channels
-abbrev pub mostChannels : ℕ
-mostChannels = 32
+abbrev pub most_channels : ℕ
+most_channels = 32
 
 -- P, V, D, E, F, B and the arbiter code, in the document's order
 abbrev pub sized : ℕ → ℕ → ℕ → ℕ → ℕ → ℕ → ℕ → Config
 sized p v d e f b code = record { ports = p; vcs = v; depth = d; downstream = e; forward = f; back = b; arbiter = code }
 
 -- no configuration, as before a file's first block
-abbrev pub noConfig : Config
-noConfig = sized 0 0 0 0 0 0 0
+abbrev pub no_config : Config
+no_config = sized 0 0 0 0 0 0 0
 
-abbrev pub withDownstream : ℕ → Config → Config
-withDownstream e c = sized c.ports c.vcs c.depth e c.forward c.back c.arbiter
+abbrev pub with_downstream : ℕ → Config → Config
+with_downstream e c = sized c.ports c.vcs c.depth e c.forward c.back c.arbiter
 
 -- each field at least so much and at most what its range ends with: from 1 on a configuration is legal, from 0 on it may be none
 pub record Bounds (least : ℕ) (c : Config) : Type 0 where
-  pub ports : (least ≤ c.ports) × (c.ports ≤ mostPorts)
-  pub vcs : (least ≤ c.vcs) × (c.vcs ≤ mostVcs)
+  pub ports : (least ≤ c.ports) × (c.ports ≤ most_ports)
+  pub vcs : (least ≤ c.vcs) × (c.vcs ≤ most_vcs)
   pub depth : (least ≤ c.depth) × (c.depth ≤ 16)
   pub downstream : (least ≤ c.downstream) × (c.downstream ≤ 16)
   pub forward : (least ≤ c.forward) × (c.forward ≤ 8)
@@ -40,12 +40,12 @@ pub record Bounds (least : ℕ) (c : Config) : Type 0 where
   pub arbiter : (least ≤ c.arbiter) × (c.arbiter ≤ 2)
 
 -- "At most 1,000,000,000 accepted cycles in a run"
-abbrev pub cycleLimit : ℕ
-cycleLimit = 1000000000
+abbrev pub cycle_limit : ℕ
+cycle_limit = 1000000000
 
 -- "flits at most 8·10^9" (01, the list)
-abbrev pub flitLimit : ℕ
-flitLimit = 8000000000
+abbrev pub flit_limit : ℕ
+flit_limit = 8000000000
 
 -- a value, and the range that it has to be in
 pub record Field : Type 0 where
@@ -60,20 +60,20 @@ field value least most = record { value = value; least = least; most = most }
 -- credit delay B 1..8 cycles. Arbiter code 1 (round robin) or 2 (matrix)."
 abbrev pub fields_of : Config → List Field
 fields_of c =
-    field c.ports 1 mostPorts ∷ field c.vcs 1 mostVcs ∷ field c.depth 1 16 ∷ field c.downstream 1 16 ∷ field c.forward 1 8
+    field c.ports 1 most_ports ∷ field c.vcs 1 most_vcs ∷ field c.depth 1 16 ∷ field c.downstream 1 16 ∷ field c.forward 1 8
     ∷ field c.back 1 8 ∷ field c.arbiter 1 2 ∷ []
 
 unfoldable pub in_range : Field → Bool
 in_range f = leb f.least f.value && leb f.value f.most
 
 -- the number of the first field out of its range, where they are counted from k
-unfoldable pub firstIllegal : ℕ → List Field → Option ℕ
-firstIllegal k [] = none
-firstIllegal k (f ∷ fs) = cond (in_range f) (firstIllegal (suc k) fs) (some k)
+unfoldable pub first_illegal : ℕ → List Field → Option ℕ
+first_illegal k [] = none
+first_illegal k (f ∷ fs) = cond (in_range f) (first_illegal (suc k) fs) (some k)
 
 -- "configuration value out of range; the first such field, 1..7"
-unfoldable pub illegalField : Config → Option ℕ
-illegalField c = firstIllegal 1 (fields_of c)
+unfoldable pub illegal_field : Config → Option ℕ
+illegal_field c = first_illegal 1 (fields_of c)
 
 -- the field that an answer names: none where the configuration is legal
 abbrev pub field_of : Judged → Option ℕ
@@ -87,8 +87,8 @@ pub record ConfigOutcome : Type 0 where
 
 abbrev pub numbered : Option ℕ → ConfigOutcome
 numbered none = record { number = numbers.done; field = 0 }
-numbered (some k) = record { number = numbers.configurationWrong; field = k }
+numbered (some k) = record { number = numbers.configuration_wrong; field = k }
 
 -- the number and the field that an answer stands for
-abbrev pub configOutcome : Judged → ConfigOutcome
-configOutcome j = numbered (field_of j)
+abbrev pub config_outcome : Judged → ConfigOutcome
+config_outcome j = numbered (field_of j)

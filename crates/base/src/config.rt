@@ -1,6 +1,6 @@
 // The configuration, and the one test that it is legal.
 ghost use Rattle.std.specs.Prelude.{◌≡◌};
-ghost use Rattle.base.specs.Sizes.{noConfig, field, in_range, illegalField, numbered, configOutcome};
+ghost use Rattle.base.specs.Sizes.{no_config, field, in_range, illegal_field, numbered, config_outcome};
 
 use crate::bounds::{PORTS, VCS};
 
@@ -36,7 +36,7 @@ fn within(value: u8, least: u8, most: u8) -> bool
 impl Config {
     // No configuration: all zero, as before a file's first block. It is not legal.
     pub fn none() -> Self
-        ensures { result ≡ noConfig }
+        ensures { result ≡ no_config }
     {
         Config {
             ports: 0,
@@ -51,7 +51,7 @@ impl Config {
 
     // 0, or 1 with the first field, counted from 1, that is out of its range.
     pub fn judged(self) -> Judged
-        ensures { configOutcome result ≡ numbered (illegalField self) }
+        ensures { config_outcome result ≡ numbered (illegal_field self) }
     {
         if !within(self.ports, 1, PORTS) {
             return Judged::Illegal(1);

@@ -1,6 +1,6 @@
 // The reply of a cycle: per input the credit that reached its sender, per output the flit that left.
 ghost use Rattle.std.specs.Prelude.{◌≡◌};
-ghost use Rattle.base.specs.Reply.{emptyReply};
+ghost use Rattle.base.specs.Reply.{empty_reply};
 
 // The VC whose credit reached the sender of an input.
 #[derive(Drop)]
@@ -45,7 +45,7 @@ pub struct Reply {
 impl Reply {
     // The reply of a cycle that reports nothing, as of every refused cycle.
     pub fn empty() -> Self
-        ensures { result ≡ emptyReply }
+        ensures { result ≡ empty_reply }
     {
         Reply {
             senders: [Sender {

@@ -30,12 +30,12 @@ apart' test p q = differ (λ e. false≢true (sym p ∙ ap test e ∙ q))
 pub numbers : (x y : ℕ) → Tells (eqb x y) x y
 numbers x y = (eqb-true x y, eq-eqb x y)
 
-pub bits-true : (p q : Bool) → p ≡ true → Tells q p q
-bits-true p q e = (λ h. e ∙ sym h, λ h. sym h ∙ e)
+pub bits_true : (p q : Bool) → p ≡ true → Tells q p q
+bits_true p q e = (λ h. e ∙ sym h, λ h. sym h ∙ e)
 
-pub bits-false : (p q : Bool) → p ≡ false → Tells (not q) p q
-bits-false p true e = (λ h. absurd (false≢true h), λ h. sym e ∙ h)
-bits-false p false e = (λ h. e, λ h. refl)
+pub bits_false : (p q : Bool) → p ≡ false → Tells (not q) p q
+bits_false p true e = (λ h. absurd (false≢true h), λ h. sym e ∙ h)
+bits_false p false e = (λ h. e, λ h. refl)
 
 -- two pairs, each part compared
 pub paired : {A B : Type 0} {x y : A} {u v : B} (r p q : Bool) → r ≡ (p && q) → Tells p x y → Tells q u v
@@ -68,9 +68,9 @@ grown {A} d xs ys k h g r p q e t s = (
     last z = sym (get_or-take (k + 1) xs k d (omega arith)) ∙ ap (λ (l : List A). get_or l k d) z ∙ get_or-take (k + 1) ys k d (omega arith)
 
 -- one more of n equal elements
-pub grown-all : {A : Type 0} (d : A) (xs : List A) (n k : ℕ) → k < length xs → k < n → (r p q : Bool) → r ≡ (p && q)
+pub grown_all : {A : Type 0} (d : A) (xs : List A) (n k : ℕ) → k < length xs → k < n → (r p q : Bool) → r ≡ (p && q)
     → Tells p (take k xs) (take k (replicate n d)) → Tells q (get_or xs k d) d → Tells r (take (k + 1) xs) (take (k + 1) (replicate n d))
-grown-all d xs n k h g r p q e t s =
+grown_all d xs n k h g r p q e t s =
     grown d xs (replicate n d) k h (rw (length-replicate n d) g) r p q e t (rw (get_or-replicate n k d d g) s)
 
 -- all elements

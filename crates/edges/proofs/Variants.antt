@@ -22,21 +22,21 @@ use Rattle.edges.specs.Same.{Tells}
 use Rattle.edges.proofs.Telling.{numbers, paired, through}
 
 -- what is bound to the same VC; what the same VC holds
-abbrev boundOr : OutVc → Binding → OutVc
-boundOr w Unbound = w
-boundOr w (Bound v) = v
+abbrev bound_or : OutVc → Binding → OutVc
+bound_or w Unbound = w
+bound_or w (Bound v) = v
 
-pub bound-tells : (a b : Binding) (w v : OutVc) (r : Bool) → a ≡ Bound w → b ≡ Bound v → r
+pub bound_tells : (a b : Binding) (w v : OutVc) (r : Bool) → a ≡ Bound w → b ≡ Bound v → r
     ≡ (eqb w.output v.output && eqb w.vc v.vc) → Tells r a b
-bound-tells a b w v r ea eb e =
+bound_tells a b w v r ea eb e =
     let t : Tells r w v =
     through (λ (x : OutVc). (x.output, x.vc)) (λ (p : ℕ × ℕ). record { output = p.0; vc = p.1 }) (λ x. refl)
     (paired r (eqb w.output v.output) (eqb w.vc v.vc) e (numbers w.output v.output) (numbers w.vc v.vc)) in
-    (λ h. ea ∙ ap Bound (t.0 h) ∙ sym eb, λ h. t.1 (ap (boundOr w) (sym ea ∙ h ∙ eb)))
+    (λ h. ea ∙ ap Bound (t.0 h) ∙ sym eb, λ h. t.1 (ap (bound_or w) (sym ea ∙ h ∙ eb)))
 
-abbrev heldBy : InVc → Holder → InVc
-heldBy w Nobody = w
-heldBy w (Held v) = v
+abbrev held_by : InVc → Holder → InVc
+held_by w Nobody = w
+held_by w (Held v) = v
 
 pub held_tells : (a b : Holder) (w v : InVc) (r : Bool) → a ≡ Held w → b ≡ Held v → r
     ≡ (eqb w.input v.input && eqb w.vc v.vc) → Tells r a b
@@ -44,40 +44,40 @@ held_tells a b w v r ea eb e =
     let t : Tells r w v =
     through (λ (x : InVc). (x.input, x.vc)) (λ (p : ℕ × ℕ). record { input = p.0; vc = p.1 }) (λ x. refl)
     (paired r (eqb w.input v.input) (eqb w.vc v.vc) e (numbers w.input v.input) (numbers w.vc v.vc)) in
-    (λ h. ea ∙ ap Held (t.0 h) ∙ sym eb, λ h. t.1 (ap (heldBy w) (sym ea ∙ h ∙ eb)))
+    (λ h. ea ∙ ap Held (t.0 h) ∙ sym eb, λ h. t.1 (ap (held_by w) (sym ea ∙ h ∙ eb)))
 
-abbrev refusalOf : Refusal → Verdict → Refusal
-refusalOf w Accepted = w
-refusalOf w (Refused v) = v
+abbrev refusal_of : Refusal → Verdict → Refusal
+refusal_of w Accepted = w
+refusal_of w (Refused v) = v
 
-abbrev pub isAccepted : Verdict → Bool
-isAccepted Accepted = true
-isAccepted (Refused r) = false
+abbrev pub is_accepted : Verdict → Bool
+is_accepted Accepted = true
+is_accepted (Refused r) = false
 
-pub refused-tells : (a : Verdict) (w v : Refusal) (r : Bool) → a ≡ Refused w → r
+pub refused_tells : (a : Verdict) (w v : Refusal) (r : Bool) → a ≡ Refused w → r
     ≡ (eqb w.number v.number && eqb w.port v.port) → Tells r a (Refused v)
-refused-tells a w v r ea e =
+refused_tells a w v r ea e =
     let t : Tells r w v =
     through (λ (x : Refusal). (x.number, x.port)) (λ (p : ℕ × ℕ). record { number = p.0; port = p.1 }) (λ x. refl)
     (paired r (eqb w.number v.number) (eqb w.port v.port) e (numbers w.number v.number) (numbers w.port v.port)) in
-    (λ h. ea ∙ ap Refused (t.0 h), λ h. t.1 (ap (refusalOf w) (sym ea ∙ h)))
+    (λ h. ea ∙ ap Refused (t.0 h), λ h. t.1 (ap (refusal_of w) (sym ea ∙ h)))
 
 -- nothing reached, nothing left, no field named
-abbrev pub noCredit : Reached → Bool
-noCredit reached.Nothing = true
-noCredit (reached.Vc v) = false
+abbrev pub no_credit : Reached → Bool
+no_credit reached.Nothing = true
+no_credit (reached.Vc v) = false
 
-abbrev pub noFlit : Left → Bool
-noFlit left.Nothing = true
-noFlit (left.Flit d) = false
+abbrev pub no_flit : Left → Bool
+no_flit left.Nothing = true
+no_flit (left.Flit d) = false
 
 abbrev pub no_field : Option ℕ → Bool
 no_field none = true
 no_field (some k) = false
 
-abbrev fieldOr : ℕ → Option ℕ → ℕ
-fieldOr k none = k
-fieldOr k (some f) = f
+abbrev field_or : ℕ → Option ℕ → ℕ
+field_or k none = k
+field_or k (some f) = f
 
-pub field-tells : (o : Option ℕ) (k f : ℕ) → o ≡ some k → Tells (eqb k f) o (some f)
-field-tells o k f e = (λ h. e ∙ ap some ((numbers k f).0 h), λ h. (numbers k f).1 (ap (fieldOr k) (sym e ∙ h)))
+pub field_tells : (o : Option ℕ) (k f : ℕ) → o ≡ some k → Tells (eqb k f) o (some f)
+field_tells o k f e = (λ h. e ∙ ap some ((numbers k f).0 h), λ h. (numbers k f).1 (ap (field_or k) (sym e ∙ h)))

@@ -4,16 +4,16 @@ use Rattle.std.specs.Prelude.{◌≡◌, List, [], ℕ, ◌-◌, ◌≤◌, leng
 use Rattle.base.specs.declared.reply.Reached.TheVariants.{Vc}
 use Rattle.base.specs.declared.reply.Left.TheVariants.{Flit}
 use Rattle.base.specs.declared.reply.Reply.{Reply}
-use Rattle.base.specs.Reply.{emptyReply}
+use Rattle.base.specs.Reply.{empty_reply}
 use Rattle.listing.specs.declared.Written.{Written}
-use Rattle.listing.specs.Writing.{WriteOutcome, writeOutcome}
+use Rattle.listing.specs.Writing.{WriteOutcome, write_outcome}
 
 -- by listing's own definition of an answer; the buffer has no part in either
 abbrev pub number_of : Written → ℕ
-number_of w = (writeOutcome w []).number
+number_of w = (write_outcome w []).number
 
 abbrev pub bytes_of : Written → ℕ
-bytes_of w = (writeOutcome w []).bytes
+bytes_of w = (write_outcome w []).bytes
 
 -- this number, and this line from place 0 on with zeros behind it; no line where the write is refused
 pub record Answers (o : WriteOutcome) (number : ℕ) (line : List ℕ) : Type 0 where
@@ -24,12 +24,12 @@ pub record Answers (o : WriteOutcome) (number : ℕ) (line : List ℕ) : Type 0 
   pub behind : drop (length line) o.buffer ≡ replicate (length o.buffer - length line) 0
 
 -- a reply of one credit, of this VC, at the sender of input 7
-abbrev pub oneCredit : ℕ → Reply
-oneCredit vc = record { senders = set emptyReply.senders 7 (record { reached = Vc vc }); outputs = emptyReply.outputs }
+abbrev pub with_one_credit : ℕ → Reply
+with_one_credit vc = record { senders = set empty_reply.senders 7 (record { reached = Vc vc }); outputs = empty_reply.outputs }
 
 -- a credit at each input, and at each output a flit with the longest words
-abbrev pub fullReply : Reply
-fullReply =
+abbrev pub full_reply : Reply
+full_reply =
     record {
       senders = replicate 8 (record { reached = Vc 3 });
       outputs = replicate 8 (record { left = Flit (record { out_vc = 3; input = 7; vc = 3; kind = 1; payload = 0xffffffff }) });

@@ -14,5 +14,5 @@ Tells r x y = (r ≡ true → x ≡ y) × (x ≡ y → r ≡ true)
 abbrev pub unreached : Sender
 unreached = record { reached = reached.Nothing }
 
-abbrev pub nothingLeft : Output
-nothingLeft = record { left = left.Nothing }
+abbrev pub nothing_left : Output
+nothing_left = record { left = left.Nothing }

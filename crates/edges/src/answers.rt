@@ -1,6 +1,6 @@
 // What a write answered, and what then stands in a buffer that was all zero.
 ghost use Rattle.std.specs.Prelude.{◌≡◌, length, replicate};
-ghost use Rattle.listing.specs.Writing.{writeOutcome};
+ghost use Rattle.listing.specs.Writing.{write_outcome};
 ghost use Rattle.edges.specs.Same.{Tells};
 ghost use Rattle.edges.specs.Answers.{Answers, number_of, bytes_of};
 
@@ -43,7 +43,7 @@ fn is_zero(bytes: &[u8]) -> bool
 
 // The number, the count of bytes, the line from place 0 on, and nothing behind it. A refused write has no line.
 pub(crate) fn answered(buf: &[u8], written: Written, number: u8, line: &[u8])
-    requires { Answers (writeOutcome written buf.now) number line.now }
+    requires { Answers (write_outcome written buf.now) number line.now }
 {
     let n = line.len();
     expect(number_of(written) == number);

@@ -1,8 +1,8 @@
 // For each clause of soundness a router that breaks this clause alone, and is refused with 2. The arrays' lengths no struct can break.
 ghost use Rattle.std.specs.Prelude.{◌≡◌, false};
 ghost use Rattle.state.specs.Sound.{sound};
-ghost use Rattle.state.specs.Sound.{theConfiguration, theCycles, theWire, theHome, theWireRest, theHomeRest, theCredits, theQueues};
-ghost use Rattle.state.specs.Sound.{theOutputCredits, theChannels, theSlots, theNames, thePackets, theArbiters, theOtherArbiters};
+ghost use Rattle.state.specs.Sound.{the_configuration, the_cycles, the_wire, the_home, the_wire_rest, the_home_rest, the_credits, the_queues};
+ghost use Rattle.state.specs.Sound.{the_output_credits, the_channels, the_slots, the_names, the_packets, the_arbiters, the_other_arbiters};
 ghost use Rattle.edges.specs.States.{broken};
 
 use crate::building::{SINGLE_TO_1, config, output, turns, unbound};
@@ -12,7 +12,7 @@ use state::{Holder, InVc, Router};
 
 // E 17
 fn configuration() -> Router
-    ensures { result ≡ broken theConfiguration }
+    ensures { result ≡ broken the_configuration }
 {
     let mut router = turns();
     let wrong = config(3, 17);
@@ -22,7 +22,7 @@ fn configuration() -> Router
 
 // one more than a run has
 fn cycles() -> Router
-    ensures { result ≡ broken theCycles }
+    ensures { result ≡ broken the_cycles }
 {
     let mut router = turns();
     router.cycle = 1_000_000_001;
@@ -31,7 +31,7 @@ fn cycles() -> Router
 
 // a wire place on a VC that there is not
 fn wire() -> Router
-    ensures { result ≡ broken theWire }
+    ensures { result ≡ broken the_wire }
 {
     let mut router = turns();
     router.wire[0] = 2 * 274877906944 + SINGLE_TO_1;
@@ -40,7 +40,7 @@ fn wire() -> Router
 
 // a home place of a VC that there is not
 fn home() -> Router
-    ensures { result ≡ broken theHome }
+    ensures { result ≡ broken the_home }
 {
     let mut router = turns();
     router.home[0] = 3;
@@ -49,7 +49,7 @@ fn home() -> Router
 
 // the wire's stage at F
 fn wire_rest() -> Router
-    ensures { result ≡ broken theWireRest }
+    ensures { result ≡ broken the_wire_rest }
 {
     let mut router = turns();
     router.wire[16] = SINGLE_TO_1;
@@ -58,7 +58,7 @@ fn wire_rest() -> Router
 
 // the home line at port P
 fn home_rest() -> Router
-    ensures { result ≡ broken theHomeRest }
+    ensures { result ≡ broken the_home_rest }
 {
     let mut router = turns();
     router.home[2] = 1;
@@ -67,7 +67,7 @@ fn home_rest() -> Router
 
 // one credit less than D
 fn credits() -> Router
-    ensures { result ≡ broken theCredits }
+    ensures { result ≡ broken the_credits }
 {
     let mut router = turns();
     router.inputs[0] = unbound(2, false, 0);
@@ -76,7 +76,7 @@ fn credits() -> Router
 
 // queued to a port that there is not
 fn queues() -> Router
-    ensures { result ≡ broken theQueues }
+    ensures { result ≡ broken the_queues }
 {
     let mut router = turns();
     router.inputs[0] = unbound(2, false, 1);
@@ -86,7 +86,7 @@ fn queues() -> Router
 
 // an output credit above E
 fn output_credits() -> Router
-    ensures { result ≡ broken theOutputCredits }
+    ensures { result ≡ broken the_output_credits }
 {
     let mut router = turns();
     router.outputs[0] = output(3);
@@ -95,7 +95,7 @@ fn output_credits() -> Router
 
 // a credit of a channel beyond P and V
 fn channels() -> Router
-    ensures { result ≡ broken theChannels }
+    ensures { result ≡ broken the_channels }
 {
     let mut router = turns();
     router.outputs[4] = output(1);
@@ -104,7 +104,7 @@ fn channels() -> Router
 
 // a slot of a channel that there is not
 fn slots() -> Router
-    ensures { result ≡ broken theSlots }
+    ensures { result ≡ broken the_slots }
 {
     let mut router = turns();
     router.store[511] = 1;
@@ -113,7 +113,7 @@ fn slots() -> Router
 
 // held and not bound
 fn names() -> Router
-    ensures { result ≡ broken theNames }
+    ensures { result ≡ broken the_names }
 {
     let mut router = turns();
     let free = output(2);
@@ -123,7 +123,7 @@ fn names() -> Router
 
 // a packet open that nothing has begun
 fn packets() -> Router
-    ensures { result ≡ broken thePackets }
+    ensures { result ≡ broken the_packets }
 {
     let mut router = turns();
     router.inputs[0] = unbound(3, true, 0);
@@ -132,7 +132,7 @@ fn packets() -> Router
 
 // a pointer equal to its width
 fn arbiters() -> Router
-    ensures { result ≡ broken theArbiters }
+    ensures { result ≡ broken the_arbiters }
 {
     let mut router = turns();
     let mut arbiters = router.arbiters;
@@ -146,7 +146,7 @@ fn arbiters() -> Router
 
 // an arbiter beyond P
 fn other_arbiters() -> Router
-    ensures { result ≡ broken theOtherArbiters }
+    ensures { result ≡ broken the_other_arbiters }
 {
     let mut router = turns();
     let mut arbiters = router.arbiters;

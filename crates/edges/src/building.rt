@@ -1,6 +1,6 @@
 // Routers by value: a fresh one and one in the middle of its work, and what they are made of. All of it starts from a fresh router.
 ghost use Rattle.std.specs.Prelude.{◌≡◌};
-ghost use Rattle.state.specs.Fresh.{freshOutput};
+ghost use Rattle.state.specs.Fresh.{fresh_output};
 ghost use Rattle.base.specs.Sizes.{sized};
 ghost use Rattle.state.proofs.SoundStates.{turns, unbound};
 ghost use Rattle.edges.specs.States.{busy};
@@ -55,7 +55,7 @@ pub(crate) fn unbound(credit: u8, opened: bool, queued: u8) -> InputVc
 
 // An output VC that nobody holds, with this credit.
 pub(crate) fn output(credit: u8) -> OutputVc
-    ensures { result ≡ freshOutput credit }
+    ensures { result ≡ fresh_output credit }
 {
     let fresh = turns();
     let outputs = fresh.outputs;

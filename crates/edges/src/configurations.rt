@@ -1,7 +1,7 @@
 // "D 16 is legal, 17 and 0 give 1 with field 3."
 ghost use Rattle.std.specs.Prelude.{◌≡◌};
 ghost use Rattle.std.proofs.Math.Option.{some, none};
-ghost use Rattle.base.specs.Sizes.{sized, field_of, illegalField};
+ghost use Rattle.base.specs.Sizes.{sized, field_of, illegal_field};
 ghost use Rattle.edges.specs.Same.{Tells};
 
 use crate::building::config;
@@ -44,7 +44,7 @@ pub(crate) fn constructions() {
 }
 
 fn refused_construction(depth: u8)
-    requires { illegalField (sized 2 2 depth 2 2 2 1) ≡ some 3 }
+    requires { illegal_field (sized 2 2 depth 2 2 2 1) ≡ some 3 }
 {
     let built = state::fresh(config(depth, 2));
     let judged = built.judged;

@@ -1,12 +1,12 @@
 // The block reader through its plain form: how long the part is that it shows, and where it goes on.
 ghost use Rattle.std.specs.Prelude.{◌≡◌, length};
-ghost use Rattle.trace.specs.Cycles.{slice_of, cyclePart};
-ghost use Rattle.reader.specs.Reader.{nextCycle};
+ghost use Rattle.trace.specs.Cycles.{slice_of, part_of_cycle};
+ghost use Rattle.reader.specs.Reader.{following_cycle};
 
 use check::expect;
 
 fn shows(block: &[u8], cycle: usize, bytes: usize, next: usize)
-    requires { (length (cyclePart (slice_of block) cycle).bytes ≡ bytes) × (nextCycle block.now cycle ≡ next) }
+    requires { (length (part_of_cycle (slice_of block) cycle).bytes ≡ bytes) × (following_cycle block.now cycle ≡ next) }
 {
     expect(reader::shown_at(block, cycle).len() == bytes);
     expect(reader::next_cycle(block, cycle) == next);

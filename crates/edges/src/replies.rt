@@ -1,9 +1,9 @@
 // Whether a reply reports nothing, and which refusal a verdict is.
 ghost use Rattle.std.specs.Prelude.{replicate};
-ghost use Rattle.base.specs.Reply.{emptyReply};
+ghost use Rattle.base.specs.Reply.{empty_reply};
 ghost use Rattle.rules.specs.declared.Verdict.TheVariants.{Accepted};
 ghost use Rattle.rules.specs.Numbers.{refusing};
-ghost use Rattle.edges.specs.Same.{Tells, unreached, nothingLeft};
+ghost use Rattle.edges.specs.Same.{Tells, unreached, nothing_left};
 
 use crate::same::both;
 use base::{Left, Output, Reached, Reply, Sender};
@@ -20,7 +20,7 @@ fn is_unreached(sender: Sender) -> bool
 }
 
 fn is_idle(output: Output) -> bool
-    ensures { Tells result output nothingLeft }
+    ensures { Tells result output nothing_left }
 {
     let left = output.left;
     let Left::Nothing = left else {
@@ -43,7 +43,7 @@ fn are_unreached(senders: [Sender; 8]) -> bool
 }
 
 fn are_idle(outputs: [Output; 8]) -> bool
-    ensures { Tells result outputs (replicate 8 nothingLeft) }
+    ensures { Tells result outputs (replicate 8 nothing_left) }
 {
     let mut same = true;
     let mut o: usize = 0;
@@ -56,7 +56,7 @@ fn are_idle(outputs: [Output; 8]) -> bool
 }
 
 pub(crate) fn is_empty(reply: Reply) -> bool
-    ensures { Tells result reply emptyReply }
+    ensures { Tells result reply empty_reply }
 {
     let senders = reply.senders;
     let outputs = reply.outputs;

@@ -1,15 +1,15 @@
 // The writer's ranges at both ends, and its room.
 ghost use Rattle.std.specs.Prelude.{◌≡◌, [], ◌∷◌, replicate};
-ghost use Rattle.listing.specs.Lines.{finish as Line·finish, refusal as Line·refusal, cycleLines};
+ghost use Rattle.listing.specs.Lines.{finish as line_finish, refusal as line_refusal, cycle_lines};
 ghost use Rattle.listing.specs.Writing.{written};
-ghost use Rattle.edges.specs.Answers.{Answers, oneCredit, fullReply};
+ghost use Rattle.edges.specs.Answers.{Answers, with_one_credit, full_reply};
 
 use crate::answers::{answered, bytes_of, number_of};
 use base::{Departure, Left, Output, Reached, Reply, Sender};
 use check::expect;
 
 fn end_line(cycles: u64, flits: u64, number: u8, line: &[u8])
-    requires { Answers (written (replicate 376 0) 0 (Line·finish cycles flits ∷ [])) number line.now }
+    requires { Answers (written (replicate 376 0) 0 (line_finish cycles flits ∷ [])) number line.now }
 {
     let mut buf = [0u8; 376];
     let written = listing::write_end(&mut buf, 0, cycles, flits);
@@ -30,7 +30,7 @@ pub(crate) fn ends() {
 }
 
 fn refusal_line(refused: u8, cycles: u64, place: u8, number: u8, line: &[u8])
-    requires { Answers (written (replicate 376 0) 0 (Line·refusal refused cycles place ∷ [])) number line.now }
+    requires { Answers (written (replicate 376 0) 0 (line_refusal refused cycles place ∷ [])) number line.now }
 {
     let mut buf = [0u8; 376];
     let written = listing::write_refusal(&mut buf, 0, refused, cycles, place);
@@ -50,7 +50,7 @@ pub(crate) fn refusals() {
 
 // A credit of this VC reached the sender of input 7.
 fn one_credit(vc: u8) -> Reply
-    ensures { result ≡ oneCredit vc }
+    ensures { result ≡ with_one_credit vc }
 {
     let mut reply = Reply::empty();
     reply.senders[7] = Sender {
@@ -60,7 +60,7 @@ fn one_credit(vc: u8) -> Reply
 }
 
 fn cycle_line(cycle: u64, vc: u8, number: u8, line: &[u8])
-    requires { Answers (written (replicate 376 0) 0 (cycleLines cycle (oneCredit vc))) number line.now }
+    requires { Answers (written (replicate 376 0) 0 (cycle_lines cycle (with_one_credit vc))) number line.now }
 {
     let mut buf = [0u8; 376];
     let written = listing::write_cycle(&mut buf, 0, cycle, one_credit(vc));
@@ -77,7 +77,7 @@ pub(crate) fn credits() {
 
 // A credit at each input, and at each output a flit with the longest words.
 fn full() -> Reply
-    ensures { result ≡ fullReply }
+    ensures { result ≡ full_reply }
 {
     Reply {
         senders: [Sender {
@@ -104,8 +104,8 @@ pub(crate) fn longest() {
 }
 
 fn room_at(at: usize, number: u8, bytes: usize)
-    requires { ((written (replicate 400 0) at (Line·refusal 1 0 0 ∷ [])).number ≡ number)
-        × ((written (replicate 400 0) at (Line·refusal 1 0 0 ∷ [])).bytes ≡ bytes) }
+    requires { ((written (replicate 400 0) at (line_refusal 1 0 0 ∷ [])).number ≡ number)
+        × ((written (replicate 400 0) at (line_refusal 1 0 0 ∷ [])).bytes ≡ bytes) }
 {
     let mut buf = [0u8; 400];
     let written = listing::write_refusal(&mut buf, at, 1, 0, 0);

@@ -15,8 +15,8 @@ same (x ∷ xs) [] = false
 same (x ∷ xs) (y ∷ ys) = eqb x y && same xs ys
 
 -- lists that pass the test are equal
-pub same-is : (xs ys : List ℕ) → same xs ys ≡ true → xs ≡ ys
-same-is [] [] e = refl
-same-is [] (y ∷ ys) e = absurd (false≢true e)
-same-is (x ∷ xs) [] e = absurd (false≢true e)
-same-is (x ∷ xs) (y ∷ ys) e = let p = both (eqb x y) (same xs ys) e in ap₂ ◌∷◌ (eqb-true x y p.0) (same-is xs ys p.1)
+pub same_is : (xs ys : List ℕ) → same xs ys ≡ true → xs ≡ ys
+same_is [] [] e = refl
+same_is [] (y ∷ ys) e = absurd (false≢true e)
+same_is (x ∷ xs) [] e = absurd (false≢true e)
+same_is (x ∷ xs) (y ∷ ys) e = let p = both (eqb x y) (same xs ys) e in ap₂ ◌∷◌ (eqb-true x y p.0) (same_is xs ys p.1)

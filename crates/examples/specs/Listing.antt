@@ -68,8 +68,8 @@ abbrev reached : ℕ → ℕ → List ℕ
 reached cycle input = 67 ∷ 32 ∷ cycle ∷ 32 ∷ input ∷ 32 ∷ 48 ∷ 10 ∷ []
 
 -- "Printed:" the bytes of the lines of the six cycles, ..
-abbrev pub cycleLines : List ℕ
-cycleLines =
+abbrev pub cycle_lines : List ℕ
+cycle_lines =
     -- F 1 1 0 0 0 S 00000011
     left 49 48 83 49 49 ++
     -- C 2 0 0
@@ -87,4 +87,4 @@ cycleLines =
 
 -- .. and E 6 4
 abbrev pub printed : List ℕ
-printed = cycleLines ++ (69 ∷ 32 ∷ 54 ∷ 32 ∷ 52 ∷ 10 ∷ [])
+printed = cycle_lines ++ (69 ∷ 32 ∷ 54 ∷ 32 ∷ 52 ∷ 10 ∷ [])

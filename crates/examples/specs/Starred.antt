@@ -6,27 +6,27 @@ use Rattle.base.specs.declared.config.Config.{Config}
 use Rattle.base.specs.Bits.{bit}
 use Rattle.base.specs.Flit.{single}
 use Rattle.base.specs.Sizes.{sized}
-use Rattle.arbiter.specs.Arbiter.{Arbiter, roundRobin, matrix, choice, after, fresh, arbiterOf}
-use Rattle.trace.specs.Check.{checkOf}
+use Rattle.arbiter.specs.Arbiter.{Arbiter, round_robin, matrix, choice, after, fresh, arbiter_of}
+use Rattle.trace.specs.Check.{check_value}
 use Rattle.state.specs.declared.Router.{Router}
-use Rattle.state.specs.Fresh.{freshRouter}
+use Rattle.state.specs.Fresh.{fresh_router}
 use Rattle.rules.specs.declared.Verdict.{Verdict}
 use Rattle.rules.specs.declared.Verdict.TheVariants.{Accepted}
 use Rattle.rules.specs.Numbers.{refusing}
 use Rattle.rules.specs.Step.{step_of}
 use Rattle.history.specs.Run.{run_of}
-use Rattle.history.specs.Demand3.{storedCredits, buffered, onWire, goingHome}
+use Rattle.history.specs.Demand3.{stored_credits, buffered, on_wire, going_home}
 use Rattle.runs.specs.Run.{started}
 use Rattle.night.specs.Calls.{Hands}
 use Rattle.night.specs.File.{list_of}
 use Rattle.examples.specs.Listing.{config, cycle0, cycle1, cycle2, cycle3, cycle4, cycle5, block0, block2, file, printed}
 
 -- of VC 0 of input 0 after these cycles: credit, wire, queue, home
-abbrev countsIn : Router → List ℕ
-countsIn s = storedCredits config s 0 0 ∷ length (onWire config s 0 0) ∷ buffered config s 0 0 ∷ goingHome config s 0 0 ∷ []
+abbrev counts_in : Router → List ℕ
+counts_in s = stored_credits config s 0 0 ∷ length (on_wire config s 0 0) ∷ buffered config s 0 0 ∷ going_home config s 0 0 ∷ []
 
-abbrev countsAfter : List (List ℕ) → List ℕ
-countsAfter parts = countsIn (run_of config parts).router
+abbrev counts_after : List (List ℕ) → List ℕ
+counts_after parts = counts_in (run_of config parts).router
 
 -- who wins a call, and the arbiter after its pick is kept; who asks is a word, bit i for requester i
 abbrev wins : ℕ → ℕ → ℕ → Arbiter → Option ℕ
@@ -37,7 +37,7 @@ next code n asking a = after 8 code n (wins code n asking a) a
 
 -- "Round robin, n=4, pointer 2", "Fresh matrix, n=3"
 abbrev turned : Arbiter
-turned = arbiterOf 2 (replicate 8 0)
+turned = arbiter_of 2 (replicate 8 0)
 
 abbrev ordered : Arbiter
 ordered = fresh 8 matrix 3
@@ -58,34 +58,34 @@ verdicts s [] = []
 verdicts s (part ∷ parts) = (step_of s part).verdict ∷ verdicts (step_of s part).router parts
 
 abbrev takes12 : ℕ → List Verdict
-takes12 arbiter = verdicts (freshRouter (link 6 arbiter)) (replicate 12 offer)
+takes12 arbiter = verdicts (fresh_router (link 6 arbiter)) (replicate 12 offer)
 
 abbrev refuses1 : ℕ → List Verdict
-refuses1 arbiter = verdicts (freshRouter (link 5 arbiter)) (replicate 6 offer ++ empty ∷ offer ∷ [])
+refuses1 arbiter = verdicts (fresh_router (link 5 arbiter)) (replicate 6 offer ++ empty ∷ offer ∷ [])
 
 pub record Starred : Type 0 where
   -- "Listing": the list of the file; and whatever calls of the run entry the file is handed over in, they write that, and some do
-  pub list-printed : list_of file ≡ printed
-  pub written-always : (out : List ℕ) → Hands started file out → out ≡ printed
-  pub written-by-some : Hands started file printed
+  pub list_printed : list_of file ≡ printed
+  pub written_always : (out : List ℕ) → Hands started file out → out ≡ printed
+  pub written_by_some : Hands started file printed
   -- "After cycle 3, input 0 has credit 0, wire 0, queue 2, home 0; after cycle 5, 1, 0, 0, 1."
-  pub after3 : countsAfter (cycle0 ∷ cycle1 ∷ cycle2 ∷ cycle3 ∷ []) ≡ 0 ∷ 0 ∷ 2 ∷ 0 ∷ []
-  pub after5 : countsAfter (cycle0 ∷ cycle1 ∷ cycle2 ∷ cycle3 ∷ cycle4 ∷ cycle5 ∷ []) ≡ 1 ∷ 0 ∷ 0 ∷ 1 ∷ []
+  pub after3 : counts_after (cycle0 ∷ cycle1 ∷ cycle2 ∷ cycle3 ∷ []) ≡ 0 ∷ 0 ∷ 2 ∷ 0 ∷ []
+  pub after5 : counts_after (cycle0 ∷ cycle1 ∷ cycle2 ∷ cycle3 ∷ cycle4 ∷ cycle5 ∷ []) ≡ 1 ∷ 0 ∷ 0 ∷ 1 ∷ []
   -- "That configuration block's check is 126; its end block's is 87; 510 bytes of 255 give 8,628."
-  pub configuration-check : checkOf block0 ≡ 126
-  pub end-check : checkOf block2 ≡ 87
-  pub all-255 : checkOf (replicate 510 255) ≡ 8628
+  pub configuration_check : check_value block0 ≡ 126
+  pub end_check : check_value block2 ≡ 87
+  pub all_255 : check_value (replicate 510 255) ≡ 8628
   -- "{0,1,3} gives 3, pointer 0; {0,1} gives 0, pointer 1."
-  pub winner-after-pointer : wins roundRobin 4 0b1011 turned ≡ some 3
-  pub pointer-wraps : (next roundRobin 4 0b1011 turned).pointer ≡ 0
-  pub winner-before-pointer : wins roundRobin 4 0b0011 turned ≡ some 0
-  pub pointer-moves : (next roundRobin 4 0b0011 turned).pointer ≡ 1
+  pub winner_after_pointer : wins round_robin 4 0b1011 turned ≡ some 3
+  pub pointer_wraps : (next round_robin 4 0b1011 turned).pointer ≡ 0
+  pub winner_before_pointer : wins round_robin 4 0b0011 turned ≡ some 0
+  pub pointer_moves : (next round_robin 4 0b0011 turned).pointer ≡ 1
   -- "{0,2} gives 0, {0,2} gives 2, {0,1,2} gives 1."
-  pub lowest-first : wins matrix 3 0b101 ordered ≡ some 0
-  pub winner-now-loses : wins matrix 3 0b101 (next matrix 3 0b101 ordered) ≡ some 2
-  pub both-now-lose : wins matrix 3 0b111 (next matrix 3 0b101 (next matrix 3 0b101 ordered)) ≡ some 1
+  pub lowest_first : wins matrix 3 0b101 ordered ≡ some 0
+  pub winner_now_loses : wins matrix 3 0b101 (next matrix 3 0b101 ordered) ≡ some 2
+  pub both_now_lose : wins matrix 3 0b111 (next matrix 3 0b101 (next matrix 3 0b101 ordered)) ≡ some 1
   -- "D=6 takes cycles 0..11"
-  pub six-take : (takes12 roundRobin ≡ replicate 12 Accepted) × (takes12 matrix ≡ replicate 12 Accepted)
+  pub six_take : (takes12 round_robin ≡ replicate 12 Accepted) × (takes12 matrix ≡ replicate 12 Accepted)
   -- "D=5 refuses cycle 5 with 5, and the next offer after one empty cycle is taken"
-  pub five-refuse : (refuses1 roundRobin ≡ replicate 5 Accepted ++ refusing 5 0 ∷ Accepted ∷ Accepted ∷ [])
+  pub five_refuse : (refuses1 round_robin ≡ replicate 5 Accepted ++ refusing 5 0 ∷ Accepted ∷ Accepted ∷ [])
       × (refuses1 matrix ≡ replicate 5 Accepted ++ refusing 5 0 ∷ Accepted ∷ Accepted ∷ [])

@@ -11,52 +11,52 @@ use lib.ListN.{length, take, drop, length-drop}
 use borrow.Author.Tests.{eqb-true, eqb-false, ne_eqb}
 use Rattle.router.specs.declared.entry.Ran.{Ran}
 use Rattle.router.specs.Running.{CallOutcome}
-use Rattle.night.proofs.Answers.{used-most}
+use Rattle.night.proofs.Answers.{used_most}
 use Rattle.floor.specs.declared.passing.Stop.{Stop}
 use Rattle.floor.specs.declared.passing.Stop.TheVariants.{Whole, Refused, NoRoom, NotWritten}
-use Rattle.floor.specs.Handing.{Handed, called, handedBy, stopOf, Passes, stops, fails, goes, HandsOver, Handing, beyond, hands}
+use Rattle.floor.specs.Handing.{Handed, called, handed_by, stop_of, Passes, stops, fails, goes, HandsOver, Handing, beyond, hands}
 
 module _ (part : List ℕ) (h : Handed) (o : CallOutcome) (is : o ≡ called part h) where
   -- of what the call answers
-  of-call : (P : CallOutcome → Type 0) → P (called part h) → P o
-  of-call P p = subst P (sym is) p
+  of_call : (P : CallOutcome → Type 0) → P (called part h) → P o
+  of_call P p = subst P (sym is) p
 
-  pub call-most : o.ran.used ≤ length part
-  call-most = of-call (λ (x : CallOutcome). x.ran.used ≤ length part) (used-most h.run part h.buffer 0)
+  pub call_most : o.ran.used ≤ length part
+  call_most = of_call (λ (x : CallOutcome). x.ran.used ≤ length part) (used_most h.run part h.buffer 0)
 
-  pub refused-passes : ¬ (o.ran.number ≡ 0) → Passes part h 1 (Refused o.ran.number) (handedBy o)
-  refused-passes =
-      of-call (λ (x : CallOutcome). ¬ (x.ran.number ≡ 0) → Passes part h 1 (Refused x.ran.number) (handedBy x))
+  pub refused_passes : ¬ (o.ran.number ≡ 0) → Passes part h 1 (Refused o.ran.number) (handed_by o)
+  refused_passes =
+      of_call (λ (x : CallOutcome). ¬ (x.ran.number ≡ 0) → Passes part h 1 (Refused x.ran.number) (handed_by x))
       (λ n. stops part h _ (rw (ne_eqb (called part h).ran.number 0 n)))
 
   module _ (fine : o.ran.number ≡ 0) where
-    pub unwritten-passes : ¬ (o.ran.written ≡ 0) → Passes part h 1 NotWritten (handedBy o)
+    pub unwritten-passes : ¬ (o.ran.written ≡ 0) → Passes part h 1 NotWritten (handed_by o)
     unwritten-passes =
-        of-call (λ (x : CallOutcome). x.ran.number ≡ 0 → ¬ (x.ran.written ≡ 0) → Passes part h 1 NotWritten (handedBy x))
+        of_call (λ (x : CallOutcome). x.ran.number ≡ 0 → ¬ (x.ran.written ≡ 0) → Passes part h 1 NotWritten (handed_by x))
         (λ e n. fails part h e (omega (arith, n))) fine
 
-    pub whole-passes : o.ran.asks ≡ 0 → Passes part h 1 Whole (handedBy o)
+    pub whole-passes : o.ran.asks ≡ 0 → Passes part h 1 Whole (handed_by o)
     whole-passes =
-        of-call (λ (x : CallOutcome). x.ran.number ≡ 0 → x.ran.asks ≡ 0 → Passes part h 1 Whole (handedBy x))
+        of_call (λ (x : CallOutcome). x.ran.number ≡ 0 → x.ran.asks ≡ 0 → Passes part h 1 Whole (handed_by x))
         (λ e a. stops part h _ (rw (e, a))) fine
 
     module _ (asks : ¬ (o.ran.asks ≡ 0)) where
-      pub full-passes : o.ran.used ≡ 0 → Passes part h 1 (NoRoom o.ran.asks) (handedBy o)
+      pub full-passes : o.ran.used ≡ 0 → Passes part h 1 (NoRoom o.ran.asks) (handed_by o)
       full-passes =
-          of-call (λ (x : CallOutcome). x.ran.number ≡ 0 → ¬ (x.ran.asks ≡ 0) → x.ran.used ≡ 0
-          → Passes part h 1 (NoRoom x.ran.asks) (handedBy x))
+          of_call (λ (x : CallOutcome). x.ran.number ≡ 0 → ¬ (x.ran.asks ≡ 0) → x.ran.used ≡ 0
+          → Passes part h 1 (NoRoom x.ran.asks) (handed_by x))
           (λ e a u. stops part h _ (rw (e, ne_eqb (called part h).ran.asks 0 a, u))) fine asks
 
-      pub more-passes : ¬ (o.ran.used ≡ 0) → (k : ℕ) (s : Stop) (g : Handed) → Passes (drop o.ran.used part) (handedBy o) k s g
+      pub more-passes : ¬ (o.ran.used ≡ 0) → (k : ℕ) (s : Stop) (g : Handed) → Passes (drop o.ran.used part) (handed_by o) k s g
           → Passes part h (suc k) s g
       more-passes =
-          of-call (λ (x : CallOutcome). x.ran.number ≡ 0 → ¬ (x.ran.asks ≡ 0) → ¬ (x.ran.used ≡ 0) → (k : ℕ) (s : Stop) (g : Handed)
-          → Passes (drop x.ran.used part) (handedBy x) k s g → Passes part h (suc k) s g)
+          of_call (λ (x : CallOutcome). x.ran.number ≡ 0 → ¬ (x.ran.asks ≡ 0) → ¬ (x.ran.used ≡ 0) → (k : ℕ) (s : Stop) (g : Handed)
+          → Passes (drop x.ran.used part) (handed_by x) k s g → Passes part h (suc k) s g)
           (λ e a u k s g p. goes part h k s g
           (rw (e, ne_eqb (called part h).ran.asks 0 a, ne_eqb (called part h).ran.used 0 u)) p) fine asks
 
 -- a call that leaves another to make used something, and was not refused
-pub none_told : (r : Ran) → stopOf r ≡ none → (r.number ≡ 0) × (¬ (r.asks ≡ 0)) × (¬ (r.used ≡ 0))
+pub none_told : (r : Ran) → stop_of r ≡ none → (r.number ≡ 0) × (¬ (r.asks ≡ 0)) × (¬ (r.used ≡ 0))
 none_told r e = go (eqb r.number 0) refl (eqb r.asks 0) refl (eqb r.used 0) refl e
   where
     go : (a : Bool) → eqb r.number 0 ≡ a → (b : Bool) → eqb r.asks 0 ≡ b → (d : Bool) → eqb r.used 0 ≡ d
@@ -68,17 +68,17 @@ none_told r e = go (eqb r.number 0) refl (eqb r.asks 0) refl (eqb r.used 0) refl
     go false a b x d c e = absurd (none-ne-some (Refused r.number) (sym e))
 
 -- so that there are no more calls than bytes, and one
-pub passes-few : (part : List ℕ) (h : Handed) (k : ℕ) (s : Stop) (g : Handed) → Passes part h k s g → k ≤ length part + 1
-passes-few part h _ s _ (stops _ _ _ _) = omega arith
-passes-few part h _ _ _ (fails _ _ _ _) = omega arith
-passes-few part h _ s g (goes _ _ k _ _ e more) =
+pub passes_few : (part : List ℕ) (h : Handed) (k : ℕ) (s : Stop) (g : Handed) → Passes part h k s g → k ≤ length part + 1
+passes_few part h _ s _ (stops _ _ _ _) = omega arith
+passes_few part h _ _ _ (fails _ _ _ _) = omega arith
+passes_few part h _ s g (goes _ _ k _ _ e more) =
     let u = (none_told (called part h).ran e).2 in
-    let m = used-most h.run part h.buffer 0 in
+    let m = used_most h.run part h.buffer 0 in
     let l = length-drop (called part h).ran.used part in
-    omega (arith, passes-few (drop (called part h).ran.used part) (handedBy (called part h)) k s g more, u, m, l)
+    omega (arith, passes_few (drop (called part h).ran.used part) (handed_by (called part h)) k s g more, u, m, l)
 
 -- bytes of a buffer that it has
-pub handing-piece : (buf : List ℕ) (bytes : ℕ) (h : Handed) (k : ℕ) (s : Stop) (g : Handed) → bytes ≤ length buf → Handing buf bytes h k s g
+pub handing_piece : (buf : List ℕ) (bytes : ℕ) (h : Handed) (k : ℕ) (s : Stop) (g : Handed) → bytes ≤ length buf → Handing buf bytes h k s g
     → HandsOver (length buf) (take bytes buf) h k s g
-handing-piece buf bytes h _ _ _ l (beyond f) = absurd (omega (arith, l, f))
-handing-piece buf bytes h k s g l (hands _ _ _ _ p) = p
+handing_piece buf bytes h _ _ _ l (beyond f) = absurd (omega (arith, l, f))
+handing_piece buf bytes h k s g l (hands _ _ _ _ p) = p

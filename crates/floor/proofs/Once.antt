@@ -8,15 +8,15 @@ use Prim.Native.Nat.{ℕ, suc, ◌+◌}
 use native.Mathlib.Omega.{arith}
 use Rattle.floor.specs.declared.passing.Stop.{Stop}
 use Rattle.floor.specs.declared.passing.Stop.TheVariants.{Whole, Beyond, Uneven, Refused, NoRoom, NotWritten}
-use Rattle.floor.specs.Handing.{Handed, called, handedBy, stopOf, Passes, stops, fails, goes, calls, isWhole, Finishes, stopped, over}
+use Rattle.floor.specs.Handing.{Handed, called, handed_by, stop_of, Passes, stops, fails, goes, calls, is_whole_list, Finishes, stopped, over}
 use Rattle.floor.specs.Handing.{ends, HandsOver, uneven, fills, last, Handing, beyond, hands}
 
 -- with the calls made, run and buffer are an equation, where lines were not written too
-pub passes-calls : {part : List ℕ} {h : Handed} {k : ℕ} {s : Stop} {g : Handed} → Passes part h k s g → g ≡ calls k part h
+pub passes_calls : {part : List ℕ} {h : Handed} {k : ℕ} {s : Stop} {g : Handed} → Passes part h k s g → g ≡ calls k part h
 unfolding calls
-passes-calls (stops part h s e) = refl
-passes-calls (fails part h e l) = refl
-passes-calls (goes part h k s g e more) = passes-calls more
+passes_calls (stops part h s e) = refl
+passes_calls (fails part h e l) = refl
+passes_calls (goes part h k s g e more) = passes_calls more
 
 -- whether the system took all lines
 abbrev pub is_written : Stop → Bool
@@ -33,69 +33,69 @@ pub record Same (k l : ℕ) (s t : Stop) (g e : Handed) : Type 0 where
   pub stop : s ≡ t
   pub after : g ≡ e
 
-pub passes-once : {part : List ℕ} {h : Handed} {k l : ℕ} {s t : Stop} {g e : Handed} → Passes part h k s g → Passes part h l t e
+pub passes_once : {part : List ℕ} {h : Handed} {k l : ℕ} {s t : Stop} {g e : Handed} → Passes part h k s g → Passes part h l t e
     → is_written s ≡ true → is_written t ≡ true → Same k l s t g e
-passes-once (stops part h s a) (stops _ _ t b) w x = record { calls = refl; stop = some-injective s t (sym a ∙ b); after = refl }
-passes-once (stops part h s a) (fails _ _ b l) w x = absurd (true≢false (sym x))
-passes-once (stops part h s a) (goes _ _ l t e b more) w x = absurd (none-ne-some s (sym b ∙ a))
-passes-once (fails part h a l) p w x = absurd (true≢false (sym w))
-passes-once (goes part h k s g a more) (stops _ _ t b) w x = absurd (none-ne-some t (sym a ∙ b))
-passes-once (goes part h k s g a more) (fails _ _ b l) w x = absurd (true≢false (sym x))
-passes-once (goes part h k s g a more) (goes _ _ l t e b rest) w x =
-    let same = passes-once more rest w x in
+passes_once (stops part h s a) (stops _ _ t b) w x = record { calls = refl; stop = some-injective s t (sym a ∙ b); after = refl }
+passes_once (stops part h s a) (fails _ _ b l) w x = absurd (true≢false (sym x))
+passes_once (stops part h s a) (goes _ _ l t e b more) w x = absurd (none-ne-some s (sym b ∙ a))
+passes_once (fails part h a l) p w x = absurd (true≢false (sym w))
+passes_once (goes part h k s g a more) (stops _ _ t b) w x = absurd (none-ne-some t (sym a ∙ b))
+passes_once (goes part h k s g a more) (fails _ _ b l) w x = absurd (true≢false (sym x))
+passes_once (goes part h k s g a more) (goes _ _ l t e b rest) w x =
+    let same = passes_once more rest w x in
     record { calls = ap suc same.calls; stop = same.stop; after = same.after }
 
 -- a part handed over whole was written
-whole-written : (s : Stop) → isWhole s ≡ true → is_written s ≡ true
-whole-written Whole e = refl
-whole-written Beyond e = refl
-whole-written Uneven e = refl
-whole-written (Refused n) e = refl
-whole-written (NoRoom n) e = refl
-whole-written NotWritten e = e
+whole_written : (s : Stop) → is_whole_list s ≡ true → is_written s ≡ true
+whole_written Whole e = refl
+whole_written Beyond e = refl
+whole_written Uneven e = refl
+whole_written (Refused n) e = refl
+whole_written (NoRoom n) e = refl
+whole_written NotWritten e = e
 
-finish-written : {g : Handed} {k : ℕ} {s : Stop} {l : ℕ} {t : Stop} {e : Handed} → Finishes g k s l t e → is_written t ≡ true
+finish_written : {g : Handed} {k : ℕ} {s : Stop} {l : ℕ} {t : Stop} {e : Handed} → Finishes g k s l t e → is_written t ≡ true
     → is_written s ≡ true
-finish-written (stopped w) x = x
-finish-written (over w o) x = x
-finish-written {s = s} (ends l t e w o p) x = whole-written s w
+finish_written (stopped w) x = x
+finish_written (over w o) x = x
+finish_written {s = s} (ends l t e w o p) x = whole_written s w
 
-finish-once : {g : Handed} {k : ℕ} {s : Stop} {l m : ℕ} {t u : Stop} {e f : Handed} → Finishes g k s l t e → Finishes g k s m u f
+finish_once : {g : Handed} {k : ℕ} {s : Stop} {l m : ℕ} {t u : Stop} {e f : Handed} → Finishes g k s l t e → Finishes g k s m u f
     → is_written t ≡ true → is_written u ≡ true → Same l m t u e f
-finish-once (stopped w) (stopped v) x y = record { calls = refl; stop = refl; after = refl }
-finish-once (stopped w) (over v o) x y = record { calls = refl; stop = refl; after = refl }
-finish-once (stopped w) (ends m u f v o p) x y = absurd (true≢false (sym v ∙ w))
-finish-once (over w o) (stopped v) x y = record { calls = refl; stop = refl; after = refl }
-finish-once (over w o) (over v q) x y = record { calls = refl; stop = refl; after = refl }
-finish-once (over w o) (ends m u f v q p) x y = absurd (true≢false (sym o ∙ q))
-finish-once (ends l t e w o p) (stopped v) x y = absurd (true≢false (sym w ∙ v))
-finish-once (ends l t e w o p) (over v q) x y = absurd (true≢false (sym q ∙ o))
-finish-once {k = k} (ends l t e w o p) (ends m u f v q r) x y =
-    let same = passes-once p r x y in
+finish_once (stopped w) (stopped v) x y = record { calls = refl; stop = refl; after = refl }
+finish_once (stopped w) (over v o) x y = record { calls = refl; stop = refl; after = refl }
+finish_once (stopped w) (ends m u f v o p) x y = absurd (true≢false (sym v ∙ w))
+finish_once (over w o) (stopped v) x y = record { calls = refl; stop = refl; after = refl }
+finish_once (over w o) (over v q) x y = record { calls = refl; stop = refl; after = refl }
+finish_once (over w o) (ends m u f v q p) x y = absurd (true≢false (sym o ∙ q))
+finish_once (ends l t e w o p) (stopped v) x y = absurd (true≢false (sym w ∙ v))
+finish_once (ends l t e w o p) (over v q) x y = absurd (true≢false (sym q ∙ o))
+finish_once {k = k} (ends l t e w o p) (ends m u f v q r) x y =
+    let same = passes_once p r x y in
     record { calls = ap (λ (n : ℕ). k + n) same.calls; stop = same.stop; after = same.after }
 
-finish-as : {g f : Handed} {k m : ℕ} {s u : Stop} {l : ℕ} {t : Stop} {e : Handed} → Same k m s u g f → Finishes f m u l t e
+finish_as : {g f : Handed} {k m : ℕ} {s u : Stop} {l : ℕ} {t : Stop} {e : Handed} → Same k m s u g f → Finishes f m u l t e
     → Finishes g k s l t e
-finish-as {g} {f} {k} {m} {s} {u} {l} {t} {e} same q =
+finish_as {g} {f} {k} {m} {s} {u} {l} {t} {e} same q =
     subst (λ (x : Handed). Finishes x k s l t e) (sym same.after)
     (subst (λ (x : ℕ). Finishes f x s l t e) (sym same.calls) (subst (λ (x : Stop). Finishes f m x l t e) (sym same.stop) q))
 
-piece-once : {full : ℕ} {piece : List ℕ} {h : Handed} {k l : ℕ} {s t : Stop} {g e : Handed} → HandsOver full piece h k s g
+piece_once : {full : ℕ} {piece : List ℕ} {h : Handed} {k l : ℕ} {s t : Stop} {g e : Handed} → HandsOver full piece h k s g
     → HandsOver full piece h l t e → is_written s ≡ true → is_written t ≡ true → Same k l s t g e
-piece-once (uneven f) (uneven v) x y = record { calls = refl; stop = refl; after = refl }
-piece-once (uneven f) (fills _ _ _ v _ _ _) x y = absurd (true≢false (sym v ∙ f))
-piece-once (uneven f) (last _ _ _ _ _ _ v _ _ _ _) x y = absurd (true≢false (sym v ∙ f))
-piece-once (fills _ _ _ f _ _ _) (uneven v) x y = absurd (true≢false (sym f ∙ v))
-piece-once (fills _ _ _ _ _ _ p) (fills _ _ _ _ _ _ q) x y = passes-once p q x y
-piece-once (fills _ _ _ _ _ a _) (last _ _ _ _ _ _ _ _ b _ _) x y = absurd (omega (arith, a, b))
-piece-once (last _ _ _ _ _ _ f _ _ _ _) (uneven v) x y = absurd (true≢false (sym f ∙ v))
-piece-once (last _ _ _ _ _ _ _ _ b _ _) (fills _ _ _ _ _ a _) x y = absurd (omega (arith, a, b))
-piece-once (last _ _ _ _ _ _ _ _ _ p q) (last _ _ _ _ _ _ _ _ _ r v) x y =
-    finish-once q (finish-as (passes-once p r (finish-written q x) (finish-written v y)) v) x y
+piece_once (uneven f) (uneven v) x y = record { calls = refl; stop = refl; after = refl }
+piece_once (uneven f) (fills _ _ _ v _ _ _) x y = absurd (true≢false (sym v ∙ f))
+piece_once (uneven f) (last _ _ _ _ _ _ v _ _ _ _) x y = absurd (true≢false (sym v ∙ f))
+piece_once (fills _ _ _ f _ _ _) (uneven v) x y = absurd (true≢false (sym f ∙ v))
+piece_once (fills _ _ _ _ _ _ p) (fills _ _ _ _ _ _ q) x y = passes_once p q x y
+piece_once (fills _ _ _ _ _ a _) (last _ _ _ _ _ _ _ _ b _ _) x y = absurd (omega (arith, a, b))
+piece_once (last _ _ _ _ _ _ f _ _ _ _) (uneven v) x y = absurd (true≢false (sym f ∙ v))
+piece_once (last _ _ _ _ _ _ _ _ b _ _) (fills _ _ _ _ _ a _) x y = absurd (omega (arith, a, b))
+piece_once (last _ _ _ _ _ _ _ _ _ p q) (last _ _ _ _ _ _ _ _ _ r v) x y =
+    finish_once q (finish_as (passes_once p r (finish_written q x) (finish_written v y)) v) x y
 
-pub handing-once : {buf : List ℕ} {bytes : ℕ} {h : Handed} {k l : ℕ} {s t : Stop} {g e : Handed} → Handing buf bytes h k s g
+pub handing_once : {buf : List ℕ} {bytes : ℕ} {h : Handed} {k l : ℕ} {s t : Stop} {g e : Handed} → Handing buf bytes h k s g
     → Handing buf bytes h l t e → is_written s ≡ true → is_written t ≡ true → Same k l s t g e
-handing-once (beyond a) (beyond b) x y = record { calls = refl; stop = refl; after = refl }
-handing-once (beyond a) (hands _ _ _ b q) x y = absurd (omega (arith, a, b))
-handing-once (hands _ _ _ a p) (beyond b) x y = absurd (omega (arith, a, b))
-handing-once (hands _ _ _ a p) (hands _ _ _ b q) x y = piece-once p q x y
+handing_once (beyond a) (beyond b) x y = record { calls = refl; stop = refl; after = refl }
+handing_once (beyond a) (hands _ _ _ b q) x y = absurd (omega (arith, a, b))
+handing_once (hands _ _ _ a p) (beyond b) x y = absurd (omega (arith, a, b))
+handing_once (hands _ _ _ a p) (hands _ _ _ b q) x y = piece_once p q x y

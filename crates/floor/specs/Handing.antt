@@ -4,12 +4,12 @@
 use Rattle.std.specs.Prelude.{◌≡◌, Bool, true, false, cond, ◌&&◌, List, [], ◌∷◌, ◌++◌, ℕ, zero, suc, ◌+◌, ◌%◌, ◌≤◌, ◌<◌, eqb, ltb, length, take, drop}
 use Rattle.std.proofs.Math.Option.{Option, some, none}
 use Rattle.base.specs.Numbers as numbers
-use Rattle.trace.specs.Blocks.{blockLength}
+use Rattle.trace.specs.Blocks.{block_length}
 use Rattle.trace.specs.Bytes.{AreBytes}
 use Rattle.runs.specs.declared.Run.{Run}
 use Rattle.router.specs.declared.entry.Ran.{Ran}
-use Rattle.router.specs.Running.{CallOutcome, ranOf}
-use Rattle.night.specs.Calls.{wroteIn}
+use Rattle.router.specs.Running.{CallOutcome, ran_of}
+use Rattle.night.specs.Calls.{wrote_in}
 use Rattle.floor.specs.declared.passing.Stop.{Stop}
 use Rattle.floor.specs.declared.passing.Stop.TheVariants.{Whole, Beyond, Uneven, Refused, NoRoom, NotWritten}
 use Rattle.floor.specs.declared.whole.Ended.{Ended}
@@ -27,57 +27,57 @@ pub record Handed : Type 0 where
 
 -- a call with a part, its lines from the buffer's start on
 abbrev pub called : List ℕ → Handed → CallOutcome
-called part h = ranOf h.run part h.buffer 0
+called part h = ran_of h.run part h.buffer 0
 
-abbrev pub handedBy : CallOutcome → Handed
-handedBy o = record { run = o.ran.run; buffer = o.buffer }
+abbrev pub handed_by : CallOutcome → Handed
+handed_by o = record { run = o.ran.run; buffer = o.buffer }
 
 -- why no call follows one that answered so, if none does: it was refused, all of the part is used or the run is over, or it used nothing
 -- for want of room
-abbrev pub stopOf : Ran → Option Stop
-stopOf r =
+abbrev pub stop_of : Ran → Option Stop
+stop_of r =
     cond (eqb r.number numbers.done)
     (cond (eqb r.asks 0) (some Whole) (cond (eqb r.used 0) (some (NoRoom r.asks)) none))
     (some (Refused r.number))
 
 -- A part handed over in so many calls, each with what those before it did not use: why there was no other, and what came of them.
 pub data Passes : List ℕ → Handed → ℕ → Stop → Handed → Type 0 where
-  stops : (part : List ℕ) (h : Handed) (s : Stop) → stopOf (called part h).ran ≡ some s → Passes part h 1 s (handedBy (called part h))
+  stops : (part : List ℕ) (h : Handed) (s : Stop) → stop_of (called part h).ran ≡ some s → Passes part h 1 s (handed_by (called part h))
   fails : (part : List ℕ) (h : Handed) → (called part h).ran.number ≡ numbers.done → 0 < (called part h).ran.written
-      → Passes part h 1 NotWritten (handedBy (called part h))
-  goes : (part : List ℕ) (h : Handed) (k : ℕ) (s : Stop) (g : Handed) → stopOf (called part h).ran ≡ none
-      → Passes (drop (called part h).ran.used part) (handedBy (called part h)) k s g → Passes part h (suc k) s g
+      → Passes part h 1 NotWritten (handed_by (called part h))
+  goes : (part : List ℕ) (h : Handed) (k : ℕ) (s : Stop) (g : Handed) → stop_of (called part h).ran ≡ none
+      → Passes (drop (called part h).ran.used part) (handed_by (called part h)) k s g → Passes part h (suc k) s g
 
 -- the run and the buffer after so many calls
 unfoldable pub calls : ℕ → List ℕ → Handed → Handed
 calls zero part h = h
-calls (suc k) part h = calls k (drop (called part h).ran.used part) (handedBy (called part h))
+calls (suc k) part h = calls k (drop (called part h).ran.used part) (handed_by (called part h))
 
 -- whether a buffer of so many bytes holds some whole blocks, and nothing else
-abbrev pub holdsBlocks : ℕ → Bool
-holdsBlocks bytes = ltb 0 bytes && eqb (bytes % blockLength) 0
+abbrev pub is_whole_blocks : ℕ → Bool
+is_whole_blocks bytes = ltb 0 bytes && eqb (bytes % block_length) 0
 
 -- all was handed over
-abbrev pub isWhole : Stop → Bool
-isWhole Whole = true
-isWhole Beyond = false
-isWhole Uneven = false
-isWhole (Refused n) = false
-isWhole (NoRoom n) = false
-isWhole NotWritten = false
+abbrev pub is_whole_list : Stop → Bool
+is_whole_list Whole = true
+is_whole_list Beyond = false
+is_whole_list Uneven = false
+is_whole_list (Refused n) = false
+is_whole_list (NoRoom n) = false
+is_whole_list NotWritten = false
 
 -- The end of the input: an empty part, where all before it was handed over and the run is not over.
 pub data Finishes (g : Handed) (k : ℕ) (s : Stop) : ℕ → Stop → Handed → Type 0 where
-  stopped : isWhole s ≡ false → Finishes g k s k s g
-  over : isWhole s ≡ true → g.run.over ≡ true → Finishes g k s k s g
-  ends : (l : ℕ) (t : Stop) (e : Handed) → isWhole s ≡ true → g.run.over ≡ false → Passes [] g l t e → Finishes g k s (k + l) t e
+  stopped : is_whole_list s ≡ false → Finishes g k s k s g
+  over : is_whole_list s ≡ true → g.run.over ≡ true → Finishes g k s k s g
+  ends : (l : ℕ) (t : Stop) (e : Handed) → is_whole_list s ≡ true → g.run.over ≡ false → Passes [] g l t e → Finishes g k s (k + l) t e
 
 -- A piece that was read into a buffer of so many bytes, handed over: where it does not fill the buffer the input has ended.
 pub data HandsOver (full : ℕ) (piece : List ℕ) (h : Handed) : ℕ → Stop → Handed → Type 0 where
-  uneven : holdsBlocks full ≡ false → HandsOver full piece h 0 Uneven h
-  fills : (k : ℕ) (s : Stop) (g : Handed) → holdsBlocks full ≡ true → AreBytes piece → length piece ≡ full → Passes piece h k s g
+  uneven : is_whole_blocks full ≡ false → HandsOver full piece h 0 Uneven h
+  fills : (k : ℕ) (s : Stop) (g : Handed) → is_whole_blocks full ≡ true → AreBytes piece → length piece ≡ full → Passes piece h k s g
       → HandsOver full piece h k s g
-  last : (k : ℕ) (s : Stop) (g : Handed) (l : ℕ) (t : Stop) (e : Handed) → holdsBlocks full ≡ true → AreBytes piece → length piece < full
+  last : (k : ℕ) (s : Stop) (g : Handed) (l : ℕ) (t : Stop) (e : Handed) → is_whole_blocks full ≡ true → AreBytes piece → length piece < full
       → Passes piece h k s g → Finishes g k s l t e → HandsOver full piece h l t e
 
 -- the first bytes of a buffer
@@ -88,36 +88,36 @@ pub data Handing (buf : List ℕ) (bytes : ℕ) (h : Handed) : ℕ → Stop → 
 -- A night: pieces of the input, read into a buffer of so many bytes and handed over one after another, until the run is over.
 pub data Lists (full : ℕ) : Handed → List (List ℕ) → Ended → Handed → Type 0 where
   unread : (h : Handed) → Lists full h [] Unread h
-  stopped : (h : Handed) (piece : List ℕ) (k : ℕ) (s : Stop) (g : Handed) → isWhole s ≡ false → HandsOver full piece h k s g
+  stopped : (h : Handed) (piece : List ℕ) (k : ℕ) (s : Stop) (g : Handed) → is_whole_list s ≡ false → HandsOver full piece h k s g
       → Lists full h (piece ∷ []) (Stopped s) g
-  over : (h : Handed) (piece : List ℕ) (k : ℕ) (s : Stop) (g : Handed) → isWhole s ≡ true → g.run.over ≡ true
+  over : (h : Handed) (piece : List ℕ) (k : ℕ) (s : Stop) (g : Handed) → is_whole_list s ≡ true → g.run.over ≡ true
       → HandsOver full piece h k s g → Lists full h (piece ∷ []) Over g
   goes : (h : Handed) (piece : List ℕ) (k : ℕ) (s : Stop) (g : Handed) (pieces : List (List ℕ)) (r : Ended) (e : Handed)
-      → isWhole s ≡ true → g.run.over ≡ false → HandsOver full piece h k s g → Lists full g pieces r e
+      → is_whole_list s ≡ true → g.run.over ≡ false → HandsOver full piece h k s g → Lists full g pieces r e
       → Lists full h (piece ∷ pieces) r e
 
 -- ---- the lines of the calls, one call's after another's
 
 unfoldable pub lines_of : {part : List ℕ} {h : Handed} {k : ℕ} {s : Stop} {g : Handed} → Passes part h k s g → List ℕ
-lines_of (stops part h s e) = wroteIn 0 (called part h)
-lines_of (fails part h e l) = wroteIn 0 (called part h)
-lines_of (goes part h k s g e more) = wroteIn 0 (called part h) ++ lines_of more
+lines_of (stops part h s e) = wrote_in 0 (called part h)
+lines_of (fails part h e l) = wrote_in 0 (called part h)
+lines_of (goes part h k s g e more) = wrote_in 0 (called part h) ++ lines_of more
 
-unfoldable pub lastLines : {g : Handed} {k : ℕ} {s : Stop} {l : ℕ} {t : Stop} {e : Handed} → Finishes g k s l t e → List ℕ
-lastLines (stopped w) = []
-lastLines (over w o) = []
-lastLines (ends l t e w o p) = lines_of p
+unfoldable pub last_lines : {g : Handed} {k : ℕ} {s : Stop} {l : ℕ} {t : Stop} {e : Handed} → Finishes g k s l t e → List ℕ
+last_lines (stopped w) = []
+last_lines (over w o) = []
+last_lines (ends l t e w o p) = lines_of p
 
-unfoldable pub pieceLines : {full : ℕ} {piece : List ℕ} {h : Handed} {k : ℕ} {s : Stop} {g : Handed} → HandsOver full piece h k s g → List ℕ
-pieceLines (uneven f) = []
-pieceLines (fills k s g f b e p) = lines_of p
-pieceLines (last k s g l t e v b f p q) = lines_of p ++ lastLines q
+unfoldable pub piece_lines : {full : ℕ} {piece : List ℕ} {h : Handed} {k : ℕ} {s : Stop} {g : Handed} → HandsOver full piece h k s g → List ℕ
+piece_lines (uneven f) = []
+piece_lines (fills k s g f b e p) = lines_of p
+piece_lines (last k s g l t e v b f p q) = lines_of p ++ last_lines q
 
-unfoldable pub nightLines : {full : ℕ} {h : Handed} {pieces : List (List ℕ)} {r : Ended} {g : Handed} → Lists full h pieces r g → List ℕ
-nightLines (unread h) = []
-nightLines (stopped h piece k s g w p) = pieceLines p
-nightLines (over h piece k s g w o p) = pieceLines p
-nightLines (goes h piece k s g pieces r e w o p more) = pieceLines p ++ nightLines more
+unfoldable pub night_lines : {full : ℕ} {h : Handed} {pieces : List (List ℕ)} {r : Ended} {g : Handed} → Lists full h pieces r g → List ℕ
+night_lines (unread h) = []
+night_lines (stopped h piece k s g w p) = piece_lines p
+night_lines (over h piece k s g w o p) = piece_lines p
+night_lines (goes h piece k s g pieces r e w o p more) = piece_lines p ++ night_lines more
 
 -- the pieces, joined
 unfoldable pub joined : List (List ℕ) → List ℕ

@@ -1,6 +1,6 @@
 // Handing a part over to the run entry and writing its lines.
 ghost use Rattle.std.specs.Prelude.{◌≡◌, ◌+◌, ◌≤◌, length};
-ghost use Rattle.floor.specs.Handing.{Passes, isWhole, holdsBlocks, Finishes, Handing};
+ghost use Rattle.floor.specs.Handing.{Passes, is_whole_list, is_whole_blocks, Finishes, Handing};
 
 use crate::output;
 use base::DONE;
@@ -82,7 +82,7 @@ pub fn pass(before: Run, part: &[u8], out: &mut [u8], to: i32) -> Passed
 }
 
 pub(crate) fn is_whole(stop: Stop) -> bool
-    ensures { result ≡ isWhole stop }
+    ensures { result ≡ is_whole_list stop }
 {
     match stop {
         Stop::Whole => true,
@@ -95,7 +95,7 @@ pub(crate) fn is_whole(stop: Stop) -> bool
 }
 
 fn holds_blocks(bytes: usize) -> bool
-    ensures { result ≡ holdsBlocks bytes }
+    ensures { result ≡ is_whole_blocks bytes }
 {
     if bytes == 0 {
         return false;

@@ -13,36 +13,36 @@ use Rattle.base.proofs.Search.{both}
 use Rattle.model.specs.Router.{OutVc}
 use Rattle.model.specs.Cycle.{Choice}
 use Rattle.state.specs.declared.Router.{Router}
-use Rattle.state.specs.Channels.{isThere}
-use Rattle.state.specs.Views.{channelNumber}
+use Rattle.state.specs.Channels.{is_there}
+use Rattle.state.specs.Views.{channel_number}
 use Rattle.trace.specs.Bytes.{AreBytes}
 use Rattle.rules.specs.declared.Verdict.TheVariants.{Accepted}
 use Rattle.rules.specs.Chosen.{chosen}
-use Rattle.rules.specs.Free.{name_of, freeOf, eventOf}
-use Rattle.rules.specs.Step.{takenIn, step_of}
-use Rattle.rules.proofs.Choices.{grantTo}
-use Rattle.rules.proofs.ChosenGrants.{grant-alike, grant-beyond}
+use Rattle.rules.specs.Free.{name_of, free_of, event_of}
+use Rattle.rules.specs.Step.{taken_in, step_of}
+use Rattle.rules.proofs.Choices.{grant_to}
+use Rattle.rules.proofs.ChosenGrants.{grant-alike, grant_beyond}
 
 abbrev pub choice_of : Router → List ℕ → Choice
-choice_of s part = chosen s.config s.arbiters (freeOf s) (eventOf s.config part)
+choice_of s part = chosen s.config s.arbiters (free_of s) (event_of s.config part)
 
 -- a channel that there is
-pub there-is : (c : Config) (i v : ℕ) → isThere c i v ≡ true → (i < c.ports) × (v < c.vcs)
-there-is c i v e = let p = both (ltb i c.ports) (ltb v c.vcs) e in (ltb-true i c.ports p.0, ltb-true v c.vcs p.1)
+pub there_is : (c : Config) (i v : ℕ) → is_there c i v ≡ true → (i < c.ports) × (v < c.vcs)
+there_is c i v e = let p = both (ltb i c.ports) (ltb v c.vcs) e in (ltb-true i c.ports p.0, ltb-true v c.vcs p.1)
 
 -- what is granted is granted to a channel that there is, by the rules
 pub record GrantedTo (s : Router) (part : List ℕ) (i v : ℕ) (b : OutVc) : Type 0 where
   pub port : i < s.config.ports
   pub vc : v < s.config.vcs
-  pub is : name_of (grantTo (takenIn part s) (channelNumber s.config i v)) ≡ some b
+  pub is : name_of (grant_to (taken_in part s) (channel_number s.config i v)) ≡ some b
 
-pub grant-there : (s : Router) (part : List ℕ) → AreBytes part → (step_of s part).verdict ≡ Accepted
+pub grant_there : (s : Router) (part : List ℕ) → AreBytes part → (step_of s part).verdict ≡ Accepted
     → (i v : ℕ) (b : OutVc) → (choice_of s part).grant i v ≡ some b → GrantedTo s part i v b
 unfolding chosen
-grant-there s part bytes accepted i v b q = go (isThere s.config i v) refl
+grant_there s part bytes accepted i v b q = go (is_there s.config i v) refl
   where
-    go : (t : Bool) → isThere s.config i v ≡ t → GrantedTo s part i v b
+    go : (t : Bool) → is_there s.config i v ≡ t → GrantedTo s part i v b
     go true e =
-        let l = there-is s.config i v e in
+        let l = there_is s.config i v e in
         record { port = l.0; vc = l.1; is = sym (grant-alike s part bytes accepted i v l.0 l.1) ∙ q }
-    go false e = absurd (none-ne-some b (sym (grant-beyond s part bytes accepted i v e) ∙ q))
+    go false e = absurd (none-ne-some b (sym (grant_beyond s part bytes accepted i v e) ∙ q))

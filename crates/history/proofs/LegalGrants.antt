@@ -12,48 +12,48 @@ use lib.ListN.{get_or}
 use borrow.Author.Tests.{eqb-true}
 use Rattle.base.specs.declared.config.Config.{Config}
 use Rattle.base.specs.declared.flit.Flit.{Flit}
-use Rattle.base.specs.Flit.{kind_of, destinationOf, startsKind}
+use Rattle.base.specs.Flit.{kind_of, destination_of, starts_kind}
 use Rattle.base.proofs.Search.{both}
-use Rattle.model.specs.Channel.{queueNow}
+use Rattle.model.specs.Channel.{queue_now}
 use Rattle.model.specs.Router as free
 use Rattle.model.specs.Legal.{Asks, Free}
 use Rattle.state.specs.declared.OutVc.{OutVc}
 use Rattle.state.specs.declared.Binding.{Binding}
 use Rattle.state.specs.declared.Binding.TheVariants.{Unbound, Bound}
 use Rattle.state.specs.declared.Router.{Router}
-use Rattle.state.specs.Channels.{ChannelView, boundTo, isThere}
-use Rattle.state.specs.Fresh.{freshInput}
-use Rattle.state.specs.Sound.{Sound, frontIsFor}
+use Rattle.state.specs.Channels.{ChannelView, bound_to, is_there}
+use Rattle.state.specs.Fresh.{fresh_input}
+use Rattle.state.specs.Sound.{Sound, front_is_for}
 use Rattle.store.specs.Store.{first_slot}
-use Rattle.state.specs.Views.{channelNumber, input_at, outputAt, queueAt}
+use Rattle.state.specs.Views.{channel_number, input_at, output_at, queue_at}
 use Rattle.trace.specs.Bytes.{AreBytes}
 use Rattle.rules.specs.declared.Verdict.TheVariants.{Accepted}
-use Rattle.rules.specs.Allocation.{Grant, grantOf}
-use Rattle.rules.specs.Free.{look, name_of, freeOf}
-use Rattle.rules.specs.Intake.{creditsReached, creditsReturned, landed, offersTaken}
-use Rattle.rules.specs.Step.{takenIn, step_of}
-use Rattle.rules.proofs.Accepted.{accepted-before}
+use Rattle.rules.specs.Allocation.{Grant, grant_of}
+use Rattle.rules.specs.Free.{look, name_of, free_of}
+use Rattle.rules.specs.Intake.{credits_reached, credits_returned, landed, offers_taken}
+use Rattle.rules.specs.Step.{taken_in, step_of}
+use Rattle.rules.proofs.Accepted.{accepted_before}
 use Rattle.rules.proofs.Acts.{Actor, Untouched}
-use Rattle.rules.proofs.Bound.{asking, granted-or-not}
-use Rattle.rules.proofs.Channels.{channel-apart}
-use Rattle.rules.proofs.Choices.{grantTo, grant-to, no-grant-to}
-use Rattle.rules.proofs.ChosenViews.{view-there, view-beyond, bound-came, queue-came}
-use Rattle.rules.proofs.Grants.{Granted, grant-is}
-use Rattle.rules.proofs.Naming.{nobody-not, names-agree}
-use Rattle.rules.proofs.Slips.{granted-was-free}
-use Rattle.history.proofs.Choice.{choice_of, there-is, grant-there}
+use Rattle.rules.proofs.Bound.{asking, granted_or_not}
+use Rattle.rules.proofs.Channels.{channel_apart}
+use Rattle.rules.proofs.Choices.{grant_to, grant_to-law, no_grant_to}
+use Rattle.rules.proofs.ChosenViews.{view_there, view_beyond, bound_came, queue_came}
+use Rattle.rules.proofs.Grants.{Granted, grant_is}
+use Rattle.rules.proofs.Naming.{nobody_not, names_agree-law}
+use Rattle.rules.proofs.Slips.{granted_was_free}
+use Rattle.history.proofs.Choice.{choice_of, there_is, grant_there}
 
 -- a front for output o asks there
-front-asks : (o : ℕ) (q : List Flit) → frontIsFor o q ≡ true → Asks look q o
-front-asks o [] e = absurd (false≢true e)
-front-asks o (f ∷ q) e =
-    let p = both (startsKind (kind_of f)) (eqb (destinationOf f) o) e in
-    (p.0, eqb-true (destinationOf f) o p.1)
+front_asks : (o : ℕ) (q : List Flit) → front_is_for o q ≡ true → Asks look q o
+front_asks o [] e = absurd (false≢true e)
+front_asks o (f ∷ q) e =
+    let p = both (starts_kind (kind_of f)) (eqb (destination_of f) o) e in
+    (p.0, eqb-true (destination_of f) o p.1)
 
 -- a binding that has the free router's name b
-bound-named : (x : Binding) (b : free.OutVc) → name_of (boundTo x) ≡ some b → x ≡ Bound (record { output = b.output; vc = b.vc })
-bound-named Unbound b q = absurd (none-ne-some b q)
-bound-named (Bound a) b q =
+bound_named : (x : Binding) (b : free.OutVc) → name_of (bound_to x) ≡ some b → x ≡ Bound (record { output = b.output; vc = b.vc })
+bound_named Unbound b q = absurd (none-ne-some b q)
+bound_named (Bound a) b q =
     ap (λ (n : free.OutVc). Bound (record { output = n.output; vc = n.vc }))
     (some-injective (record { output = a.output; vc = a.vc }) b q)
 
@@ -63,93 +63,93 @@ module _ (s : Router) (part : List ℕ) (bytes : AreBytes part) (accepted : (ste
 
   -- the router after phase 4
   abbrev came : Router
-  came = takenIn part s
+  came = taken_in part s
 
   sound : Sound s
-  sound = accepted-before s part bytes accepted
+  sound = accepted_before s part bytes accepted
 
   -- a grant of the choice: the output that gives it, and what it gives
   pub record Gives (i v : ℕ) (b : free.OutVc) : Type 0 where
     pub port : i < c.ports
     pub below : v < c.vcs
     pub deed : Grant
-    pub acts : grantOf came b.output ≡ some deed
-    pub there : deed.requester ≡ channelNumber c i v
+    pub acts : grant_of came b.output ≡ some deed
+    pub there : deed.requester ≡ channel_number c i v
     pub vc : deed.vc ≡ b.vc
 
-  pub grant-gives : (i v : ℕ) (b : free.OutVc) → (choice_of s part).grant i v ≡ some b → Gives i v b
-  unfolding takenIn offersTaken landed creditsReturned creditsReached
-  grant-gives i v b q = let r = grant-there s part bytes accepted i v b q in
-      go r.port r.vc r.is (granted-or-not came (channelNumber c i v))
+  pub grant_gives : (i v : ℕ) (b : free.OutVc) → (choice_of s part).grant i v ≡ some b → Gives i v b
+  unfolding taken_in offers_taken landed credits_returned credits_reached
+  grant_gives i v b q = let r = grant_there s part bytes accepted i v b q in
+      go r.port r.vc r.is (granted_or_not came (channel_number c i v))
     where
-      go : i < c.ports → v < c.vcs → name_of (grantTo came (channelNumber c i v)) ≡ some b
-          → Actor (grantOf came) (asking came) c.ports (channelNumber c i v) ⊎ Untouched (grantOf came) (asking came) c.ports
-          (channelNumber c i v)
+      go : i < c.ports → v < c.vcs → name_of (grant_to came (channel_number c i v)) ≡ some b
+          → Actor (grant_of came) (asking came) c.ports (channel_number c i v) ⊎ Untouched (grant_of came) (asking came) c.ports
+          (channel_number c i v)
           → Gives i v b
       go h g e (inl a) =
           let same : record { output = a.port; vc = a.deed.vc } ≡ b =
           some-injective (record { output = a.port; vc = a.deed.vc }) b
-          (ap name_of (sym (grant-to came (channelNumber c i v) a)) ∙ e) in
+          (ap name_of (sym (grant_to-law came (channel_number c i v) a)) ∙ e) in
           record {
             port = h;
             below = g;
             deed = a.deed;
-            acts = ap (λ (x : free.OutVc). grantOf came x.output) (sym same) ∙ a.acts;
+            acts = ap (λ (x : free.OutVc). grant_of came x.output) (sym same) ∙ a.acts;
             there = a.there;
             vc = ap (λ (x : free.OutVc). x.vc) same;
           }
-      go h g e (inr off) = absurd (none-ne-some b (ap name_of (sym (no-grant-to came (channelNumber c i v) off)) ∙ e))
+      go h g e (inr off) = absurd (none-ne-some b (ap name_of (sym (no_grant_to came (channel_number c i v) off)) ∙ e))
 
   module _ (i v : ℕ) (b : free.OutVc) (q : (choice_of s part).grant i v ≡ some b) where
     it : Gives i v b
-    it = grant-gives i v b q
+    it = grant_gives i v b q
 
     granted : Granted came b.output it.deed
-    granted = grant-is came b.output it.deed it.acts
+    granted = grant_is came b.output it.deed it.acts
 
     -- it was unbound
-    pub binds-unbound : (freeOf s).bound i v ≡ none
-    unfolding takenIn offersTaken landed creditsReturned creditsReached
+    pub binds-unbound : (free_of s).bound i v ≡ none
+    unfolding taken_in offers_taken landed credits_returned credits_reached
     binds-unbound =
-        bound-came s part bytes accepted i v it.port it.below
-        ∙ ap (λ (x : Binding). name_of (boundTo x))
-        (ap (λ (x : ℕ). (get_or came.inputs x (freshInput 0)).binding) (sym it.there) ∙ granted.unbound)
+        bound_came s part bytes accepted i v it.port it.below
+        ∙ ap (λ (x : Binding). name_of (bound_to x))
+        (ap (λ (x : ℕ). (get_or came.inputs x (fresh_input 0)).binding) (sym it.there) ∙ granted.unbound)
 
     -- its front asks at that output
-    pub binds-front : Asks look (queueNow ((freeOf s).channel i v)) b.output
+    pub binds-front : Asks look (queue_now ((free_of s).channel i v)) b.output
     binds-front =
-        front-asks b.output (queueNow ((freeOf s).channel i v))
-        (ap (frontIsFor b.output) (queue-came s part bytes accepted i v it.port it.below)
-        ∙ ap (λ (x : ℕ). frontIsFor b.output (queueAt came.store (first_slot x) (get_or came.inputs x (freshInput 0)).queued))
+        front_asks b.output (queue_now ((free_of s).channel i v))
+        (ap (front_is_for b.output) (queue_came s part bytes accepted i v it.port it.below)
+        ∙ ap (λ (x : ℕ). front_is_for b.output (queue_at came.store (first_slot x) (get_or came.inputs x (fresh_input 0)).queued))
         (sym it.there)
         ∙ granted.front)
 
     pub binds-vc : b.vc < c.vcs
-    unfolding takenIn offersTaken landed creditsReturned creditsReached
-    binds-vc = subst (λ (w : ℕ). w < c.vcs) it.vc granted.vc-below
+    unfolding taken_in offers_taken landed credits_returned credits_reached
+    binds-vc = subst (λ (w : ℕ). w < c.vcs) it.vc granted.vc_below
 
     -- nobody was bound to it
-    pub binds-free : Free (freeOf s) b
-    unfolding freeOf
-    binds-free j u p = go (isThere c j u) refl
+    pub binds-free : Free (free_of s) b
+    unfolding free_of
+    binds-free j u p = go (is_there c j u) refl
       where
-        go : (t : Bool) → isThere c j u ≡ t → ⊥
+        go : (t : Bool) → is_there c j u ≡ t → ⊥
         go true e =
-            let l = there-is c j u e in
-            let to = bound-named (input_at c s.inputs j u).binding b
-            (ap (λ (ch : ChannelView). name_of ch.bound) (sym (view-there s j u l.0 l.1)) ∙ p) in
-            let held = (names-agree c s.inputs s.outputs sound.naming.names).bound j u l.0 l.1 _ to in
-            nobody-not (outputAt c s.outputs b.output b.vc).holder (record { input = j; vc = u })
-            (ap (λ (w : ℕ). (outputAt c s.outputs b.output w).holder) (sym it.vc)
-            ∙ granted-was-free s part bytes accepted b.output it.deed it.acts) held.2
-        go false e = none-ne-some b (ap (λ (ch : ChannelView). name_of ch.bound) (sym (view-beyond s j u e)) ∙ p)
+            let l = there_is c j u e in
+            let to = bound_named (input_at c s.inputs j u).binding b
+            (ap (λ (ch : ChannelView). name_of ch.bound) (sym (view_there s j u l.0 l.1)) ∙ p) in
+            let held = (names_agree-law c s.inputs s.outputs sound.naming.names).bound j u l.0 l.1 _ to in
+            nobody_not (output_at c s.outputs b.output b.vc).holder (record { input = j; vc = u })
+            (ap (λ (w : ℕ). (output_at c s.outputs b.output w).holder) (sym it.vc)
+            ∙ granted_was_free s part bytes accepted b.output it.deed it.acts) held.2
+        go false e = none-ne-some b (ap (λ (ch : ChannelView). name_of ch.bound) (sym (view_beyond s j u e)) ∙ p)
 
   -- two grants of one output are one
-  pub binds-once : (i v j u : ℕ) (a b : free.OutVc) → (choice_of s part).grant i v ≡ some a → (choice_of s part).grant j u ≡ some b
+  pub binds_once-law : (i v j u : ℕ) (a b : free.OutVc) → (choice_of s part).grant i v ≡ some a → (choice_of s part).grant j u ≡ some b
       → a.output ≡ b.output → (i ≡ j) × (v ≡ u)
-  binds-once i v j u a b p q same =
-      let x = grant-gives i v a p in
-      let y = grant-gives j u b q in
-      let deed : x.deed ≡ y.deed = some-injective x.deed y.deed (sym x.acts ∙ ap (grantOf came) same ∙ y.acts) in
-      channel-apart c i v j u x.below y.below
+  binds_once-law i v j u a b p q same =
+      let x = grant_gives i v a p in
+      let y = grant_gives j u b q in
+      let deed : x.deed ≡ y.deed = some-injective x.deed y.deed (sym x.acts ∙ ap (grant_of came) same ∙ y.acts) in
+      channel_apart c i v j u x.below y.below
       (sym x.there ∙ ap (λ (g : Grant). g.requester) deed ∙ y.there)

@@ -11,52 +11,52 @@ use lib.Dec.{eqb, leb, ltb}
 use borrow.Author.Tests.{ltb-true, leb-true}
 use Rattle.base.specs.declared.config.Config.{Config}
 use Rattle.base.specs.declared.flit.Flit.{Flit}
-use Rattle.base.specs.Flit.{kind_of, destinationOf, startsKind}
-use Rattle.model.specs.Channel.{takenNow}
+use Rattle.base.specs.Flit.{kind_of, destination_of, starts_kind}
+use Rattle.model.specs.Channel.{taken_now}
 use Rattle.model.specs.Cycle.{Brought}
 use Rattle.model.specs.Line.{out}
 use Rattle.state.specs.declared.Router.{Router}
-use Rattle.state.specs.Channels.{ChannelView, outCreditOf}
-use Rattle.state.specs.Sound.{Sound, outputCreditsFit}
-use Rattle.state.specs.Views.{input_at, outputAt, home_of}
+use Rattle.state.specs.Channels.{ChannelView, out_credit_of}
+use Rattle.state.specs.Sound.{Sound, output_credits_fit}
+use Rattle.state.specs.Views.{input_at, output_at, home_of}
 use Rattle.trace.specs.Bytes.{AreBytes}
 use Rattle.rules.specs.declared.Verdict.TheVariants.{Accepted}
-use Rattle.rules.specs.Free.{look, channelOf, freeOf, eventOf}
-use Rattle.rules.specs.Intake.{sendersPaid}
+use Rattle.rules.specs.Free.{look, channel_of, free_of, event_of}
+use Rattle.rules.specs.Intake.{senders_paid}
 use Rattle.rules.specs.Ports.{named}
-use Rattle.rules.specs.Rows.{credit_at, brings, kind_at, vcAt, destinationAt, flitAt}
+use Rattle.rules.specs.Rows.{credit_at, brings, kind_at, vc_at, destination_at, flit_at}
 use Rattle.rules.specs.Step.{step_of}
-use Rattle.rules.proofs.Accepted.{accepted-none, accepted-before}
-use Rattle.rules.proofs.Channels.{channel-at}
-use Rattle.rules.proofs.ChosenViews.{is-there, view-there}
+use Rattle.rules.proofs.Accepted.{accepted_none, accepted_before}
+use Rattle.rules.proofs.Channels.{channel_at}
+use Rattle.rules.proofs.ChosenViews.{is_there-law, view_there}
 use Rattle.rules.proofs.CreditsReached.{credit-reaches}
-use Rattle.rules.proofs.Facts.{sound-legal, inputs-room, home_at}
+use Rattle.rules.proofs.Facts.{sound_legal, inputs_room, home_at}
 use Rattle.rules.proofs.IntakeChannel.{home_out}
-use Rattle.rules.proofs.Named.{named-there}
-use Rattle.rules.proofs.OfferedFlits.{offered-kind, offered-destination}
-use Rattle.rules.proofs.Permitted.{Permitted, Offered, none-permits}
+use Rattle.rules.proofs.Named.{named_there}
+use Rattle.rules.proofs.OfferedFlits.{offered_kind, offered_destination}
+use Rattle.rules.proofs.Permitted.{Permitted, Offered, none_permits}
 
 -- what port i brings, if it is there and its row brings a flit
 pub record Brings (c : Config) (part : List ℕ) (i : ℕ) (b : Brought Flit) : Type 0 where
   pub port : i < c.ports
   pub brought : brings part i ≡ true
-  pub is : record { vc = vcAt part i; flit = flitAt part i } ≡ b
+  pub is : record { vc = vc_at part i; flit = flit_at part i } ≡ b
 
-pub offer-is : (c : Config) (part : List ℕ) (i : ℕ) (b : Brought Flit) → (eventOf c part).offer i ≡ some b → Brings c part i b
-unfolding eventOf
-offer-is c part i b = go (ltb i c.ports) refl (brings part i) refl
+pub offer_is : (c : Config) (part : List ℕ) (i : ℕ) (b : Brought Flit) → (event_of c part).offer i ≡ some b → Brings c part i b
+unfolding event_of
+offer_is c part i b = go (ltb i c.ports) refl (brings part i) refl
   where
     go : (t : Bool) → ltb i c.ports ≡ t → (u : Bool) → brings part i ≡ u
-        → cond (t && u) (some (record { vc = vcAt part i; flit = flitAt part i })) none ≡ some b → Brings c part i b
+        → cond (t && u) (some (record { vc = vc_at part i; flit = flit_at part i })) none ≡ some b → Brings c part i b
     go true e true f q = record { port = ltb-true i c.ports e; brought = f; is = some-injective _ b q }
     go true e false f q = absurd (none-ne-some b q)
     go false e u f q = absurd (none-ne-some b q)
 
 -- the credit that comes back at output o, if it is there and its row names a VC
-pub credit-is : (c : Config) (part : List ℕ) (o w : ℕ) → (eventOf c part).credit o ≡ some w → (o < c.ports)
+pub credit_is : (c : Config) (part : List ℕ) (o w : ℕ) → (event_of c part).credit o ≡ some w → (o < c.ports)
     × (named (credit_at part o) ≡ some w)
-unfolding eventOf
-credit-is c part o w = go (ltb o c.ports) refl
+unfolding event_of
+credit_is c part o w = go (ltb o c.ports) refl
   where
     go : (t : Bool) → ltb o c.ports ≡ t → cond t (named (credit_at part o)) none ≡ some w → (o < c.ports)
         × (named (credit_at part o) ≡ some w)
@@ -75,15 +75,15 @@ module _ (s : Router) (part : List ℕ) (bytes : AreBytes part) (accepted : (ste
   c = s.config
 
   sound : Sound s
-  sound = accepted-before s part bytes accepted
+  sound = accepted_before s part bytes accepted
 
   permitted : Permitted s part
-  permitted = none-permits s part (sound-legal s sound) (accepted-none s part bytes accepted)
+  permitted = none_permits s part (sound_legal s sound) (accepted_none s part bytes accepted)
 
   -- a port that brings a flit
-  module _ (i : ℕ) (b : Brought Flit) (q : (eventOf c part).offer i ≡ some b) where
+  module _ (i : ℕ) (b : Brought Flit) (q : (event_of c part).offer i ≡ some b) where
     it : Brings c part i b
-    it = offer-is c part i b q
+    it = offer_is c part i b q
 
     row : Offered c part i
     row = permitted.offers i it.port it.brought
@@ -92,52 +92,52 @@ module _ (s : Router) (part : List ℕ) (bytes : AreBytes part) (accepted : (ste
     pub offer-vc : b.vc < c.vcs
     offer-vc = subst (λ (x : Brought Flit). x.vc < c.vcs) it.is row.vc
 
-    starts_is : look.starts b.flit ≡ startsKind (kind_at part i)
+    starts_is : look.starts b.flit ≡ starts_kind (kind_at part i)
     starts_is =
-        ap (λ (x : Brought Flit). startsKind (kind_of x.flit)) (sym it.is)
-        ∙ ap startsKind (offered-kind c (sound-legal s sound) part bytes i row)
+        ap (λ (x : Brought Flit). starts_kind (kind_of x.flit)) (sym it.is)
+        ∙ ap starts_kind (offered_kind c (sound_legal s sound) part bytes i row)
 
     pub offer-destination : look.starts b.flit ≡ true → look.port b.flit < c.ports
     offer-destination e =
         subst (λ (n : ℕ). n < c.ports)
-        (sym (offered-destination c (sound-legal s sound) part bytes i row) ∙ ap (λ (x : Brought Flit). destinationOf x.flit) it.is)
-        (ltb-true (destinationAt part i) c.ports
-        (ap (λ (t : Bool). cond t (ltb (destinationAt part i) c.ports) (eqb (destinationAt part i) 0)) (sym e ∙ starts_is)
+        (sym (offered_destination c (sound_legal s sound) part bytes i row) ∙ ap (λ (x : Brought Flit). destination_of x.flit) it.is)
+        (ltb-true (destination_at part i) c.ports
+        (ap (λ (t : Bool). cond t (ltb (destination_at part i) c.ports) (eqb (destination_at part i) 0)) (sym e ∙ starts_is)
         ∙ row.destination))
 
     -- not 4
-    pub offer-kinds : look.starts b.flit ≡ not ((freeOf s).opened i b.vc)
-    unfolding freeOf
+    pub offer-kinds : look.starts b.flit ≡ not ((free_of s).opened i b.vc)
+    unfolding free_of
     offer-kinds =
         starts_is
-        ∙ turned (input_at c s.inputs i (vcAt part i)).opened (startsKind (kind_at part i)) (permitted.turns i it.port it.brought)
+        ∙ turned (input_at c s.inputs i (vc_at part i)).opened (starts_kind (kind_at part i)) (permitted.turns i it.port it.brought)
         ∙ ap (λ (x : Brought Flit). not (input_at c s.inputs i x.vc).opened) it.is
-        ∙ ap (λ (ch : ChannelView). not ch.opened) (sym (view-there s i b.vc it.port offer-vc))
+        ∙ ap (λ (ch : ChannelView). not ch.opened) (sym (view_there s i b.vc it.port offer-vc))
 
     -- not 5
-    pub offer-paid : takenNow ((freeOf s).channel i b.vc) < c.depth
-    unfolding freeOf
+    pub offer-paid : taken_now ((free_of s).channel i b.vc) < c.depth
+    unfolding free_of
     offer-paid =
-        subst (λ (ch : ChannelView). takenNow (channelOf ch) < c.depth) (sym (view-there s i b.vc it.port offer-vc))
-        (let legal = sound-legal s sound in
+        subst (λ (ch : ChannelView). taken_now (channel_of ch) < c.depth) (sym (view_there s i b.vc it.port offer-vc))
+        (let legal = sound_legal s sound in
         let paid : 1 ≤ (input_at c s.inputs i b.vc).credit + out 0 (home_of c s.home i b.vc) =
         subst (λ (n : ℕ). 1 ≤ n)
         (credit-reaches c s.home s.inputs (λ j l. home_at s sound 0 j legal.back.0 l) i b.vc it.port offer-vc
-        (inputs-room s sound)
+        (inputs_room s sound)
         ∙ ap (λ (n : ℕ). (input_at c s.inputs i b.vc).credit + n) (sym (home_out c i b.vc s.home legal.back.0)))
-        (subst (λ (x : Brought Flit). 1 ≤ (input_at c (sendersPaid c s.home s.inputs) i x.vc).credit) it.is
+        (subst (λ (x : Brought Flit). 1 ≤ (input_at c (senders_paid c s.home s.inputs) i x.vc).credit) it.is
         (permitted.paid i it.port it.brought)) in
         let some = legal.depth.0 in
         omega arith)
 
   -- not 6
-  pub credit-room : (o w : ℕ) → (eventOf c part).credit o ≡ some w → (freeOf s).outCredit o w < c.downstream
-  unfolding freeOf outCreditOf outputCreditsFit
-  credit-room o w q =
-      let r = credit-is c part o w q in
+  pub credit_room : (o w : ℕ) → (event_of c part).credit o ≡ some w → (free_of s).out_credit o w < c.downstream
+  unfolding free_of out_credit_of output_credits_fit
+  credit_room o w q =
+      let r = credit_is c part o w q in
       let fits = permitted.credits o r.0 in
-      let vc = named-there (credit_at part o) c.vcs w fits.there r.1 in
-      let most = leb-true (outputAt c s.outputs o w).credit c.downstream
-      (channel-at c (λ o w. leb (outputAt c s.outputs o w).credit c.downstream) sound.flow.outputCredits o w r.0 vc) in
-      subst (λ (t : Bool). cond t (outputAt c s.outputs o w).credit c.downstream < c.downstream) (sym (is-there c o w r.0 vc))
+      let vc = named_there (credit_at part o) c.vcs w fits.there r.1 in
+      let most = leb-true (output_at c s.outputs o w).credit c.downstream
+      (channel_at c (λ o w. leb (output_at c s.outputs o w).credit c.downstream) sound.flow.output_credits o w r.0 vc) in
+      subst (λ (t : Bool). cond t (output_at c s.outputs o w).credit c.downstream < c.downstream) (sym (is_there-law c o w r.0 vc))
       (lt_of_le-ne most (fits.room w r.1))

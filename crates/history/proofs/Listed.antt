@@ -8,101 +8,101 @@ use native.Mathlib.Omega.{arith}
 use lib.ListN.{length, length-append}
 use Rattle.base.specs.declared.config.Config.{Config}
 use Rattle.base.specs.declared.flit.Flit.{Flit}
-use Rattle.base.specs.Sizes.{cycleLimit}
-use Rattle.listing.specs.Lines.{cycleLines, flitLines}
-use Rattle.listing.proofs.Counting.{flit-lines-append}
+use Rattle.base.specs.Sizes.{cycle_limit}
+use Rattle.listing.specs.Lines.{cycle_lines, flit_lines}
+use Rattle.listing.proofs.Counting.{flit_lines_append}
 use Rattle.model.specs.History.{Entry, gather}
 use Rattle.model.specs.Lists.{All}
-use Rattle.state.specs.Fresh.{freshRouter}
-use Rattle.state.proofs.Legal.{sound-cycle}
+use Rattle.state.specs.Fresh.{fresh_router}
+use Rattle.state.proofs.Legal.{sound_cycle}
 use Rattle.trace.specs.Bytes.{AreBytes}
 use Rattle.rules.specs.declared.Verdict.{Verdict}
 use Rattle.rules.specs.declared.Verdict.TheVariants.{Accepted, Refused}
 use Rattle.rules.specs.Step.{step_of}
-use Rattle.rules.proofs.ChosenStep.{config-stays, cycle_steps}
-use Rattle.rules.proofs.StepSound.{accepted-after}
-use Rattle.history.specs.Listed.{departed, linesThen, lines_from}
+use Rattle.rules.proofs.ChosenStep.{config_stays, cycle_steps}
+use Rattle.rules.proofs.StepSound.{accepted_after}
+use Rattle.history.specs.Listed.{departed, lines_then, lines_from}
 use Rattle.history.specs.Run.{entry_of, Ran, recorded, cycled, run_from, run_of}
-use Rattle.history.proofs.NoneLost.{departures-all}
+use Rattle.history.proofs.NoneLost.{departures_all}
 
 -- where a run of configuration c has come to, sound or not: the router counts the entries, and they are not too many
 record Counts (c : Config) (r : Ran) : Type 0 where
   config : r.router.config ≡ c
   count : r.router.cycle ≡ length r.history
-  limit : length r.history ≤ cycleLimit
+  limit : length r.history ≤ cycle_limit
 
 module _ (c : Config) (r : Ran) (part : List ℕ) (bytes : AreBytes part) (counts : Counts c r) where
-  accepted-counts : (step_of r.router part).verdict ≡ Accepted → Counts c (recorded c part r Accepted (step_of r.router part))
-  accepted-counts e =
+  accepted_counts : (step_of r.router part).verdict ≡ Accepted → Counts c (recorded c part r Accepted (step_of r.router part))
+  accepted_counts e =
       let count = cycle_steps r.router part bytes e ∙ ap suc counts.count in
       record {
-        config = config-stays r.router part bytes e ∙ counts.config;
+        config = config_stays r.router part bytes e ∙ counts.config;
         count = count;
-        limit = subst (λ (n : ℕ). n ≤ cycleLimit) count (sound-cycle (accepted-after r.router part bytes e));
+        limit = subst (λ (n : ℕ). n ≤ cycle_limit) count (sound_cycle (accepted_after r.router part bytes e));
       }
 
   -- the entry of an accepted cycle has one departure for each of its F lines
-  accepted-departed : (step_of r.router part).verdict ≡ Accepted
+  accepted_departed : (step_of r.router part).verdict ≡ Accepted
       → departed (recorded c part r Accepted (step_of r.router part)).history
-      ≡ departed r.history + flitLines (cycleLines r.router.cycle (step_of r.router part).reply)
-  accepted-departed e =
+      ≡ departed r.history + flit_lines (cycle_lines r.router.cycle (step_of r.router part).reply)
+  accepted_departed e =
       let now = entry_of c (length r.history) part (step_of r.router part).reply in
       let same : entry_of r.router.config r.router.cycle part (step_of r.router part).reply ≡ now =
       λ t. entry_of (counts.config t) (counts.count t) part (step_of r.router part).reply in
-      let all = ap (λ (x : Entry Flit). length x.departures) (sym same) ∙ departures-all r.router part bytes e in
+      let all = ap (λ (x : Entry Flit). length x.departures) (sym same) ∙ departures_all r.router part bytes e in
       omega (arith, length-append (gather (λ (x : Entry Flit). x.departures) r.history) now.departures, all)
 
 -- from anywhere in a run on: what left, and what is counted
-from-departed : (c : Config) (r : Ran) (parts : List (List ℕ)) → All AreBytes parts → Counts c r
-    → departed (run_from c r parts).history ≡ departed r.history + flitLines (lines_from r.router parts)
-unfolding run_from lines_from flitLines
-from-departed c r [] bytes counts = omega arith
-from-departed c r (part ∷ parts) bytes counts =
-    go (step_of r.router part).verdict refl (λ q k. from-departed c q parts bytes.1 k)
+from_departed : (c : Config) (r : Ran) (parts : List (List ℕ)) → All AreBytes parts → Counts c r
+    → departed (run_from c r parts).history ≡ departed r.history + flit_lines (lines_from r.router parts)
+unfolding run_from lines_from flit_lines
+from_departed c r [] bytes counts = omega arith
+from_departed c r (part ∷ parts) bytes counts =
+    go (step_of r.router part).verdict refl (λ q k. from_departed c q parts bytes.1 k)
   where
     go : (v : Verdict) → (step_of r.router part).verdict ≡ v
-        → ((q : Ran) → Counts c q → departed (run_from c q parts).history ≡ departed q.history + flitLines (lines_from q.router parts))
+        → ((q : Ran) → Counts c q → departed (run_from c q parts).history ≡ departed q.history + flit_lines (lines_from q.router parts))
         → departed (run_from c (recorded c part r v (step_of r.router part)) parts).history
-        ≡ departed r.history + flitLines (linesThen v (step_of r.router part) r.router (λ t. lines_from t parts))
+        ≡ departed r.history + flit_lines (lines_then v (step_of r.router part) r.router (λ t. lines_from t parts))
     go Accepted e more =
         let x = step_of r.router part in
         omega (
           arith,
-          more (recorded c part r Accepted x) (accepted-counts c r part bytes.0 counts e),
-          accepted-departed c r part
+          more (recorded c part r Accepted x) (accepted_counts c r part bytes.0 counts e),
+          accepted_departed c r part
               bytes.0 counts e,
-          flit-lines-append (cycleLines r.router.cycle x.reply) (lines_from x.router parts),
+          flit_lines_append (cycle_lines r.router.cycle x.reply) (lines_from x.router parts),
         )
     go (Refused n) e more = more r counts
 
-from-counts : (c : Config) (r : Ran) (parts : List (List ℕ)) → All AreBytes parts → Counts c r → Counts c (run_from c r parts)
+from_counts : (c : Config) (r : Ran) (parts : List (List ℕ)) → All AreBytes parts → Counts c r → Counts c (run_from c r parts)
 unfolding run_from
-from-counts c r [] bytes counts = counts
-from-counts c r (part ∷ parts) bytes counts = from-counts c (cycled c r part) parts bytes.1 (go (step_of r.router part).verdict refl)
+from_counts c r [] bytes counts = counts
+from_counts c r (part ∷ parts) bytes counts = from_counts c (cycled c r part) parts bytes.1 (go (step_of r.router part).verdict refl)
   where
     go : (v : Verdict) → (step_of r.router part).verdict ≡ v → Counts c (recorded c part r v (step_of r.router part))
-    go Accepted e = accepted-counts c r part bytes.0 counts e
+    go Accepted e = accepted_counts c r part bytes.0 counts e
     go (Refused n) e = counts
 
 module _ (c : Config) (parts : List (List ℕ)) (bytes : All AreBytes parts) where
   abbrev fresh : Ran
-  fresh = record { router = freshRouter c; history = [] }
+  fresh = record { router = fresh_router c; history = [] }
 
   starts : Counts c fresh
-  unfolding freshRouter
+  unfolding fresh_router
   starts = record { config = refl; count = refl; limit = zero-le }
 
   -- The flits that left in the history of a run are the F lines of its accepted cycles.
-  pub run-departed : departed (run_of c parts).history ≡ flitLines (lines_from (freshRouter c) parts)
+  pub run_departed : departed (run_of c parts).history ≡ flit_lines (lines_from (fresh_router c) parts)
   unfolding run_of
-  run-departed = omega (arith, from-departed c fresh parts bytes starts)
+  run_departed = omega (arith, from_departed c fresh parts bytes starts)
 
   -- The history has one entry for each cycle that the router counts.
-  pub run-counted : length (run_of c parts).history ≡ (run_of c parts).router.cycle
+  pub run_counted : length (run_of c parts).history ≡ (run_of c parts).router.cycle
   unfolding run_of
-  run-counted = sym (from-counts c fresh parts bytes starts).count
+  run_counted = sym (from_counts c fresh parts bytes starts).count
 
   -- "At most 1,000,000,000 accepted cycles in a run"
-  pub run-limited : length (run_of c parts).history ≤ cycleLimit
+  pub run_limited : length (run_of c parts).history ≤ cycle_limit
   unfolding run_of
-  run-limited = (from-counts c fresh parts bytes starts).limit
+  run_limited = (from_counts c fresh parts bytes starts).limit

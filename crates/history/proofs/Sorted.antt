@@ -10,22 +10,22 @@ use lib.ListN.{length, length-append}
 use Rattle.base.specs.declared.flit.Flit.{Flit}
 use Rattle.model.specs.History.{Departure, same}
 use Rattle.model.specs.Lists.{keep, each, All}
-use Rattle.model.proofs.Entries.{same-own, same_true}
-use Rattle.model.proofs.Lists.{keep-grid, each_none, grid-one}
+use Rattle.model.proofs.Entries.{same_own, same_true}
+use Rattle.model.proofs.Lists.{keep_grid, each_none, grid_one}
 
 -- lists over the ports that are alike at each port
-pub each-ext : {A : Type 0} (n : ℕ) (f g : ℕ → List A) → ((i : ℕ) → i < n → f i ≡ g i) → each n f ≡ each n g
-each-ext zero f g h = refl
-each-ext {A} (suc n) f g h = ap₂ (λ (a b : List A). a ++ b) (each-ext n f g (λ i l. h i (omega arith))) (h n (omega arith))
+pub each_ext : {A : Type 0} (n : ℕ) (f g : ℕ → List A) → ((i : ℕ) → i < n → f i ≡ g i) → each n f ≡ each n g
+each_ext zero f g h = refl
+each_ext {A} (suc n) f g h = ap₂ (λ (a b : List A). a ++ b) (each_ext n f g (λ i l. h i (omega arith))) (h n (omega arith))
 
 -- where each place's list is as long as two others together, so are all of them together
-each-together : {A : Type 0} (n : ℕ) (f g h : ℕ → List A) → ((i : ℕ) → length (f i) ≡ length (g i) + length (h i))
+each_together : {A : Type 0} (n : ℕ) (f g h : ℕ → List A) → ((i : ℕ) → length (f i) ≡ length (g i) + length (h i))
     → length (each n f) ≡ length (each n g) + length (each n h)
-each-together zero f g h same = refl
-each-together (suc n) f g h same =
+each_together zero f g h same = refl
+each_together (suc n) f g h same =
     omega (
       arith,
-      each-together n f g h same,
+      each_together n f g h same,
       same n,
       length-append (each n f) (f n),
       length-append (each n g) (g n),
@@ -35,9 +35,9 @@ each-together (suc n) f g h same =
 
 module _ {A : Type 0} where
   -- two tests, in either order
-  keep-swap : (p q : A → Bool) (xs : List A) → keep p (keep q xs) ≡ keep q (keep p xs)
-  keep-swap p q [] = refl
-  keep-swap p q (x ∷ xs) = go (p x) refl (q x) refl (keep-swap p q xs)
+  keep_swap : (p q : A → Bool) (xs : List A) → keep p (keep q xs) ≡ keep q (keep p xs)
+  keep_swap p q [] = refl
+  keep_swap p q (x ∷ xs) = go (p x) refl (q x) refl (keep_swap p q xs)
     where
       go : (b : Bool) → p x ≡ b → (d : Bool) → q x ≡ d → keep p (keep q xs) ≡ keep q (keep p xs)
           → keep p (cond d (x ∷ keep q xs) (keep q xs)) ≡ keep q (cond b (x ∷ keep p xs) (keep p xs))
@@ -47,18 +47,18 @@ module _ {A : Type 0} where
       go false e false f ih = ih
 
   -- what each has, each that is kept has
-  all-kept : (P : A → Type 0) (p : A → Bool) (xs : List A) → All P xs → All P (keep p xs)
-  all-kept P p [] all = tt
-  all-kept P p (x ∷ xs) all = go (p x) (all-kept P p xs all.1)
+  all_kept : (P : A → Type 0) (p : A → Bool) (xs : List A) → All P xs → All P (keep p xs)
+  all_kept P p [] all = tt
+  all_kept P p (x ∷ xs) all = go (p x) (all_kept P p xs all.1)
     where
       go : (b : Bool) → All P (keep p xs) → All P (cond b (x ∷ keep p xs) (keep p xs))
       go true rest = (all.0, rest)
       go false rest = rest
 
   -- those that pass pass, and a test that all pass keeps all
-  kept-pass : (p : A → Bool) (xs : List A) → All (λ (x : A). p x ≡ true) (keep p xs)
-  kept-pass p [] = tt
-  kept-pass p (x ∷ xs) = go (p x) refl (kept-pass p xs)
+  kept_pass : (p : A → Bool) (xs : List A) → All (λ (x : A). p x ≡ true) (keep p xs)
+  kept_pass p [] = tt
+  kept_pass p (x ∷ xs) = go (p x) refl (kept_pass p xs)
     where
       go : (b : Bool) → p x ≡ b → All (λ (x : A). p x ≡ true) (keep p xs) → All (λ (x : A). p x ≡ true) (cond b (x ∷ keep p xs) (keep p xs))
       go true e rest = (e, rest)
@@ -73,10 +73,10 @@ abbrev pub from : ℕ → ℕ → Departure Flit → Bool
 from i v d = same d.input d.vc i v
 
 -- of departures from one VC none is from another
-from-apart : (i v j u : ℕ) (ds : List (Departure Flit)) → All (λ (d : Departure Flit). from i v d ≡ true) ds → ¬ ((j ≡ i) × (u ≡ v))
+from_apart : (i v j u : ℕ) (ds : List (Departure Flit)) → All (λ (d : Departure Flit). from i v d ≡ true) ds → ¬ ((j ≡ i) × (u ≡ v))
     → keep (from j u) ds ≡ []
-from-apart i v j u [] own ne = refl
-from-apart i v j u (d ∷ ds) own ne = go (from j u d) refl (from-apart i v j u ds own.1 ne)
+from_apart i v j u [] own ne = refl
+from_apart i v j u (d ∷ ds) own ne = go (from j u d) refl (from_apart i v j u ds own.1 ne)
   where
     go : (b : Bool) → from j u d ≡ b → keep (from j u) ds ≡ [] → cond b (d ∷ keep (from j u) ds) (keep (from j u) ds) ≡ []
     go true e rest =
@@ -101,7 +101,7 @@ module _ (n m : ℕ) where
   sorted_more : (d : Departure Flit) (ds : List (Departure Flit))
       → length (sorted n m (d ∷ ds)) ≡ length (sorted n m (d ∷ [])) + length (sorted n m ds)
   sorted_more d ds =
-      each-together n _ _ _ (λ i. each-together m (λ v. keep (from i v) (d ∷ ds)) (λ v. keep (from i v) (d ∷ []))
+      each_together n _ _ _ (λ i. each_together m (λ v. keep (from i v) (d ∷ ds)) (λ v. keep (from i v) (d ∷ []))
       (λ v. keep (from i v) ds)
       (λ v. go (from i v d) (keep (from i v) ds)))
     where
@@ -110,46 +110,46 @@ module _ (n m : ℕ) where
       go false kept = omega arith
 
   -- departures from one VC that there is are sorted in beside one another, in their order
-  sorted-source : (i v : ℕ) (ds : List (Departure Flit)) → All (λ (d : Departure Flit). from i v d ≡ true) ds → All Inside ds
+  sorted_source : (i v : ℕ) (ds : List (Departure Flit)) → All (λ (d : Departure Flit). from i v d ≡ true) ds → All Inside ds
       → sorted n m ds ≡ ds
-  sorted-source i v [] own there = sorted_none
-  sorted-source i v (d ∷ ds) own there =
+  sorted_source i v [] own there = sorted_none
+  sorted_source i v (d ∷ ds) own there =
       let here = same_true d.input d.vc i v own.0 in
-      grid-one n m (λ j u. keep (from j u) (d ∷ ds)) i v (λ j u ne. from-apart i v j u (d ∷ ds) own ne)
+      grid_one n m (λ j u. keep (from j u) (d ∷ ds)) i v (λ j u ne. from_apart i v j u (d ∷ ds) own ne)
       (λ out. absurd (out (subst (λ (k : ℕ). k < n) here.0 there.0.0, subst (λ (k : ℕ). k < m) here.1 there.0.1)))
       ∙ keep_all (from i v) (d ∷ ds) own
 
-  sorted-one : (d : Departure Flit) → Inside d → sorted n m (d ∷ []) ≡ d ∷ []
-  sorted-one d there = sorted-source d.input d.vc (d ∷ []) (same-own d.input d.vc, tt) (there, tt)
+  sorted_one : (d : Departure Flit) → Inside d → sorted n m (d ∷ []) ≡ d ∷ []
+  sorted_one d there = sorted_source d.input d.vc (d ∷ []) (same_own d.input d.vc, tt) (there, tt)
 
   -- a test of what is sorted
-  sorted-kept : (p : Departure Flit → Bool) (ds : List (Departure Flit)) → keep p (sorted n m ds) ≡ sorted n m (keep p ds)
-  sorted-kept p ds =
-      keep-grid p n m (λ i v. keep (from i v) ds)
-      ∙ each-ext n _ _ (λ i l. each-ext m (λ v. keep p (keep (from i v) ds)) (λ v. keep (from i v) (keep p ds))
-      (λ v k. keep-swap p (from i v) ds))
+  sorted_kept : (p : Departure Flit → Bool) (ds : List (Departure Flit)) → keep p (sorted n m ds) ≡ sorted n m (keep p ds)
+  sorted_kept p ds =
+      keep_grid p n m (λ i v. keep (from i v) ds)
+      ∙ each_ext n _ _ (λ i l. each_ext m (λ v. keep p (keep (from i v) ds)) (λ v. keep (from i v) (keep p ds))
+      (λ v k. keep_swap p (from i v) ds))
 
   -- Departures from VCs that there are, and sorted: of each VC the same, in their order; ..
-  pub sorted-from : (ds : List (Departure Flit)) → All Inside ds → (i v : ℕ) → keep (from i v) (sorted n m ds) ≡ keep (from i v) ds
-  sorted-from ds there i v =
-      sorted-kept (from i v) ds
-      ∙ sorted-source i v (keep (from i v) ds) (kept-pass (from i v) ds) (all-kept Inside (from i v) ds there)
+  pub sorted_from : (ds : List (Departure Flit)) → All Inside ds → (i v : ℕ) → keep (from i v) (sorted n m ds) ≡ keep (from i v) ds
+  sorted_from ds there i v =
+      sorted_kept (from i v) ds
+      ∙ sorted_source i v (keep (from i v) ds) (kept_pass (from i v) ds) (all_kept Inside (from i v) ds there)
 
   -- .. as many pass any test; ..
   sorted_all : (ds : List (Departure Flit)) → All Inside ds → length (sorted n m ds) ≡ length ds
   sorted_all [] there = ap length sorted_none
-  sorted_all (d ∷ ds) there = omega (arith, sorted_more d ds, ap length (sorted-one d there.0), sorted_all ds there.1)
+  sorted_all (d ∷ ds) there = omega (arith, sorted_more d ds, ap length (sorted_one d there.0), sorted_all ds there.1)
 
-  pub sorted-many : (ds : List (Departure Flit)) → All Inside ds → (p : Departure Flit → Bool)
+  pub sorted_many : (ds : List (Departure Flit)) → All Inside ds → (p : Departure Flit → Bool)
       → length (keep p (sorted n m ds)) ≡ length (keep p ds)
-  sorted-many ds there p = ap length (sorted-kept p ds) ∙ sorted_all (keep p ds) (all-kept Inside p ds there)
+  sorted_many ds there p = ap length (sorted_kept p ds) ∙ sorted_all (keep p ds) (all_kept Inside p ds there)
 
   -- .. and where one at most passes it, it is that one.
-  pub sorted-few : (ds : List (Departure Flit)) → All Inside ds → (p : Departure Flit → Bool) → length (keep p ds) ≤ 1
+  pub sorted_few : (ds : List (Departure Flit)) → All Inside ds → (p : Departure Flit → Bool) → length (keep p ds) ≤ 1
       → keep p (sorted n m ds) ≡ keep p ds
-  sorted-few ds there p few = sorted-kept p ds ∙ go (keep p ds) few (all-kept Inside p ds there)
+  sorted_few ds there p few = sorted_kept p ds ∙ go (keep p ds) few (all_kept Inside p ds there)
     where
       go : (l : List (Departure Flit)) → length l ≤ 1 → All Inside l → sorted n m l ≡ l
       go [] k in-there = sorted_none
-      go (d ∷ []) k in-there = sorted-one d in-there.0
+      go (d ∷ []) k in-there = sorted_one d in-there.0
       go (d ∷ (e ∷ l)) k in-there = absurd (omega arith)

@@ -15,7 +15,7 @@ use Rattle.base.specs.declared.reply.Departure as reply
 use Rattle.base.specs.declared.reply.Left.{Left}
 use Rattle.base.specs.declared.reply.Left.TheVariants as left
 use Rattle.base.specs.declared.reply.Reply.{Reply}
-use Rattle.base.specs.Reply.{departureOf}
+use Rattle.base.specs.Reply.{departure_of}
 use Rattle.model.specs.History.{Departure}
 use Rattle.model.specs.Lists.{keep, All}
 use Rattle.model.proofs.Lists.{keep_one, all-each}
@@ -23,13 +23,13 @@ use Rattle.state.specs.declared.Router.{Router}
 use Rattle.trace.specs.Bytes.{AreBytes}
 use Rattle.rules.specs.declared.Verdict.TheVariants.{Accepted}
 use Rattle.rules.specs.Allocation.{allocated}
-use Rattle.rules.specs.Intake.{creditsReached, creditsReturned, landed, offersTaken}
-use Rattle.rules.specs.Step.{takenIn, step_of}
+use Rattle.rules.specs.Intake.{credits_reached, credits_returned, landed, offers_taken}
+use Rattle.rules.specs.Step.{taken_in, step_of}
 use Rattle.rules.proofs.Accepted.{readied}
-use Rattle.rules.proofs.Departed.{reported-exits}
-use Rattle.rules.proofs.Exits.{exit-is}
-use Rattle.rules.proofs.Left.{noOutput}
-use Rattle.history.specs.Run.{departureIn, departuresIn}
+use Rattle.rules.proofs.Departed.{reported_exits}
+use Rattle.rules.proofs.Exits.{exit_is}
+use Rattle.rules.proofs.Left.{no_output}
+use Rattle.history.specs.Run.{departure_in, departures_in}
 use Rattle.history.proofs.Printable.{left_there}
 use Rattle.history.proofs.Sorted.{Inside}
 
@@ -41,47 +41,47 @@ module _ (s : Router) (part : List ℕ) (bytes : AreBytes part) (accepted : (ste
   told = (step_of s part).reply
 
   abbrev left_at : ℕ → Left
-  left_at o = (get_or told.outputs o noOutput).left
+  left_at o = (get_or told.outputs o no_output).left
 
   -- what is reported left a VC that there is
-  left-inside : (o : ℕ) → All (Inside c.ports c.vcs) (departureIn o (departureOf (left_at o)))
-  unfolding allocated takenIn offersTaken landed creditsReturned creditsReached
-  left-inside o = go (left_at o) refl
+  left_inside : (o : ℕ) → All (Inside c.ports c.vcs) (departure_in o (departure_of (left_at o)))
+  unfolding allocated taken_in offers_taken landed credits_returned credits_reached
+  left_inside o = go (left_at o) refl
     where
-      go : (l : Left) → left_at o ≡ l → All (Inside c.ports c.vcs) (departureIn o (departureOf l))
+      go : (l : Left) → left_at o ≡ l → All (Inside c.ports c.vcs) (departure_in o (departure_of l))
       go left.Nothing q = tt
       go (left.Flit d) q =
-          let r = reported-exits s part bytes accepted o d q in
-          let wins = (exit-is (readied part s) o r.0 r.1).wins in
+          let r = reported_exits s part bytes accepted o d q in
+          let wins = (exit_is (readied part s) o r.0 r.1).wins in
           let input = ap (λ (x : reply.Departure). x.input) r.2 in
           let vc = ap (λ (x : reply.Departure). x.vc) r.2 in
-          ((omega (arith, wins.input-below, input), omega (arith, wins.vc-below, vc)), tt)
+          ((omega (arith, wins.input_below, input), omega (arith, wins.vc_below, vc)), tt)
 
-  pub told-inside : All (Inside c.ports c.vcs) (departuresIn c told)
-  told-inside = all-each _ c.ports (λ o. departureIn o (departureOf (left_at o))) (λ o l. left-inside o)
+  pub told_inside : All (Inside c.ports c.vcs) (departures_in c told)
+  told_inside = all-each _ c.ports (λ o. departure_in o (departure_of (left_at o))) (λ o l. left_inside o)
 
   module _ (p : Departure Flit → Bool) (o : ℕ) (fails : (d : Departure Flit) → d.output ≢ o → p d ≡ false) where
     -- a test that only what left by output o can pass, passes of all what it passes there
-    pub told_at : keep p (departuresIn c told) ≡ keep p (departureIn o (departureOf (left_at o)))
+    pub told_at : keep p (departures_in c told) ≡ keep p (departure_in o (departure_of (left_at o)))
     told_at =
-        keep_one p c.ports (λ q. departureIn q (departureOf (left_at q))) o (λ q ne. other q ne (left_at q)) (beyond (left_at o) refl)
+        keep_one p c.ports (λ q. departure_in q (departure_of (left_at q))) o (λ q ne. other q ne (left_at q)) (beyond (left_at o) refl)
       where
-        other : (q : ℕ) → q ≢ o → (l : Left) → keep p (departureIn q (departureOf l)) ≡ []
+        other : (q : ℕ) → q ≢ o → (l : Left) → keep p (departure_in q (departure_of l)) ≡ []
         other q ne left.Nothing = refl
-        other q ne (left.Flit d) = ap (λ (b : Bool). cond b (departureIn q (some d)) []) (fails _ ne)
+        other q ne (left.Flit d) = ap (λ (b : Bool). cond b (departure_in q (some d)) []) (fails _ ne)
 
-        beyond : (l : Left) → left_at o ≡ l → ¬ (o < c.ports) → keep p (departureIn o (departureOf l)) ≡ []
+        beyond : (l : Left) → left_at o ≡ l → ¬ (o < c.ports) → keep p (departure_in o (departure_of l)) ≡ []
         beyond left.Nothing q out = refl
         beyond (left.Flit d) q out = absurd (out (left_there s part bytes accepted o d q))
 
     -- and that is one at most
-    pub told-once : length (keep p (departuresIn c told)) ≤ 1
+    pub told-once : length (keep p (departures_in c told)) ≤ 1
     told-once = subst (λ (l : List (Departure Flit)). length l ≤ 1) (sym told_at) (go (left_at o))
       where
         one : (b : Bool) (d : Departure Flit) → length (cond b (d ∷ []) []) ≤ 1
         one true d = omega arith
         one false d = omega arith
 
-        go : (l : Left) → length (keep p (departureIn o (departureOf l))) ≤ 1
+        go : (l : Left) → length (keep p (departure_in o (departure_of l))) ≤ 1
         go left.Nothing = omega arith
         go (left.Flit d) = one (p _) _

@@ -8,24 +8,24 @@ use native.Mathlib.Omega.{arith}
 use Rattle.base.specs.declared.config.Config.{Config}
 use Rattle.base.specs.declared.flit.Flit.{Flit}
 use Rattle.base.specs.Flit as kinds
-use Rattle.base.specs.Flit.{flitOf, kind_of, destinationOf, startsKind, endsKind}
+use Rattle.base.specs.Flit.{flit_of, kind_of, destination_of, starts_kind, ends_kind}
 use Rattle.base.specs.Sizes.{sized}
 use Rattle.model.specs.Demand3.{ByHeadsPort, FromOneSource}
-use Rattle.model.specs.History.{Offer, Departure, Entry, History, Numbered, accepted, leftFrom, leftOn}
+use Rattle.model.specs.History.{Offer, Departure, Entry, History, Numbered, accepted, left_from, left_on}
 use Rattle.model.specs.Limits.{NamesInRange}
 use Rattle.model.specs.Packets.{Packets, finished, next, nothing, head, body, tail}
-use Rattle.model.proofs.Destinations.{left-by-destination}
+use Rattle.model.proofs.Destinations.{left_by_destination}
 use Rattle.state.specs.declared.Router.{Router}
-use Rattle.state.specs.Fresh.{freshRouter}
-use Rattle.state.specs.Views.{queueAt, places, wireOf, home_of, flat, total}
-use Rattle.rules.specs.Free.{look, sizesOf}
+use Rattle.state.specs.Fresh.{fresh_router}
+use Rattle.state.specs.Views.{queue_at, places, wire_of, home_of, flat, total}
+use Rattle.rules.specs.Free.{look, sizes_of}
 use Rattle.history.specs.Demand3.{InputDemand, Demand3}
 
 -- demand 3 without `names`
 pub record WithoutNames (c : Config) (s : Router) (h : History Flit) (t : ℕ) : Type 0 where
   pub cycles : Numbered (suc t) h
   pub inputs : (i v : ℕ) → i < c.ports → v < c.vcs → InputDemand c s h t i v
-  pub outputs : (o w : ℕ) → o < c.ports → w < c.vcs → Packets look FromOneSource (leftOn o w h)
+  pub outputs : (o w : ℕ) → o < c.ports → w < c.vcs → Packets look FromOneSource (left_on o w h)
 
 abbrev c : Config
 c = sized 2 1 4 4 1 1 1
@@ -38,30 +38,30 @@ abbrev offered : ℕ → Flit → List (Offer Flit)
 offered v f = record { input = 0; vc = v; flit = f } ∷ []
 
 abbrev left : ℕ → Flit → Departure Flit
-left w f = record { output = 1; outVc = w; input = 0; vc = 0; flit = f }
+left w f = record { output = 1; out_vc = w; input = 0; vc = 0; flit = f }
 
 abbrev H : Flit
-H = flitOf kinds.head 1 7
+H = flit_of kinds.head 1 7
 
 abbrev B : Flit
-B = flitOf kinds.body 0 8
+B = flit_of kinds.body 0 8
 
 abbrev T : Flit
-T = flitOf kinds.tail 0 9
+T = flit_of kinds.tail 0 9
 
 abbrev S : Flit
-S = flitOf kinds.single 1 6
+S = flit_of kinds.single 1 6
 
 -- H and T leave on VC 0 of output 1, B between them on VC 1. S is accepted on VC 5.
-abbrev bodyLeaves : Entry Flit
-bodyLeaves = entry 2 (offered 0 T) (left 1 B ∷ [])
+abbrev body_leaves : Entry Flit
+body_leaves = entry 2 (offered 0 T) (left 1 B ∷ [])
 
-abbrev singleComes : Entry Flit
-singleComes = entry 4 (offered 5 S) []
+abbrev single_comes : Entry Flit
+single_comes = entry 4 (offered 5 S) []
 
 abbrev wandering : History Flit
 wandering =
-    singleComes ∷ entry 3 [] (left 0 T ∷ []) ∷ bodyLeaves ∷ entry 1 (offered 0 B) (left 0 H ∷ []) ∷ entry 0 (offered 0 H) [] ∷ []
+    single_comes ∷ entry 3 [] (left 0 T ∷ []) ∷ body_leaves ∷ entry 1 (offered 0 B) (left 0 H ∷ []) ∷ entry 0 (offered 0 H) [] ∷ []
 
 -- the channels that there are
 channels : (P : ℕ → ℕ → Type 0) → P 0 0 → P 1 0 → (i v : ℕ) → i < 2 → v < 1 → P i v
@@ -71,19 +71,19 @@ channels P first second (suc zero) zero p q = second
 channels P first second (suc zero) (suc v) p q = absurd (omega (arith, q))
 channels P first second (suc (suc i)) v p q = absurd (omega (arith, p))
 
-from-input : Packets look (ByHeadsPort look) (leftFrom 0 0 wandering)
-unfolding flitOf kind_of destinationOf startsKind endsKind
-from-input =
+from_input : Packets look (ByHeadsPort look) (left_from 0 0 wandering)
+unfolding flit_of kind_of destination_of starts_kind ends_kind
+from_input =
     finished (next nothing (tail {h = left 0 H} {d = left 0 T} (body {d = left 1 B} (head refl refl refl) refl refl refl) refl refl refl))
 
-on-output : Packets look FromOneSource (leftOn 1 0 wandering)
-unfolding flitOf kind_of startsKind endsKind
-on-output = finished (next nothing (tail {h = left 0 H} {d = left 0 T} (head refl refl (refl, refl)) refl refl (refl, refl)))
+on_output : Packets look FromOneSource (left_on 1 0 wandering)
+unfolding flit_of kind_of starts_kind ends_kind
+on_output = finished (next nothing (tail {h = left 0 H} {d = left 0 T} (head refl refl (refl, refl)) refl refl (refl, refl)))
 
-inputs : (i v : ℕ) → i < 2 → v < 1 → InputDemand c (freshRouter c) wandering 4 i v
-unfolding flitOf freshRouter queueAt places wireOf home_of flat total
+inputs : (i v : ℕ) → i < 2 → v < 1 → InputDemand c (fresh_router c) wandering 4 i v
+unfolding flit_of fresh_router queue_at places wire_of home_of flat total
 inputs =
-    channels (InputDemand c (freshRouter c) wandering 4) (record {
+    channels (InputDemand c (fresh_router c) wandering 4) (record {
       wire = refl;
       buffers = refl;
       home = refl;
@@ -91,8 +91,8 @@ inputs =
       depth = refl;
       order = refl;
       queued = refl;
-      ports = from-input;
-      destinations = left-by-destination look (leftFrom 0 0 wandering) [] [] (accepted 0 0 wandering) from-input refl;
+      ports = from_input;
+      destinations = left_by_destination look (left_from 0 0 wandering) [] [] (accepted 0 0 wandering) from_input refl;
     }) (record {
       wire = refl;
       buffers = refl;
@@ -106,20 +106,20 @@ inputs =
     })
 
 -- Every other sentence holds of it, with the fresh router ..
-pub let_through : WithoutNames c (freshRouter c) wandering 4
+pub let_through : WithoutNames c (fresh_router c) wandering 4
 let_through =
     record {
       cycles = (refl, (refl, (refl, (refl, (refl, refl)))));
       inputs = inputs;
-      outputs = channels (λ o w. Packets look FromOneSource (leftOn o w wandering)) (finished nothing) on-output;
+      outputs = channels (λ o w. Packets look FromOneSource (left_on o w wandering)) (finished nothing) on_output;
     }
 
 -- .. and two of its entries have a name out of range, each of which alone is refused.
-pub body-nowhere : ¬ NamesInRange (sizesOf c) bodyLeaves
-body-nowhere names = absurd (omega (arith, names.outputs.0.1))
+pub body_nowhere : ¬ NamesInRange (sizes_of c) body_leaves
+body_nowhere names = absurd (omega (arith, names.outputs.0.1))
 
-pub single-nowhere : ¬ NamesInRange (sizesOf c) singleComes
-single-nowhere names = absurd (omega (arith, names.offers.0.1))
+pub single_nowhere : ¬ NamesInRange (sizes_of c) single_comes
+single_nowhere names = absurd (omega (arith, names.offers.0.1))
 
-pub refused : ¬ Demand3 c (freshRouter c) wandering 4
-refused d = body-nowhere d.names.1.1.0
+pub refused : ¬ Demand3 c (fresh_router c) wandering 4
+refused d = body_nowhere d.names.1.1.0

@@ -2,7 +2,7 @@
 -- Assumes nothing.
 use Rattle.std.specs.Prelude.{List, [], ◌∷◌, ◌++◌, ℕ, length}
 use Rattle.base.specs.declared.flit.Flit.{Flit}
-use Rattle.listing.specs.Lines.{Line, cycleLines}
+use Rattle.listing.specs.Lines.{Line, cycle_lines}
 use Rattle.model.specs.History.{Entry, History, gather}
 use Rattle.state.specs.declared.Router.{Router}
 use Rattle.rules.specs.declared.Verdict.{Verdict}
@@ -15,11 +15,11 @@ abbrev pub departed : History Flit → ℕ
 departed h = length (gather (λ (e : Entry Flit). e.departures) h)
 
 -- the lines of an accepted cycle, and then those of the cycles after it; a refused one has none
-abbrev pub linesThen : Verdict → Stepped → Router → (Router → List Line) → List Line
-linesThen Accepted x s rest = cycleLines s.cycle x.reply ++ rest x.router
-linesThen (Refused n) x s rest = rest s
+abbrev pub lines_then : Verdict → Stepped → Router → (Router → List Line) → List Line
+lines_then Accepted x s rest = cycle_lines s.cycle x.reply ++ rest x.router
+lines_then (Refused n) x s rest = rest s
 
 -- the lines of the accepted cycles of a run from a router on
 unfoldable pub lines_from : Router → List (List ℕ) → List Line
 lines_from s [] = []
-lines_from s (part ∷ parts) = linesThen (step_of s part).verdict (step_of s part) s (λ t. lines_from t parts)
+lines_from s (part ∷ parts) = lines_then (step_of s part).verdict (step_of s part) s (λ t. lines_from t parts)

@@ -9,56 +9,56 @@ use Rattle.base.specs.declared.reply.Reached.TheVariants as reached
 use Rattle.base.specs.declared.reply.Left.TheVariants as left
 use Rattle.base.specs.declared.reply.Departure as reply
 use Rattle.base.specs.declared.reply.Reply.{Reply}
-use Rattle.base.specs.Flit.{flitOf, startsKind}
-use Rattle.base.specs.Reply.{creditOf, departureOf}
+use Rattle.base.specs.Flit.{flit_of, starts_kind}
+use Rattle.base.specs.Reply.{credit_of, departure_of}
 use Rattle.model.specs.Lists.{each}
 use Rattle.model.specs.Router.{InVc}
 use Rattle.model.specs.History.{Offer, Departure, Entry, History}
-use Rattle.model.specs.Step.{creditsAt}
+use Rattle.model.specs.Step.{credits_at}
 use Rattle.state.specs.declared.Router.{Router}
-use Rattle.state.specs.Fresh.{freshRouter}
+use Rattle.state.specs.Fresh.{fresh_router}
 use Rattle.rules.specs.declared.Verdict.{Verdict}
 use Rattle.rules.specs.declared.Verdict.TheVariants.{Accepted, Refused}
 use Rattle.rules.specs.declared.Stepped.{Stepped}
 use Rattle.rules.specs.Ports.{named}
-use Rattle.rules.specs.Rows.{credit_at, brings, vcAt, flitAt}
+use Rattle.rules.specs.Rows.{credit_at, brings, vc_at, flit_at}
 use Rattle.rules.specs.Step.{step_of}
 
 -- the offer in the row of port i: "kind (0 no offer), VC, destination, .. payload"
-abbrev pub offerIn : List ℕ → ℕ → List (Offer Flit)
-offerIn part i = cond (brings part i) (record { input = i; vc = vcAt part i; flit = flitAt part i } ∷ []) []
+abbrev pub offer_in : List ℕ → ℕ → List (Offer Flit)
+offer_in part i = cond (brings part i) (record { input = i; vc = vc_at part i; flit = flit_at part i } ∷ []) []
 
 -- A departure that the reply reports at output o. It has no destination: a flit that starts a packet is written down with the output that
 -- it left by, any other with 0. That these are the flits accepted, destination and all, is what demand 3 says of their order.
-abbrev pub departureIn : ℕ → Option reply.Departure → List (Departure Flit)
-departureIn o none = []
-departureIn o (some d) =
+abbrev pub departure_in : ℕ → Option reply.Departure → List (Departure Flit)
+departure_in o none = []
+departure_in o (some d) =
     record {
       output = o;
-      outVc = d.out_vc;
+      out_vc = d.out_vc;
       input = d.input;
       vc = d.vc;
-      flit = flitOf d.kind (cond (startsKind d.kind) o 0) d.payload;
+      flit = flit_of d.kind (cond (starts_kind d.kind) o 0) d.payload;
     } ∷ []
 
 -- all of them, output by output
-abbrev pub departuresIn : Config → Reply → List (Departure Flit)
-departuresIn c r = each c.ports (λ o. departureIn o (departureOf (get_or r.outputs o (record { left = left.Nothing })).left))
+abbrev pub departures_in : Config → Reply → List (Departure Flit)
+departures_in c r = each c.ports (λ o. departure_in o (departure_of (get_or r.outputs o (record { left = left.Nothing })).left))
 
 -- the credit that the reply reports at input i
-abbrev pub reachedIn : ℕ → Option ℕ → List InVc
-reachedIn i none = []
-reachedIn i (some v) = record { input = i; vc = v } ∷ []
+abbrev pub reached_in : ℕ → Option ℕ → List InVc
+reached_in i none = []
+reached_in i (some v) = record { input = i; vc = v } ∷ []
 
--- The entry of an accepted cycle, its departures as the reply has them. The free router lists the same input by input (Entry.entry-is).
+-- The entry of an accepted cycle, its departures as the reply has them. The free router lists the same input by input (Entry.entry_is).
 unfoldable pub entry_of : Config → ℕ → List ℕ → Reply → Entry Flit
 entry_of c cycle part r =
     record {
       cycle = cycle;
-      offers = each c.ports (λ i. offerIn part i);
-      departures = departuresIn c r;
-      reached = each c.ports (λ i. reachedIn i (creditOf (get_or r.senders i (record { reached = reached.Nothing })).reached));
-      credits = each c.ports (λ o. creditsAt o (named (credit_at part o)));
+      offers = each c.ports (λ i. offer_in part i);
+      departures = departures_in c r;
+      reached = each c.ports (λ i. reached_in i (credit_of (get_or r.senders i (record { reached = reached.Nothing })).reached));
+      credits = each c.ports (λ o. credits_at o (named (credit_at part o)));
     }
 
 -- where a run has come to
@@ -80,4 +80,4 @@ run_from c r (part ∷ parts) = run_from c (cycled c r part) parts
 
 -- the run of a fresh router of configuration c through these parts, the first first
 unfoldable pub run_of : Config → List (List ℕ) → Ran
-run_of c parts = run_from c (record { router = freshRouter c; history = [] }) parts
+run_of c parts = run_from c (record { router = fresh_router c; history = [] }) parts

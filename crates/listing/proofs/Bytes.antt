@@ -6,30 +6,30 @@ use Prim.Native.Nat.{ℕ, ◌+◌, ◌≤◌, ◌<◌}
 use native.Mathlib.Omega.{arith}
 use lib.ListN.{length, length-drop}
 use Rattle.base.specs.declared.reply.Departure.{Departure}
-use Rattle.base.specs.Flit.{letterOf}
+use Rattle.base.specs.Flit.{letter_of}
 use Rattle.listing.specs.Digits.{decimal, hex}
 use Rattle.listing.specs.Inside.{Spelled}
 use Rattle.listing.specs.Lines.{credit, flit, finish, refusal, spaced, print}
-use Rattle.listing.proofs.Decimals.{decimal_digit, decimal-length}
+use Rattle.listing.proofs.Decimals.{decimal_digit, decimal_length}
 use Rattle.listing.proofs.Ranges.{FlitIn}
 
 -- a number of at most nine digits has a zero in front of the ten
-pub spelled-zero : {n zeros : ℕ} {digits : List ℕ} → Spelled n digits zeros → n < 1000000000 → 1 ≤ zeros
-spelled-zero {n} {zeros} {digits} s h =
-    omega (arith, s.ten, s.shown, ap length (s.stands (omega arith)), length-drop zeros digits, decimal-length 8 n h)
+pub spelled_zero : {n zeros : ℕ} {digits : List ℕ} → Spelled n digits zeros → n < 1000000000 → 1 ≤ zeros
+spelled_zero {n} {zeros} {digits} s h =
+    omega (arith, s.ten, s.shown, ap length (s.stands (omega arith)), length-drop zeros digits, decimal_length 8 n h)
 
-pub credit-bytes : (cycle input vc : ℕ) → input < 8 → vc < 4
+pub credit_bytes : (cycle input vc : ℕ) → input < 8 → vc < 4
     → (67 ∷ 32 ∷ decimal cycle) ++ (32 ∷ (48 + input) ∷ 32 ∷ (48 + vc) ∷ 10 ∷ []) ≡ print (credit cycle input vc)
 unfolding print spaced
-credit-bytes cycle input vc i v = rw (decimal_digit input (omega arith), decimal_digit vc (omega arith))
+credit_bytes cycle input vc i v = rw (decimal_digit input (omega arith), decimal_digit vc (omega arith))
 
-pub flit-bytes : (cycle output letter : ℕ) (d : Departure) → FlitIn cycle output d → letter ≡ letterOf d.kind
+pub flit_bytes : (cycle output letter : ℕ) (d : Departure) → FlitIn cycle output d → letter ≡ letter_of d.kind
     → (70 ∷ 32 ∷ decimal cycle)
     ++ ((32 ∷ (48 + output) ∷ 32 ∷ (48 + d.out_vc) ∷ 32 ∷ (48 + d.input) ∷ 32 ∷ (48 + d.vc) ∷ 32 ∷ letter ∷ 32 ∷ []) ++
     (hex d.payload ++ (10 ∷ [])))
     ≡ print (flit cycle output d)
 unfolding print spaced
-flit-bytes cycle output letter d x e =
+flit_bytes cycle output letter d x e =
     rw (
       e,
       decimal_digit output (omega arith),
@@ -38,13 +38,13 @@ flit-bytes cycle output letter d x e =
       decimal_digit d.vc (omega arith),
     )
 
-pub finish-bytes : (cycles flits : ℕ)
+pub finish_bytes : (cycles flits : ℕ)
     → (69 ∷ 32 ∷ []) ++ (decimal cycles ++ ((32 ∷ []) ++ (decimal flits ++ (10 ∷ [])))) ≡ print (finish cycles flits)
 unfolding print spaced
-finish-bytes cycles flits = refl
+finish_bytes cycles flits = refl
 
-pub refusal-bytes : (number cycle place : ℕ) → place ≤ 7
+pub refusal_bytes : (number cycle place : ℕ) → place ≤ 7
     → (82 ∷ 32 ∷ []) ++ (decimal number ++ ((32 ∷ []) ++ (decimal cycle ++ (32 ∷ (48 + place) ∷ 10 ∷ []))))
     ≡ print (refusal number cycle place)
 unfolding print spaced
-refusal-bytes number cycle place h = rw (decimal_digit place (omega arith))
+refusal_bytes number cycle place h = rw (decimal_digit place (omega arith))

@@ -11,70 +11,70 @@ use Rattle.base.specs.declared.reply.Departure.{Departure}
 use Rattle.base.specs.declared.reply.Left.TheVariants as left
 use Rattle.base.specs.declared.reply.Left.{Left}
 use Rattle.base.specs.declared.reply.Reply.{Reply}
-use Rattle.base.specs.Sizes.{mostPorts}
-use Rattle.listing.specs.Lines.{Line, credit, flit, finish, refusal, byPort, creditLine, flitLine, cycleLines, flitLines}
-use Rattle.listing.proofs.Ports.{ports-more}
+use Rattle.base.specs.Sizes.{most_ports}
+use Rattle.listing.specs.Lines.{Line, credit, flit, finish, refusal, by_port, credit_line, flit_line, cycle_lines, flit_lines}
+use Rattle.listing.proofs.Ports.{ports_more}
 
-pub flit-lines-append : (a b : List Line) → flitLines (a ++ b) ≡ flitLines a + flitLines b
-unfolding flitLines
-flit-lines-append [] b = omega arith
-flit-lines-append (credit cycle input vc ∷ a) b = flit-lines-append a b
-flit-lines-append (flit cycle output d ∷ a) b = let e = flit-lines-append a b in omega (arith, e)
-flit-lines-append (finish cycles flits ∷ a) b = flit-lines-append a b
-flit-lines-append (refusal number cycle place ∷ a) b = flit-lines-append a b
+pub flit_lines_append : (a b : List Line) → flit_lines (a ++ b) ≡ flit_lines a + flit_lines b
+unfolding flit_lines
+flit_lines_append [] b = omega arith
+flit_lines_append (credit cycle input vc ∷ a) b = flit_lines_append a b
+flit_lines_append (flit cycle output d ∷ a) b = let e = flit_lines_append a b in omega (arith, e)
+flit_lines_append (finish cycles flits ∷ a) b = flit_lines_append a b
+flit_lines_append (refusal number cycle place ∷ a) b = flit_lines_append a b
 
 -- one port more
-pub flit-lines-more : (f : ℕ → List Line) (n : ℕ) → flitLines (byPort f (n + 1)) ≡ flitLines (byPort f n) + flitLines (f n)
-flit-lines-more f n = ap flitLines (ports-more f n) ∙ flit-lines-append (byPort f n) (f n)
+pub flit_lines_more : (f : ℕ → List Line) (n : ℕ) → flit_lines (by_port f (n + 1)) ≡ flit_lines (by_port f n) + flit_lines (f n)
+flit_lines_more f n = ap flit_lines (ports_more f n) ∙ flit_lines_append (by_port f n) (f n)
 
 module _ (cycle : ℕ) (reply : Reply) where
-  abbrev reachedAt : ℕ → Reached
-  reachedAt i = (get_or reply.senders i (record { reached = reached.Nothing })).reached
+  abbrev reached_at : ℕ → Reached
+  reached_at i = (get_or reply.senders i (record { reached = reached.Nothing })).reached
 
   abbrev left_at : ℕ → Left
   left_at o = (get_or reply.outputs o (record { left = left.Nothing })).left
 
   -- a C line is none
-  credit-none : (i : ℕ) → flitLines (creditLine cycle reply i) ≡ 0
-  unfolding creditLine flitLines
-  credit-none i = go (reachedAt i) refl
+  credit_none : (i : ℕ) → flit_lines (credit_line cycle reply i) ≡ 0
+  unfolding credit_line flit_lines
+  credit_none i = go (reached_at i) refl
     where
-      go : (r : Reached) → reachedAt i ≡ r → flitLines (creditLine cycle reply i) ≡ 0
+      go : (r : Reached) → reached_at i ≡ r → flit_lines (credit_line cycle reply i) ≡ 0
       go reached.Nothing e = rw e
       go (reached.Vc v) e = rw e
 
   -- an output without a flit has none, one with a flit has one
-  pub flit-none : (o : ℕ) → left_at o ≡ left.Nothing → flitLines (flitLine cycle reply o) ≡ 0
-  unfolding flitLine flitLines
-  flit-none o e = rw e
+  pub flit_none : (o : ℕ) → left_at o ≡ left.Nothing → flit_lines (flit_line cycle reply o) ≡ 0
+  unfolding flit_line flit_lines
+  flit_none o e = rw e
 
-  pub flit-one : (o : ℕ) (d : Departure) → left_at o ≡ left.Flit d → flitLines (flitLine cycle reply o) ≡ 1
-  unfolding flitLine flitLines
-  flit-one o d e = rw e
+  pub flit_one : (o : ℕ) (d : Departure) → left_at o ≡ left.Flit d → flit_lines (flit_line cycle reply o) ≡ 1
+  unfolding flit_line flit_lines
+  flit_one o d e = rw e
 
-  pub flit-most : (o : ℕ) → flitLines (flitLine cycle reply o) ≤ 1
-  flit-most o = go (left_at o) refl
+  pub flit_most : (o : ℕ) → flit_lines (flit_line cycle reply o) ≤ 1
+  flit_most o = go (left_at o) refl
     where
-      go : (l : Left) → left_at o ≡ l → flitLines (flitLine cycle reply o) ≤ 1
-      go left.Nothing e = let n = flit-none o e in omega (arith, n)
-      go (left.Flit d) e = let n = flit-one o d e in omega (arith, n)
+      go : (l : Left) → left_at o ≡ l → flit_lines (flit_line cycle reply o) ≤ 1
+      go left.Nothing e = let n = flit_none o e in omega (arith, n)
+      go (left.Flit d) e = let n = flit_one o d e in omega (arith, n)
 
-  credits-none : (n : ℕ) → flitLines (byPort (creditLine cycle reply) n) ≡ 0
-  unfolding byPort flitLines
-  credits-none zero = refl
-  credits-none (suc n) = let e = flit-lines-append (byPort (creditLine cycle reply) n) (creditLine cycle reply n) in
-      let f = credits-none n in let g = credit-none n in omega (arith, e, f, g)
+  credits_none : (n : ℕ) → flit_lines (by_port (credit_line cycle reply) n) ≡ 0
+  unfolding by_port flit_lines
+  credits_none zero = refl
+  credits_none (suc n) = let e = flit_lines_append (by_port (credit_line cycle reply) n) (credit_line cycle reply n) in
+      let f = credits_none n in let g = credit_none n in omega (arith, e, f, g)
 
-  pub flits-most : (n : ℕ) → flitLines (byPort (flitLine cycle reply) n) ≤ n
-  unfolding byPort flitLines
-  flits-most zero = omega arith
-  flits-most (suc n) = let e = flit-lines-append (byPort (flitLine cycle reply) n) (flitLine cycle reply n) in let f = flits-most n in
-      let g = flit-most n in omega (arith, e, f, g)
+  pub flits_most : (n : ℕ) → flit_lines (by_port (flit_line cycle reply) n) ≤ n
+  unfolding by_port flit_lines
+  flits_most zero = omega arith
+  flits_most (suc n) = let e = flit_lines_append (by_port (flit_line cycle reply) n) (flit_line cycle reply n) in let f = flits_most n in
+      let g = flit_most n in omega (arith, e, f, g)
 
   -- of a cycle's lines only those of the outputs count
-  pub cycle-flit-lines : flitLines (cycleLines cycle reply) ≡ flitLines (byPort (flitLine cycle reply) mostPorts)
-  unfolding cycleLines
-  cycle-flit-lines =
-      flit-lines-append (byPort (creditLine cycle reply) mostPorts) (byPort (flitLine cycle reply) mostPorts)
-      ∙ ap (λ (n : ℕ). n + flitLines (byPort (flitLine cycle reply) mostPorts)) (credits-none mostPorts)
-      ∙ (let n = flitLines (byPort (flitLine cycle reply) mostPorts) in omega arith)
+  pub cycle_flit_lines : flit_lines (cycle_lines cycle reply) ≡ flit_lines (by_port (flit_line cycle reply) most_ports)
+  unfolding cycle_lines
+  cycle_flit_lines =
+      flit_lines_append (by_port (credit_line cycle reply) most_ports) (by_port (flit_line cycle reply) most_ports)
+      ∙ ap (λ (n : ℕ). n + flit_lines (by_port (flit_line cycle reply) most_ports)) (credits_none most_ports)
+      ∙ (let n = flit_lines (by_port (flit_line cycle reply) most_ports) in omega arith)

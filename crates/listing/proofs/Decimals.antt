@@ -12,47 +12,47 @@ use lib.Dec.{ltb, lit≤}
 use lib.ListN.{length, drop, set, length-append, drop_of_length-le}
 use lib.Seq.{sets, drop-append-le}
 use borrow.Author.Tests.{ltb-true, ltb-false, lt-ltb, le-ltb}
-use Rattle.listing.specs.Digits.{glyph, unless, decimalWithin, decimal, lastDigits, hex}
+use Rattle.listing.specs.Digits.{glyph, unless, decimal_within, decimal, last_digits, hex}
 use Rattle.listing.specs.Inside.{Laid, Spelled}
-use Rattle.listing.proofs.Stores.{stores, stores-from}
+use Rattle.listing.proofs.Stores.{stores, stores_from}
 
 -- a decimal digit is 48 and its value
-pub glyph-low : (d : ℕ) → d < 10 → glyph d ≡ 48 + d
+pub glyph_low : (d : ℕ) → d < 10 → glyph d ≡ 48 + d
 unfolding glyph
-glyph-low d h = ap (λ (b : Bool). cond b (48 + d) (87 + d)) (lt-ltb d 10 h)
+glyph_low d h = ap (λ (b : Bool). cond b (48 + d) (87 + d)) (lt-ltb d 10 h)
 
 -- `0` to `9`, then `a` to `f`, by arithmetic
-pub glyph-sum : (d : ℕ) → d < 16 → 48 + d + (d + 6) / 16 * 39 ≡ glyph d
+pub glyph_sum : (d : ℕ) → d < 16 → 48 + d + (d + 6) / 16 * 39 ≡ glyph d
 unfolding glyph
-glyph-sum d h = go (ltb d 10) refl
+glyph_sum d h = go (ltb d 10) refl
   where
     go : (b : Bool) → ltb d 10 ≡ b → 48 + d + (d + 6) / 16 * 39 ≡ cond b (48 + d) (87 + d)
     go true e = let l = ltb-true d 10 e in omega arith
     go false e = let l = ltb-false d 10 e in omega arith
 
 -- enough digits are enough
-within_same : (k j n : ℕ) → n < k → n < j → decimalWithin k n ≡ decimalWithin j n
-unfolding decimalWithin
+within_same : (k j n : ℕ) → n < k → n < j → decimal_within k n ≡ decimal_within j n
+unfolding decimal_within
 within_same zero j n h g = absurd (not-suc-le-zero h)
 within_same (suc k) zero n h g = absurd (not-suc-le-zero g)
 within_same (suc k) (suc j) n h g = go (ltb n 10) refl (λ (l : 10 ≤ n). within_same k j (n / 10) (omega arith) (omega arith))
   where
-    go : (b : Bool) → ltb n 10 ≡ b → (10 ≤ n → decimalWithin k (n / 10) ≡ decimalWithin j (n / 10))
-        → unless b (λ u. decimalWithin k (n / 10)) ++ (glyph (n % 10) ∷ [])
-        ≡ unless b (λ u. decimalWithin j (n / 10)) ++ (glyph (n % 10) ∷ [])
+    go : (b : Bool) → ltb n 10 ≡ b → (10 ≤ n → decimal_within k (n / 10) ≡ decimal_within j (n / 10))
+        → unless b (λ u. decimal_within k (n / 10)) ++ (glyph (n % 10) ∷ [])
+        ≡ unless b (λ u. decimal_within j (n / 10)) ++ (glyph (n % 10) ∷ [])
     go true e same = refl
     go false e same = ap (λ (ds : List ℕ). ds ++ (glyph (n % 10) ∷ [])) (same (ltb-false n 10 e))
 
 -- a number below 10 is one digit
 pub decimal_digit : (n : ℕ) → n < 10 → decimal n ≡ (48 + n) ∷ []
-unfolding decimal decimalWithin
+unfolding decimal decimal_within
 decimal_digit n h =
-    rw (lt-ltb n 10 h) (ap (λ (d : ℕ). d ∷ []) (ap glyph (mod-eq_of_lt h) ∙ glyph-low n h))
+    rw (lt-ltb n 10 h) (ap (λ (d : ℕ). d ∷ []) (ap glyph (mod-eq_of_lt h) ∙ glyph_low n h))
 
 -- any other is the digits of its tenth, and one more
-pub decimal-more : (n : ℕ) → 10 ≤ n → decimal n ≡ decimal (n / 10) ++ (glyph (n % 10) ∷ [])
-unfolding decimal decimalWithin
-decimal-more n h =
+pub decimal_more : (n : ℕ) → 10 ≤ n → decimal n ≡ decimal (n / 10) ++ (glyph (n % 10) ∷ [])
+unfolding decimal decimal_within
+decimal_more n h =
     rw (le-ltb n 10 h) (ap (λ (ds : List ℕ). ds ++ (glyph (n % 10) ∷ []))
     (within_same n (suc (n / 10)) (n / 10) (omega arith) (omega arith)))
 
@@ -61,88 +61,88 @@ pow_pos zero = lit≤ tt
 pow_pos (suc k) = omega (arith, pow-suc 10 k, pow_pos k)
 
 -- a number of k + 1 digits has just those
-pub decimal-last : (k n : ℕ) → n < 10 ^ suc k → (k ≡ 0) ⊎ (10 ^ k ≤ n) → decimal n ≡ lastDigits 10 (suc k) n
-unfolding lastDigits
-decimal-last zero n h low =
+pub decimal_last : (k n : ℕ) → n < 10 ^ suc k → (k ≡ 0) ⊎ (10 ^ k ≤ n) → decimal n ≡ last_digits 10 (suc k) n
+unfolding last_digits
+decimal_last zero n h low =
     let small : n < 10 = h in
-    decimal_digit n small ∙ sym (ap (λ (d : ℕ). d ∷ []) (ap glyph (mod-eq_of_lt small) ∙ glyph-low n small))
-decimal-last (suc k) n h (inl e) = absurd (omega arith)
-decimal-last (suc k) n h (inr l) =
+    decimal_digit n small ∙ sym (ap (λ (d : ℕ). d ∷ []) (ap glyph (mod-eq_of_lt small) ∙ glyph_low n small))
+decimal_last (suc k) n h (inl e) = absurd (omega arith)
+decimal_last (suc k) n h (inr l) =
     let p = pow-suc 10 k in
     let q = pow-suc 10 (suc k) in
     let ten : 10 ≤ n = omega (arith, pow_pos k) in
-    decimal-more n ten ∙ ap (λ (ds : List ℕ). ds ++ (glyph (n % 10) ∷ [])) (decimal-last k (n / 10) (omega arith) (inr (omega arith)))
+    decimal_more n ten ∙ ap (λ (ds : List ℕ). ds ++ (glyph (n % 10) ∷ [])) (decimal_last k (n / 10) (omega arith) (inr (omega arith)))
 
 -- no decimal is longer than its bound's
-pub decimal-length : (k n : ℕ) → n < 10 ^ suc k → length (decimal n) ≤ suc k
-decimal-length zero n h = let e : length (decimal n) ≡ 1 = ap length (decimal_digit n h) in omega arith
-decimal-length (suc k) n h = go (ltb n 10) refl (λ (l : 10 ≤ n). decimal-length k (n / 10) (omega (arith, pow-suc 10 (suc k))))
+pub decimal_length : (k n : ℕ) → n < 10 ^ suc k → length (decimal n) ≤ suc k
+decimal_length zero n h = let e : length (decimal n) ≡ 1 = ap length (decimal_digit n h) in omega arith
+decimal_length (suc k) n h = go (ltb n 10) refl (λ (l : 10 ≤ n). decimal_length k (n / 10) (omega (arith, pow-suc 10 (suc k))))
   where
     go : (b : Bool) → ltb n 10 ≡ b → (10 ≤ n → length (decimal (n / 10)) ≤ suc k) → length (decimal n) ≤ suc (suc k)
     go true e shorter = let s : length (decimal n) ≡ 1 = ap length (decimal_digit n (ltb-true n 10 e)) in omega arith
     go false e shorter =
         let l = ltb-false n 10 e in
-        let m : length (decimal n) ≡ length (decimal (n / 10)) + 1 = ap length (decimal-more n l)
+        let m : length (decimal n) ≡ length (decimal (n / 10)) + 1 = ap length (decimal_more n l)
         ∙ length-append (decimal (n / 10)) (glyph (n % 10) ∷ []) in
         omega (arith, shorter l)
 
 -- the last k digits are k
-pub last-length : (b k n : ℕ) → length (lastDigits b k n) ≡ k
-unfolding lastDigits
-last-length b zero n = refl
-last-length b (suc k) n =
-    length-append (lastDigits b k (n / b)) (glyph (n % b) ∷ []) ∙ ap (λ (m : ℕ). m + 1) (last-length b k (n / b)) ∙ add-one k
+pub last_length : (b k n : ℕ) → length (last_digits b k n) ≡ k
+unfolding last_digits
+last_length b zero n = refl
+last_length b (suc k) n =
+    length-append (last_digits b k (n / b)) (glyph (n % b) ∷ []) ∙ ap (λ (m : ℕ). m + 1) (last_length b k (n / b)) ∙ add-one k
 
 -- without the first j of them there are the others
-pub last-drop : (b j k n : ℕ) → drop j (lastDigits b (j + k) n) ≡ lastDigits b k n
-unfolding lastDigits
-last-drop b j zero n = drop_of_length-le (lastDigits b (j + 0) n) {i = j} (omega (arith, last-length b (j + 0) n))
-last-drop b j (suc k) n =
-    ap (λ (m : ℕ). drop j (lastDigits b m n)) (add-suc j k)
-    ∙ drop-append-le j (lastDigits b (j + k) (n / b)) (glyph (n % b) ∷ []) (omega (arith, last-length b (j + k) (n / b)))
-    ∙ ap (λ (ds : List ℕ). ds ++ (glyph (n % b) ∷ [])) (last-drop b j k (n / b))
+pub last_drop : (b j k n : ℕ) → drop j (last_digits b (j + k) n) ≡ last_digits b k n
+unfolding last_digits
+last_drop b j zero n = drop_of_length-le (last_digits b (j + 0) n) {i = j} (omega (arith, last_length b (j + 0) n))
+last_drop b j (suc k) n =
+    ap (λ (m : ℕ). drop j (last_digits b m n)) (add-suc j k)
+    ∙ drop-append-le j (last_digits b (j + k) (n / b)) (glyph (n % b) ∷ []) (omega (arith, last_length b (j + k) (n / b)))
+    ∙ ap (λ (ds : List ℕ). ds ++ (glyph (n % b) ∷ [])) (last_drop b j k (n / b))
 
 -- a number of k + 1 digits is spelled by ten of which j lead
 pub spelled_by : (k j n : ℕ) → j + suc k ≡ 10 → (n < 10000000000 → n < 10 ^ suc k) → (k ≡ 0) ⊎ (10 ^ k ≤ n)
-    → Spelled n (lastDigits 10 10 n) j
+    → Spelled n (last_digits 10 10 n) j
 spelled_by k j n e h low =
     record {
-      ten = last-length 10 10 n;
+      ten = last_length 10 10 n;
       shown = omega arith;
-      stands = λ g. ap (λ (m : ℕ). drop j (lastDigits 10 m n)) (sym e) ∙ last-drop 10 j (suc k) n ∙ sym (decimal-last k n (h g) low);
+      stands = λ g. ap (λ (m : ℕ). drop j (last_digits 10 m n)) (sym e) ∙ last_drop 10 j (suc k) n ∙ sym (decimal_last k n (h g) low);
     }
 
 -- a decimal digit by arithmetic
-pub glyph-mod : (x : ℕ) → glyph (x % 10) ≡ 48 + x % 10
-glyph-mod x = glyph-low (x % 10) (omega arith)
+pub glyph_mod : (x : ℕ) → glyph (x % 10) ≡ 48 + x % 10
+glyph_mod x = glyph_low (x % 10) (omega arith)
 
 -- the ten digits, each by one division
-pub ten-digits : (n : ℕ) →
+pub ten_digits : (n : ℕ) →
     (48 + n / 1000000000 % 10) ∷ (48 + n / 100000000 % 10) ∷ (48 + n / 10000000 % 10) ∷ (48 + n / 1000000 % 10) ∷ (48 + n / 100000 % 10)
-    ∷ (48 + n / 10000 % 10) ∷ (48 + n / 1000 % 10) ∷ (48 + n / 100 % 10) ∷ (48 + n / 10 % 10) ∷ (48 + n % 10) ∷ [] ≡ lastDigits 10 10 n
-unfolding lastDigits
-ten-digits n = simp (div-div-eq-div-mul, glyph-mod)
+    ∷ (48 + n / 10000 % 10) ∷ (48 + n / 1000 % 10) ∷ (48 + n / 100 % 10) ∷ (48 + n / 10 % 10) ∷ (48 + n % 10) ∷ [] ≡ last_digits 10 10 n
+unfolding last_digits
+ten_digits n = simp (div-div-eq-div-mul, glyph_mod)
 
 -- the eight hex digits, each by one division
-pub eight-digits : (n : ℕ) →
+pub eight_digits : (n : ℕ) →
     glyph (n / 268435456 % 16) ∷ glyph (n / 16777216 % 16) ∷ glyph (n / 1048576 % 16) ∷ glyph (n / 65536 % 16) ∷ glyph (n / 4096 % 16)
     ∷ glyph (n / 256 % 16) ∷ glyph (n / 16 % 16) ∷ glyph (n % 16) ∷ [] ≡ hex n
-unfolding hex lastDigits
-eight-digits n = simp div-div-eq-div-mul
+unfolding hex last_digits
+eight_digits n = simp div-div-eq-div-mul
 
 -- stored one by one they are the eight
-pub hex-laid : (l : List ℕ) (p n a b c d e f g h : ℕ) → a ≡ glyph (n / 268435456 % 16) → b ≡ glyph (n / 16777216 % 16) → c
+pub hex_laid : (l : List ℕ) (p n a b c d e f g h : ℕ) → a ≡ glyph (n / 268435456 % 16) → b ≡ glyph (n / 16777216 % 16) → c
     ≡ glyph (n / 1048576 % 16)
     → d ≡ glyph (n / 65536 % 16) → e ≡ glyph (n / 4096 % 16) → f ≡ glyph (n / 256 % 16) → g ≡ glyph (n / 16 % 16) → h ≡ glyph (n % 16)
     → Laid l p (hex n) (stores (set l p a) p 1 (b ∷ c ∷ d ∷ e ∷ f ∷ g ∷ h ∷ [])) (p + 8)
 unfolding hex
-hex-laid l p n a b c d e f g h ea eb ec ed ee ef eg eh =
-    let same : a ∷ b ∷ c ∷ d ∷ e ∷ f ∷ g ∷ h ∷ [] ≡ lastDigits 16 8 n = rw (ea, eb, ec, ed, ee, ef, eg, eh) (eight-digits n) in
+hex_laid l p n a b c d e f g h ea eb ec ed ee ef eg eh =
+    let same : a ∷ b ∷ c ∷ d ∷ e ∷ f ∷ g ∷ h ∷ [] ≡ last_digits 16 8 n = rw (ea, eb, ec, ed, ee, ef, eg, eh) (eight_digits n) in
     record {
-      stored = stores-from l p a (b ∷ c ∷ d ∷ e ∷ f ∷ g ∷ h ∷ []) ∙ ap (sets l p) same;
-      ahead = ap (λ (k : ℕ). p + k) (sym (last-length 16 8 n));
+      stored = stores_from l p a (b ∷ c ∷ d ∷ e ∷ f ∷ g ∷ h ∷ []) ∙ ap (sets l p) same;
+      ahead = ap (λ (k : ℕ). p + k) (sym (last_length 16 8 n));
     }
 
-pub hex-length : (n : ℕ) → length (hex n) ≡ 8
+pub hex_length : (n : ℕ) → length (hex n) ≡ 8
 unfolding hex
-hex-length n = last-length 16 8 n
+hex_length n = last_length 16 8 n

@@ -11,10 +11,10 @@ use lib.Dec.{leb, ltb}
 use lib.ListN.{length, take, drop, length-append}
 use lib.Seq.{take_at, drop_at, length-take-le}
 use borrow.Author.Tests.{leb-false, lt-leb, ltb-true, ltb-false}
-use Rattle.base.specs.Numbers.{done, noRoom, outOfRange, room}
+use Rattle.base.specs.Numbers.{done, no_room, out_of_range, room}
 use Rattle.base.specs.Sizes.{Field, in_range}
-use Rattle.listing.specs.Lines.{Line, values_of, allInRange, text, printable}
-use Rattle.listing.specs.Writing.{WriteOutcome, put, lacksRoom, refusedWith, written, Outside}
+use Rattle.listing.specs.Lines.{Line, values_of, all_in_range, text, printable}
+use Rattle.listing.specs.Writing.{WriteOutcome, put, lacks_room, refused_with, written, Outside}
 
 -- one value out of its range
 field_out : (f : Field) → in_range f ≡ false → (f.value < f.least) ⊎ (f.most < f.value)
@@ -27,10 +27,10 @@ field_out f e = go (leb f.least f.value) refl (leb f.value f.most) refl e
     go true ea false eb e = inr (leb-false f.value f.most eb)
     go false ea b eb e = inl (leb-false f.least f.value ea)
 
-out-field : (f : Field) → (f.value < f.least) ⊎ (f.most < f.value) → in_range f ≡ false
+out_field : (f : Field) → (f.value < f.least) ⊎ (f.most < f.value) → in_range f ≡ false
 unfolding in_range
-out-field f (inl h) = ap (λ (a : Bool). a && leb f.value f.most) (lt-leb f.least f.value h)
-out-field f (inr h) = ap (λ (b : Bool). leb f.least f.value && b) (lt-leb f.value f.most h)
+out_field f (inl h) = ap (λ (a : Bool). a && leb f.value f.most) (lt-leb f.least f.value h)
+out_field f (inr h) = ap (λ (b : Bool). leb f.least f.value && b) (lt-leb f.value f.most h)
     ∙ and-false (leb f.least f.value)
 
 -- among some values
@@ -39,58 +39,58 @@ pub record OutAmong (fs : List Field) : Type 0 where
   pub held : Memᴰ value fs
   pub out : (value.value < value.least) ⊎ (value.most < value.value)
 
-values-out : (fs : List Field) → allInRange fs ≡ false → OutAmong fs
-unfolding allInRange
-values-out [] e = absurd (true≢false e)
-values-out (f ∷ fs) e = go (in_range f) refl e (λ (g : allInRange fs ≡ false). values-out fs g)
+values_out : (fs : List Field) → all_in_range fs ≡ false → OutAmong fs
+unfolding all_in_range
+values_out [] e = absurd (true≢false e)
+values_out (f ∷ fs) e = go (in_range f) refl e (λ (g : all_in_range fs ≡ false). values_out fs g)
   where
-    go : (b : Bool) → in_range f ≡ b → (b && allInRange fs) ≡ false → (allInRange fs ≡ false → OutAmong fs) → OutAmong (f ∷ fs)
+    go : (b : Bool) → in_range f ≡ b → (b && all_in_range fs) ≡ false → (all_in_range fs ≡ false → OutAmong fs) → OutAmong (f ∷ fs)
     go true eb e more = let x = more e in record { value = x.value; held = Memᴰ.tail x.held; out = x.out }
     go false eb e more = record { value = f; held = Memᴰ.head refl; out = field_out f eb }
 
-out-values : (fs : List Field) (f : Field) → Memᴰ f fs → in_range f ≡ false → allInRange fs ≡ false
-unfolding allInRange
-out-values [] f m e = absurd (Memᴰ.not-nil m)
-out-values (g ∷ fs) f m e = go (Memᴰ.cases_cons m) (λ (n : Memᴰ f fs). out-values fs f n e)
+out_values : (fs : List Field) (f : Field) → Memᴰ f fs → in_range f ≡ false → all_in_range fs ≡ false
+unfolding all_in_range
+out_values [] f m e = absurd (Memᴰ.not-nil m)
+out_values (g ∷ fs) f m e = go (Memᴰ.cases_cons m) (λ (n : Memᴰ f fs). out_values fs f n e)
   where
-    go : (f ≡ g) ⊎ Memᴰ f fs → (Memᴰ f fs → allInRange fs ≡ false) → (in_range g && allInRange fs) ≡ false
-    go (inl same) more = ap (λ (b : Bool). b && allInRange fs) (ap in_range (sym same) ∙ e)
+    go : (f ≡ g) ⊎ Memᴰ f fs → (Memᴰ f fs → all_in_range fs ≡ false) → (in_range g && all_in_range fs) ≡ false
+    go (inl same) more = ap (λ (b : Bool). b && all_in_range fs) (ap in_range (sym same) ∙ e)
     go (inr n) more = ap (λ (b : Bool). in_range g && b) (more n) ∙ and-false (in_range g)
 
-lines-out : (ls : List Line) → printable ls ≡ false → Outside ls
+lines_out : (ls : List Line) → printable ls ≡ false → Outside ls
 unfolding printable
-lines-out [] e = absurd (true≢false e)
-lines-out (l ∷ ls) e = go (allInRange (values_of l)) refl e (λ (g : printable ls ≡ false). lines-out ls g)
+lines_out [] e = absurd (true≢false e)
+lines_out (l ∷ ls) e = go (all_in_range (values_of l)) refl e (λ (g : printable ls ≡ false). lines_out ls g)
   where
-    go : (b : Bool) → allInRange (values_of l) ≡ b → (b && printable ls) ≡ false → (printable ls ≡ false → Outside ls) → Outside (l ∷ ls)
+    go : (b : Bool) → all_in_range (values_of l) ≡ b → (b && printable ls) ≡ false → (printable ls ≡ false → Outside ls) → Outside (l ∷ ls)
     go true eb e more =
         let x = more e in
         record { line = x.line; among = Memᴰ.tail x.among; value = x.value; held = x.held; out = x.out }
     go false eb e more =
-        let x = values-out (values_of l) eb in
+        let x = values_out (values_of l) eb in
         record { line = l; among = Memᴰ.head refl; value = x.value; held = x.held; out = x.out }
 
-out-lines : (ls : List Line) (l : Line) → Memᴰ l ls → allInRange (values_of l) ≡ false → printable ls ≡ false
+out_lines : (ls : List Line) (l : Line) → Memᴰ l ls → all_in_range (values_of l) ≡ false → printable ls ≡ false
 unfolding printable
-out-lines [] l m e = absurd (Memᴰ.not-nil m)
-out-lines (k ∷ ls) l m e = go (Memᴰ.cases_cons m) (λ (n : Memᴰ l ls). out-lines ls l n e)
+out_lines [] l m e = absurd (Memᴰ.not-nil m)
+out_lines (k ∷ ls) l m e = go (Memᴰ.cases_cons m) (λ (n : Memᴰ l ls). out_lines ls l n e)
   where
-    go : (l ≡ k) ⊎ Memᴰ l ls → (Memᴰ l ls → printable ls ≡ false) → (allInRange (values_of k) && printable ls) ≡ false
-    go (inl same) more = ap (λ (b : Bool). b && printable ls) (ap (λ (x : Line). allInRange (values_of x)) (sym same) ∙ e)
-    go (inr n) more = ap (λ (b : Bool). allInRange (values_of k) && b) (more n) ∙ and-false (allInRange (values_of k))
+    go : (l ≡ k) ⊎ Memᴰ l ls → (Memᴰ l ls → printable ls ≡ false) → (all_in_range (values_of k) && printable ls) ≡ false
+    go (inl same) more = ap (λ (b : Bool). b && printable ls) (ap (λ (x : Line). all_in_range (values_of x)) (sym same) ∙ e)
+    go (inr n) more = ap (λ (b : Bool). all_in_range (values_of k) && b) (more n) ∙ and-false (all_in_range (values_of k))
 
 -- lines are not printable exactly when some value of theirs is outside its range
-pub outside-is : (ls : List Line) → (printable ls ≡ false) ↔ Outside ls
-outside-is ls = (
-  lines-out ls,
-  λ x. out-lines ls x.line x.among (out-values (values_of x.line) x.value x.held
-      (out-field x.value x.out)),
+pub outside_is : (ls : List Line) → (printable ls ≡ false) ↔ Outside ls
+outside_is ls = (
+  lines_out ls,
+  λ x. out_lines ls x.line x.among (out_values (values_of x.line) x.value x.held
+      (out_field x.value x.out)),
 )
 
 -- room is lacking exactly when fewer than 376 bytes lie from the place on, as of every place past the end
-pub lacks-is : (l : List ℕ) (p : ℕ) → (lacksRoom l p ≡ true) ↔ (length l < p + room)
-unfolding lacksRoom
-lacks-is l p = (to (ltb (length l) p) refl (ltb (length l - p) room) refl, from (ltb (length l) p) refl (ltb (length l - p) room) refl)
+pub lacks_is : (l : List ℕ) (p : ℕ) → (lacks_room l p ≡ true) ↔ (length l < p + room)
+unfolding lacks_room
+lacks_is l p = (to (ltb (length l) p) refl (ltb (length l - p) room) refl, from (ltb (length l) p) refl (ltb (length l - p) room) refl)
   where
     to : (a : Bool) → ltb (length l) p ≡ a → (b : Bool) → ltb (length l - p) room ≡ b → (a || b) ≡ true → length l < p + room
     to true ea b eb e = omega (arith, ltb-true (length l) p ea)
@@ -104,45 +104,45 @@ lacks-is l p = (to (ltb (length l) p) refl (ltb (length l - p) room) refl, from 
 
 module _ (l : List ℕ) (p : ℕ) (ls : List Line) where
   -- what a write comes to, by its two tests
-  by_tests : (P : WriteOutcome → Type 0) → (Outside ls → P (refusedWith outOfRange l))
-      → ((Outside ls → ⊥) → length l < p + room → P (refusedWith noRoom l))
+  by_tests : (P : WriteOutcome → Type 0) → (Outside ls → P (refused_with out_of_range l))
+      → ((Outside ls → ⊥) → length l < p + room → P (refused_with no_room l))
       → ((Outside ls → ⊥) → p + room ≤ length l → P (record { number = done; bytes = length (text ls); buffer = put l p (text ls) }))
       → P (written l p ls)
   unfolding written
-  by_tests P out full good = go (printable ls) refl (lacksRoom l p) refl
+  by_tests P out full good = go (printable ls) refl (lacks_room l p) refl
     where
       fine : printable ls ≡ true → Outside ls → ⊥
-      fine e x = true≢false (sym e ∙ (outside-is ls).1 x)
+      fine e x = true≢false (sym e ∙ (outside_is ls).1 x)
 
-      go : (a : Bool) → printable ls ≡ a → (b : Bool) → lacksRoom l p ≡ b
-          → P (cond a (cond b (refusedWith noRoom l) (record { number = done; bytes = length (text ls); buffer = put l p (text ls) }))
-          (refusedWith outOfRange l))
-      go false ea b eb = out ((outside-is ls).0 ea)
-      go true ea true eb = full (fine ea) ((lacks-is l p).0 eb)
+      go : (a : Bool) → printable ls ≡ a → (b : Bool) → lacks_room l p ≡ b
+          → P (cond a (cond b (refused_with no_room l) (record { number = done; bytes = length (text ls); buffer = put l p (text ls) }))
+          (refused_with out_of_range l))
+      go false ea b eb = out ((outside_is ls).0 ea)
+      go true ea true eb = full (fine ea) ((lacks_is l p).0 eb)
       go true ea false eb = good (fine ea) (room_of (ltb (length l) (p + room)) refl)
         where
           room_of : (t : Bool) → ltb (length l) (p + room) ≡ t → p + room ≤ length l
-          room_of true et = absurd (true≢false (sym ((lacks-is l p).1 (ltb-true (length l) (p + room) et)) ∙ eb))
+          room_of true et = absurd (true≢false (sym ((lacks_is l p).1 (ltb-true (length l) (p + room) et)) ∙ eb))
           room_of false et = ltb-false (length l) (p + room) et
 
   -- 12 comes exactly when some value of the lines is outside its range
-  pub twelve-exactly : ((written l p ls).number ≡ outOfRange) ↔ Outside ls
-  twelve-exactly =
-      by_tests (λ (o : WriteOutcome). (o.number ≡ outOfRange) ↔ Outside ls) (λ x. (λ e. x, λ y. refl))
+  pub twelve_exactly : ((written l p ls).number ≡ out_of_range) ↔ Outside ls
+  twelve_exactly =
+      by_tests (λ (o : WriteOutcome). (o.number ≡ out_of_range) ↔ Outside ls) (λ x. (λ e. x, λ y. refl))
       (λ fine h. (λ e. absurd (omega arith), λ x. absurd (fine x)))
       (λ fine h. (λ e. absurd (omega arith), λ x. absurd (fine x)))
 
   -- 11 exactly when none is and fewer than 376 bytes lie from the place on
-  pub eleven-exactly : ((written l p ls).number ≡ noRoom) ↔ ((Outside ls → ⊥) × (length l < p + room))
-  eleven-exactly =
-      by_tests (λ (o : WriteOutcome). (o.number ≡ noRoom) ↔ ((Outside ls → ⊥) × (length l < p + room)))
+  pub eleven_exactly : ((written l p ls).number ≡ no_room) ↔ ((Outside ls → ⊥) × (length l < p + room))
+  eleven_exactly =
+      by_tests (λ (o : WriteOutcome). (o.number ≡ no_room) ↔ ((Outside ls → ⊥) × (length l < p + room)))
       (λ x. (λ e. absurd (omega arith), λ y. absurd (y.0 x)))
       (λ fine h. (λ e. (fine, h), λ y. refl))
       (λ fine h. (λ e. absurd (omega arith), λ y. absurd (omega (arith, y.1))))
 
   -- a refused write reports 0 bytes and leaves the buffer
-  pub refused-leaves : ((written l p ls).number ≡ done → ⊥) → ((written l p ls).bytes ≡ 0) × ((written l p ls).buffer ≡ l)
-  refused-leaves =
+  pub refused_leaves : ((written l p ls).number ≡ done → ⊥) → ((written l p ls).bytes ≡ 0) × ((written l p ls).buffer ≡ l)
+  refused_leaves =
       by_tests (λ (o : WriteOutcome). (o.number ≡ done → ⊥) → (o.bytes ≡ 0) × (o.buffer ≡ l)) (λ x failed. (refl, refl))
       (λ fine h failed. (refl, refl)) (λ fine h failed. absurd (failed refl))
 
@@ -151,18 +151,18 @@ module _ (l bs : List ℕ) (p : ℕ) (fits : p + length bs ≤ length l) where
   front : length (take p l) ≡ p
   front = length-take-le p l (omega arith)
 
-  pub put-before : take p (put l p bs) ≡ take p l
+  pub put_before : take p (put l p bs) ≡ take p l
   unfolding put
-  put-before = ap (take p) (append_assoc (take p l) bs (drop (p + length bs) l)) ∙ take_at (take p l) (bs ++ drop (p + length bs) l) p front
+  put_before = ap (take p) (append_assoc (take p l) bs (drop (p + length bs) l)) ∙ take_at (take p l) (bs ++ drop (p + length bs) l) p front
 
-  pub put-there : take (length bs) (drop p (put l p bs)) ≡ bs
+  pub put_there : take (length bs) (drop p (put l p bs)) ≡ bs
   unfolding put
-  put-there =
+  put_there =
       ap (λ (k : List ℕ). take (length bs) (drop p k)) (append_assoc (take p l) bs (drop (p + length bs) l))
       ∙ ap (take (length bs)) (drop_at (take p l) (bs ++ drop (p + length bs) l) p front)
       ∙ take_at bs (drop (p + length bs) l) (length bs) refl
 
-  pub put-after : drop (p + length bs) (put l p bs) ≡ drop (p + length bs) l
+  pub put_after : drop (p + length bs) (put l p bs) ≡ drop (p + length bs) l
   unfolding put
-  put-after = drop_at (take p l ++ bs) (drop (p + length bs) l) (p + length bs)
+  put_after = drop_at (take p l ++ bs) (drop (p + length bs) l) (p + length bs)
       (length-append (take p l) bs ∙ ap (λ (k : ℕ). k + length bs) front)

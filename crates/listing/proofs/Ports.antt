@@ -15,25 +15,25 @@ use Rattle.base.specs.declared.reply.Reached.TheVariants as reached
 use Rattle.base.specs.declared.reply.Departure.{Departure}
 use Rattle.base.specs.declared.reply.Left.TheVariants as left
 use Rattle.base.specs.declared.reply.Reply.{Reply}
-use Rattle.listing.specs.Lines.{Line, credit, flit, values_of, allInRange, printable, print, text, byPort, creditLine, flitLine}
-use Rattle.listing.specs.Lines.{cycleLines}
+use Rattle.listing.specs.Lines.{Line, credit, flit, values_of, all_in_range, printable, print, text, by_port, credit_line, flit_line}
+use Rattle.listing.specs.Lines.{cycle_lines}
 use Rattle.base.proofs.Search.{both}
 
 -- the bytes of two runs of lines
-pub text-append : (ks ls : List Line) → text (ks ++ ls) ≡ text ks ++ text ls
+pub text_append : (ks ls : List Line) → text (ks ++ ls) ≡ text ks ++ text ls
 unfolding text
-text-append [] ls = refl
-text-append (k ∷ ks) ls = ap (λ (bs : List ℕ). print k ++ bs) (text-append ks ls) ∙ sym (append_assoc (print k) (text ks) (text ls))
+text_append [] ls = refl
+text_append (k ∷ ks) ls = ap (λ (bs : List ℕ). print k ++ bs) (text_append ks ls) ∙ sym (append_assoc (print k) (text ks) (text ls))
 
 -- one line's bytes
-pub text-one : (l : Line) → text (l ∷ []) ≡ print l
+pub text_one : (l : Line) → text (l ∷ []) ≡ print l
 unfolding text
-text-one l = append-nil (print l)
+text_one l = append-nil (print l)
 
-pub printable-append : (ks ls : List Line) → printable (ks ++ ls) ≡ (printable ks && printable ls)
+pub printable_append : (ks ls : List Line) → printable (ks ++ ls) ≡ (printable ks && printable ls)
 unfolding printable
-printable-append [] ls = refl
-printable-append (k ∷ ks) ls = go (allInRange (values_of k)) (printable-append ks ls)
+printable_append [] ls = refl
+printable_append (k ∷ ks) ls = go (all_in_range (values_of k)) (printable_append ks ls)
   where
     go : (b : Bool) → printable (ks ++ ls) ≡ (printable ks && printable ls) → (b && printable (ks ++ ls))
         ≡ ((b && printable ks) && printable ls)
@@ -41,69 +41,69 @@ printable-append (k ∷ ks) ls = go (allInRange (values_of k)) (printable-append
     go false e = refl
 
 -- one port more
-pub ports-more : (f : ℕ → List Line) (n : ℕ) → byPort f (n + 1) ≡ byPort f n ++ f n
-unfolding byPort
-ports-more f n = ap (byPort f) (add-one n)
+pub ports_more : (f : ℕ → List Line) (n : ℕ) → by_port f (n + 1) ≡ by_port f n ++ f n
+unfolding by_port
+ports_more f n = ap (by_port f) (add-one n)
 
 module _ (f : ℕ → List Line) where
-  pub printable-more : (n : ℕ) → printable (byPort f n) ≡ true → printable (f n) ≡ true → printable (byPort f (n + 1)) ≡ true
-  printable-more n before here =
-      ap printable (ports-more f n) ∙ printable-append (byPort f n) (f n) ∙ ap₂ (λ (a b : Bool). a && b) before here
+  pub printable_more : (n : ℕ) → printable (by_port f n) ≡ true → printable (f n) ≡ true → printable (by_port f (n + 1)) ≡ true
+  printable_more n before here =
+      ap printable (ports_more f n) ∙ printable_append (by_port f n) (f n) ∙ ap₂ (λ (a b : Bool). a && b) before here
 
   -- a port whose lines are not printable spoils them all
-  pub printable-stops : (n k : ℕ) → n < k → printable (f n) ≡ false → printable (byPort f k) ≡ false
-  unfolding byPort
-  printable-stops n zero h bad = absurd (not-suc-le-zero h)
-  printable-stops n (suc k) h bad =
-      printable-append (byPort f k) (f k) ∙ go (eqb n k) refl (λ (g : n < k). printable-stops n k g bad)
+  pub printable_stops : (n k : ℕ) → n < k → printable (f n) ≡ false → printable (by_port f k) ≡ false
+  unfolding by_port
+  printable_stops n zero h bad = absurd (not-suc-le-zero h)
+  printable_stops n (suc k) h bad =
+      printable_append (by_port f k) (f k) ∙ go (eqb n k) refl (λ (g : n < k). printable_stops n k g bad)
     where
-      go : (b : Bool) → eqb n k ≡ b → (n < k → printable (byPort f k) ≡ false) → (printable (byPort f k) && printable (f k)) ≡ false
-      go true e below = ap (λ (b : Bool). printable (byPort f k) && b) (ap (λ (m : ℕ). printable (f m)) (sym (eqb-true n k e)) ∙ bad)
-          ∙ and-false (printable (byPort f k))
+      go : (b : Bool) → eqb n k ≡ b → (n < k → printable (by_port f k) ≡ false) → (printable (by_port f k) && printable (f k)) ≡ false
+      go true e below = ap (λ (b : Bool). printable (by_port f k) && b) (ap (λ (m : ℕ). printable (f m)) (sym (eqb-true n k e)) ∙ bad)
+          ∙ and-false (printable (by_port f k))
       go false e below = ap (λ (b : Bool). b && printable (f k)) (below (lt_of_le-ne (omega arith) (eqb-false n k e)))
 
   -- where all ports' lines are printable, each port's are
-  pub printable-at : (n k : ℕ) → n < k → printable (byPort f k) ≡ true → printable (f n) ≡ true
-  printable-at n k h all = go (printable (f n)) refl
+  pub printable_at : (n k : ℕ) → n < k → printable (by_port f k) ≡ true → printable (f n) ≡ true
+  printable_at n k h all = go (printable (f n)) refl
     where
       go : (b : Bool) → printable (f n) ≡ b → b ≡ true
       go true e = refl
-      go false e = absurd (true≢false (sym all ∙ printable-stops n k h e))
+      go false e = absurd (true≢false (sym all ∙ printable_stops n k h e))
 
 -- what a port has, by what the reply says of it
 module _ (cycle : ℕ) (reply : Reply) (i : ℕ) where
-  pub no-credit : (get_or reply.senders i (record { reached = reached.Nothing })).reached ≡ reached.Nothing → creditLine cycle reply i ≡ []
-  unfolding creditLine
-  no-credit e = rw e
+  pub no_credit : (get_or reply.senders i (record { reached = reached.Nothing })).reached ≡ reached.Nothing → credit_line cycle reply i ≡ []
+  unfolding credit_line
+  no_credit e = rw e
 
-  pub one-credit : (vc : ℕ) → (get_or reply.senders i (record { reached = reached.Nothing })).reached ≡ reached.Vc vc
-      → creditLine cycle reply i ≡ credit cycle i vc ∷ []
-  unfolding creditLine
-  one-credit vc e = rw e
+  pub one_credit : (vc : ℕ) → (get_or reply.senders i (record { reached = reached.Nothing })).reached ≡ reached.Vc vc
+      → credit_line cycle reply i ≡ credit cycle i vc ∷ []
+  unfolding credit_line
+  one_credit vc e = rw e
 
-  pub no-flit : (get_or reply.outputs i (record { left = left.Nothing })).left ≡ left.Nothing → flitLine cycle reply i ≡ []
-  unfolding flitLine
-  no-flit e = rw e
+  pub no_flit : (get_or reply.outputs i (record { left = left.Nothing })).left ≡ left.Nothing → flit_line cycle reply i ≡ []
+  unfolding flit_line
+  no_flit e = rw e
 
-  pub one-flit : (d : Departure) → (get_or reply.outputs i (record { left = left.Nothing })).left ≡ left.Flit d → flitLine cycle reply i
+  pub one_flit : (d : Departure) → (get_or reply.outputs i (record { left = left.Nothing })).left ≡ left.Flit d → flit_line cycle reply i
       ≡ flit cycle i d ∷ []
-  unfolding flitLine
-  one-flit d e = rw e
+  unfolding flit_line
+  one_flit d e = rw e
 
 -- a cycle's bytes are those of its C lines, then those of its F lines
-pub cycle-text : (cycle : ℕ) (reply : Reply)
-    → text (byPort (creditLine cycle reply) 8) ++ text (byPort (flitLine cycle reply) 8) ≡ text (cycleLines cycle reply)
-unfolding cycleLines
-cycle-text cycle reply = sym (text-append (byPort (creditLine cycle reply) 8) (byPort (flitLine cycle reply) 8))
+pub cycle_text : (cycle : ℕ) (reply : Reply)
+    → text (by_port (credit_line cycle reply) 8) ++ text (by_port (flit_line cycle reply) 8) ≡ text (cycle_lines cycle reply)
+unfolding cycle_lines
+cycle_text cycle reply = sym (text_append (by_port (credit_line cycle reply) 8) (by_port (flit_line cycle reply) 8))
 
 -- a cycle's lines are printable when those of its credits and those of its flits are
-pub cycle-printable : (cycle : ℕ) (reply : Reply)
-    → printable (cycleLines cycle reply) ≡ (printable (byPort (creditLine cycle reply) 8) && printable (byPort (flitLine cycle reply) 8))
-unfolding cycleLines
-cycle-printable cycle reply = printable-append (byPort (creditLine cycle reply) 8) (byPort (flitLine cycle reply) 8)
+pub cycle_printable : (cycle : ℕ) (reply : Reply)
+    → printable (cycle_lines cycle reply) ≡ (printable (by_port (credit_line cycle reply) 8) && printable (by_port (flit_line cycle reply) 8))
+unfolding cycle_lines
+cycle_printable cycle reply = printable_append (by_port (credit_line cycle reply) 8) (by_port (flit_line cycle reply) 8)
 
-pub cycle-parts : (cycle : ℕ) (reply : Reply) → printable (cycleLines cycle reply) ≡ true
-    → (printable (byPort (creditLine cycle reply) 8) ≡ true) × (printable (byPort (flitLine cycle reply) 8) ≡ true)
-cycle-parts cycle reply ok =
-    both (printable (byPort (creditLine cycle reply) 8)) (printable (byPort (flitLine cycle reply) 8))
-    (sym (cycle-printable cycle reply) ∙ ok)
+pub cycle_parts : (cycle : ℕ) (reply : Reply) → printable (cycle_lines cycle reply) ≡ true
+    → (printable (by_port (credit_line cycle reply) 8) ≡ true) × (printable (by_port (flit_line cycle reply) 8) ≡ true)
+cycle_parts cycle reply ok =
+    both (printable (by_port (credit_line cycle reply) 8)) (printable (by_port (flit_line cycle reply) 8))
+    (sym (cycle_printable cycle reply) ∙ ok)

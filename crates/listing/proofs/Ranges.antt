@@ -10,79 +10,79 @@ use borrow.Author.Tests.{leb-true, leb-false, lt-ltb, le-ltb}
 use Rattle.base.specs.declared.reply.Departure.{Departure}
 use Rattle.base.specs.Sizes.{Field, in_range}
 use Rattle.base.proofs.Search.{both}
-use Rattle.listing.specs.Lines.{Line, credit, flit, finish, refusal, values_of, allInRange, printable}
+use Rattle.listing.specs.Lines.{Line, credit, flit, finish, refusal, values_of, all_in_range, printable}
 
 -- at most is not more than
-pub leb-not-ltb : (a b : ℕ) → leb a b ≡ not (ltb b a)
-leb-not-ltb a b = go (leb a b) refl
+pub leb_not_ltb : (a b : ℕ) → leb a b ≡ not (ltb b a)
+leb_not_ltb a b = go (leb a b) refl
   where
     go : (t : Bool) → leb a b ≡ t → t ≡ not (ltb b a)
     go true e = sym (ap not (le-ltb b a (leb-true a b e)))
     go false e = sym (ap not (lt-ltb b a (leb-false a b e)))
 
 -- the first value is in its range, and so are the others
-pub first-in : (f : Field) (fs : List Field) → allInRange (f ∷ fs) ≡ true → (f.least ≤ f.value) × (f.value ≤ f.most)
-    × (allInRange fs ≡ true)
-unfolding allInRange in_range
-first-in f fs e =
-    let here = both (leb f.least f.value && leb f.value f.most) (allInRange fs) e in
+pub first_in : (f : Field) (fs : List Field) → all_in_range (f ∷ fs) ≡ true → (f.least ≤ f.value) × (f.value ≤ f.most)
+    × (all_in_range fs ≡ true)
+unfolding all_in_range in_range
+first_in f fs e =
+    let here = both (leb f.least f.value && leb f.value f.most) (all_in_range fs) e in
     let ends = both (leb f.least f.value) (leb f.value f.most) here.0 in
     (leb-true f.least f.value ends.0, leb-true f.value f.most ends.1, here.1)
 
 -- a line by itself
-pub line-in : (l : Line) → printable (l ∷ []) ≡ true → allInRange (values_of l) ≡ true
+pub line_in : (l : Line) → printable (l ∷ []) ≡ true → all_in_range (values_of l) ≡ true
 unfolding printable
-line-in l e = (both (allInRange (values_of l)) true e).0
+line_in l e = (both (all_in_range (values_of l)) true e).0
 
 -- what a printable line of each kind says of its values
-pub credit-in : (cycle input vc : ℕ) → printable (credit cycle input vc ∷ []) ≡ true → (cycle < 1000000000) × (input < 8) × (vc < 4)
+pub credit_in : (cycle input vc : ℕ) → printable (credit cycle input vc ∷ []) ≡ true → (cycle < 1000000000) × (input < 8) × (vc < 4)
 unfolding values_of
-credit-in cycle input vc e =
-    let a = first-in _ _ (line-in (credit cycle input vc) e) in
-    let b = first-in _ _ a.2 in
-    let c = first-in _ _ b.2 in
+credit_in cycle input vc e =
+    let a = first_in _ _ (line_in (credit cycle input vc) e) in
+    let b = first_in _ _ a.2 in
+    let c = first_in _ _ b.2 in
     (omega arith, omega arith, omega arith)
 
 pub record FlitIn (cycle output : ℕ) (d : Departure) : Type 0 where
-  pub cycle-in : cycle < 1000000000
-  pub output-in : output < 8
-  pub out-vc-in : d.out_vc < 4
-  pub input-in : d.input < 8
-  pub vc-in : d.vc < 4
-  pub kind-least : 1 ≤ d.kind
-  pub kind-most : d.kind ≤ 4
+  pub cycle_in : cycle < 1000000000
+  pub output_in : output < 8
+  pub out_vc_in : d.out_vc < 4
+  pub input_in : d.input < 8
+  pub vc_in : d.vc < 4
+  pub kind_least : 1 ≤ d.kind
+  pub kind_most : d.kind ≤ 4
 
-pub flit-in : (cycle output : ℕ) (d : Departure) → printable (flit cycle output d ∷ []) ≡ true → FlitIn cycle output d
+pub flit_in : (cycle output : ℕ) (d : Departure) → printable (flit cycle output d ∷ []) ≡ true → FlitIn cycle output d
 unfolding values_of
-flit-in cycle output d e =
-    let a = first-in _ _ (line-in (flit cycle output d) e) in
-    let b = first-in _ _ a.2 in
-    let c = first-in _ _ b.2 in
-    let f = first-in _ _ c.2 in
-    let g = first-in _ _ f.2 in
-    let h = first-in _ _ g.2 in
+flit_in cycle output d e =
+    let a = first_in _ _ (line_in (flit cycle output d) e) in
+    let b = first_in _ _ a.2 in
+    let c = first_in _ _ b.2 in
+    let f = first_in _ _ c.2 in
+    let g = first_in _ _ f.2 in
+    let h = first_in _ _ g.2 in
     record {
-      cycle-in = omega arith;
-      output-in = omega arith;
-      out-vc-in = omega arith;
-      input-in = omega arith;
-      vc-in = omega arith;
-      kind-least = h.0;
-      kind-most = h.1;
+      cycle_in = omega arith;
+      output_in = omega arith;
+      out_vc_in = omega arith;
+      input_in = omega arith;
+      vc_in = omega arith;
+      kind_least = h.0;
+      kind_most = h.1;
     }
 
-pub finish-in : (cycles flits : ℕ) → printable (finish cycles flits ∷ []) ≡ true → (cycles ≤ 1000000000) × (flits ≤ 8000000000)
+pub finish_in : (cycles flits : ℕ) → printable (finish cycles flits ∷ []) ≡ true → (cycles ≤ 1000000000) × (flits ≤ 8000000000)
 unfolding values_of
-finish-in cycles flits e =
-    let a = first-in _ _ (line-in (finish cycles flits) e) in
-    let b = first-in _ _ a.2 in
+finish_in cycles flits e =
+    let a = first_in _ _ (line_in (finish cycles flits) e) in
+    let b = first_in _ _ a.2 in
     (a.1, b.1)
 
-pub refusal-in : (number cycle place : ℕ) → printable (refusal number cycle place ∷ []) ≡ true → (number ≤ 10) × (cycle ≤ 1000000000)
+pub refusal_in : (number cycle place : ℕ) → printable (refusal number cycle place ∷ []) ≡ true → (number ≤ 10) × (cycle ≤ 1000000000)
     × (place ≤ 7)
 unfolding values_of
-refusal-in number cycle place e =
-    let a = first-in _ _ (line-in (refusal number cycle place) e) in
-    let b = first-in _ _ a.2 in
-    let c = first-in _ _ b.2 in
+refusal_in number cycle place e =
+    let a = first_in _ _ (line_in (refusal number cycle place) e) in
+    let b = first_in _ _ a.2 in
+    let c = first_in _ _ b.2 in
     (a.1, b.1, c.1)

@@ -16,20 +16,20 @@ abbrev pub stores : List ℕ → ℕ → ℕ → List ℕ → List ℕ
 stores l p j [] = l
 stores l p j (b ∷ bs) = stores (set l (p + j) b) p (suc j) bs
 
-stores-sets : (l : List ℕ) (p j : ℕ) (bs : List ℕ) → stores l p j bs ≡ sets l (p + j) bs
-stores-sets l p j [] = refl
-stores-sets l p j (b ∷ bs) =
-    stores-sets (set l (p + j) b) p (suc j) bs ∙ ap (λ (k : ℕ). sets (set l (p + j) b) k bs) (add-suc p j)
+stores_sets : (l : List ℕ) (p j : ℕ) (bs : List ℕ) → stores l p j bs ≡ sets l (p + j) bs
+stores_sets l p j [] = refl
+stores_sets l p j (b ∷ bs) =
+    stores_sets (set l (p + j) b) p (suc j) bs ∙ ap (λ (k : ℕ). sets (set l (p + j) b) k bs) (add-suc p j)
 
 -- stores at p, p + 1, .. are bytes stored from p on
-pub stores-from : (l : List ℕ) (p b : ℕ) (bs : List ℕ) → stores (set l p b) p 1 bs ≡ sets l p (b ∷ bs)
-stores-from l p b bs = stores-sets (set l p b) p 1 bs ∙ ap (λ (k : ℕ). sets (set l p b) k bs) (add-one p)
+pub stores_from : (l : List ℕ) (p b : ℕ) (bs : List ℕ) → stores (set l p b) p 1 bs ≡ sets l p (b ∷ bs)
+stores_from l p b bs = stores_sets (set l p b) p 1 bs ∙ ap (λ (k : ℕ). sets (set l p b) k bs) (add-one p)
 
 -- bytes in two parts
-pub sets-append : (l : List ℕ) (p : ℕ) (xs bs : List ℕ) → sets l p (xs ++ bs) ≡ sets (sets l p xs) (p + length xs) bs
-sets-append l p [] bs = ap (λ (k : ℕ). sets l k bs) (sym (add-zero p))
-sets-append l p (a ∷ xs) bs =
-    sets-append (set l p a) (suc p) xs bs
+pub sets_append : (l : List ℕ) (p : ℕ) (xs bs : List ℕ) → sets l p (xs ++ bs) ≡ sets (sets l p xs) (p + length xs) bs
+sets_append l p [] bs = ap (λ (k : ℕ). sets l k bs) (sym (add-zero p))
+sets_append l p (a ∷ xs) bs =
+    sets_append (set l p a) (suc p) xs bs
     ∙ ap (λ (k : ℕ). sets (sets (set l p a) (suc p) xs) k bs) (suc-add p (length xs) ∙ sym (add-suc p (length xs)))
 
 -- nothing is laid yet
@@ -41,27 +41,27 @@ pub laid_as : {l m : List ℕ} {p q : ℕ} {bs cs : List ℕ} → Laid l p bs m 
 laid_as {l} {m} {p} {q} {bs} {cs} x e = subst (λ (ds : List ℕ). Laid l p ds m q) e x
 
 -- straight-line stores at p, p + 1, .. lay their bytes
-pub laid-stores : (l : List ℕ) (p b : ℕ) (bs : List ℕ) → Laid l p (b ∷ bs) (stores (set l p b) p 1 bs) (p + length (b ∷ bs))
-laid-stores l p b bs = record { stored = stores-from l p b bs; ahead = refl }
+pub laid_stores : (l : List ℕ) (p b : ℕ) (bs : List ℕ) → Laid l p (b ∷ bs) (stores (set l p b) p 1 bs) (p + length (b ∷ bs))
+laid_stores l p b bs = record { stored = stores_from l p b bs; ahead = refl }
 
 -- bytes laid after bytes
 pub laid_more : {l m n : List ℕ} {p q r : ℕ} {xs bs : List ℕ} → Laid l p xs m q → Laid m q bs n r → Laid l p (xs ++ bs) n r
 laid_more {l} {m} {n} {p} {q} {r} {xs} {bs} x y =
     record {
       stored = y.stored ∙ ap (λ (k : List ℕ). sets k q bs) x.stored ∙ ap (λ (k : ℕ). sets (sets l p xs) k bs) x.ahead
-          ∙ sym (sets-append l p xs bs);
+          ∙ sym (sets_append l p xs bs);
       ahead = omega (arith, x.ahead, y.ahead, length-append xs bs);
     }
 
 -- laying bytes keeps the length
-pub laid-length : {l m : List ℕ} {p q : ℕ} {bs : List ℕ} → Laid l p bs m q → length m ≡ length l
-laid-length {l} {m} {p} {q} {bs} x = ap length x.stored ∙ length-sets l p bs
+pub laid_length : {l m : List ℕ} {p q : ℕ} {bs : List ℕ} → Laid l p bs m q → length m ≡ length l
+laid_length {l} {m} {p} {q} {bs} x = ap length x.stored ∙ length-sets l p bs
 
 -- bytes laid from the start of a part that was lent are put into the whole, and nothing else changes
-pub part-put : (l bs : List ℕ) (p : ℕ) → p + length bs ≤ length l
+pub part_put : (l bs : List ℕ) (p : ℕ) → p + length bs ≤ length l
     → take p l ++ (sets (drop p l) 0 bs ++ drop (length l - p) (drop p l)) ≡ put l p bs
 unfolding put
-part-put l bs p h =
+part_put l bs p h =
     let inside : 0 + length bs ≤ length (drop p l) = omega (arith, length-drop p l) in
     let past : drop (length l - p) (drop p l) ≡ [] = drop_of_length-le (drop p l) {i = length l - p} (omega (arith, length-drop p l)) in
     ap (λ (r : List ℕ). take p l ++ (sets (drop p l) 0 bs ++ r)) past
@@ -70,11 +70,11 @@ part-put l bs p h =
     ∙ sym (append_assoc (take p l) bs (drop (p + length bs) l))
 
 -- the buffer keeps its length
-pub put-length : (l bs : List ℕ) (p : ℕ) → p + length bs ≤ length l → length (put l p bs) ≡ length l
+pub put_length : (l bs : List ℕ) (p : ℕ) → p + length bs ≤ length l → length (put l p bs) ≡ length l
 unfolding put
-put-length l bs p h = ap length (sym (sets-eq bs l p h)) ∙ length-sets l p bs
+put_length l bs p h = ap length (sym (sets-eq bs l p h)) ∙ length-sets l p bs
 
 -- a copy that goes on: one byte stored, and the rest after it
-pub rest-stored : (l : List ℕ) (p : ℕ) (ds : List ℕ) (i : ℕ) → i < length ds → sets (set l p (get_or ds i 0)) (p + 1) (drop (i + 1) ds)
+pub rest_stored : (l : List ℕ) (p : ℕ) (ds : List ℕ) (i : ℕ) → i < length ds → sets (set l p (get_or ds i 0)) (p + 1) (drop (i + 1) ds)
     ≡ sets l p (drop i ds)
-rest-stored l p ds i h = rw (add-one p, add-one i, drop-cons ds i 0 h)
+rest_stored l p ds i h = rw (add-one p, add-one i, drop-cons ds i 0 h)

@@ -12,19 +12,19 @@ unless true f = []
 unless false f = f tt
 
 -- the digits of a number that has at most k: the last one, and before it those of n / 10, unless n is below 10
-unfoldable pub decimalWithin : ℕ → ℕ → List ℕ
-decimalWithin zero n = []
-decimalWithin (suc k) n = unless (ltb n 10) (λ u. decimalWithin k (n / 10)) ++ (glyph (n % 10) ∷ [])
+unfoldable pub decimal_within : ℕ → ℕ → List ℕ
+decimal_within zero n = []
+decimal_within (suc k) n = unless (ltb n 10) (λ u. decimal_within k (n / 10)) ++ (glyph (n % 10) ∷ [])
 
 -- "decimal without leading zeros": no number n has more than n + 1 digits
 unfoldable pub decimal : ℕ → List ℕ
-decimal n = decimalWithin (suc n) n
+decimal n = decimal_within (suc n) n
 
 -- the last k digits of n in base b, zeros in front
-unfoldable pub lastDigits : ℕ → ℕ → ℕ → List ℕ
-lastDigits b zero n = []
-lastDigits b (suc k) n = lastDigits b k (n / b) ++ (glyph (n % b) ∷ [])
+unfoldable pub last_digits : ℕ → ℕ → ℕ → List ℕ
+last_digits b zero n = []
+last_digits b (suc k) n = last_digits b k (n / b) ++ (glyph (n % b) ∷ [])
 
 -- "eight lower-case hex digits"
 unfoldable pub hex : ℕ → List ℕ
-hex n = lastDigits 16 8 n
+hex n = last_digits 16 8 n

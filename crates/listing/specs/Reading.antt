@@ -5,20 +5,20 @@ use Rattle.base.specs.Flit.{head, body, tail, single}
 use Rattle.listing.specs.Lines.{Line, credit, flit, finish, refusal, space, newline}
 
 -- the value of a digit: `0` to `9`, then `a` to `f`
-unfoldable pub digitOf : ℕ → ℕ
-digitOf c = cond (ltb c 58) (c - 48) (c - 87)
+unfoldable pub digit_of : ℕ → ℕ
+digit_of c = cond (ltb c 58) (c - 48) (c - 87)
 
 -- the number that n and then these digits in base b are
-unfoldable pub valueFrom : ℕ → ℕ → List ℕ → ℕ
-valueFrom b n [] = n
-valueFrom b n (c ∷ cs) = valueFrom b (n * b + digitOf c) cs
+unfoldable pub value_from : ℕ → ℕ → List ℕ → ℕ
+value_from b n [] = n
+value_from b n (c ∷ cs) = value_from b (n * b + digit_of c) cs
 
 unfoldable pub value_of : ℕ → List ℕ → ℕ
-value_of b cs = valueFrom b 0 cs
+value_of b cs = value_from b 0 cs
 
 -- the kind of a letter
-unfoldable pub kindOfLetter : ℕ → ℕ
-kindOfLetter c = cond (eqb c 72) head (cond (eqb c 66) body (cond (eqb c 84) tail single))
+unfoldable pub kind_of_letter : ℕ → ℕ
+kind_of_letter c = cond (eqb c 72) head (cond (eqb c 66) body (cond (eqb c 84) tail single))
 
 -- the words up to the next newline, and the bytes after it
 pub record Cut : Type 0 where
@@ -42,7 +42,7 @@ line_of words =
       out_vc = number 3;
       input = number 4;
       vc = number 5;
-      kind = kindOfLetter (get_or (get_or words 6 []) 0 0);
+      kind = kind_of_letter (get_or (get_or words 6 []) 0 0);
       payload = value_of 16 (get_or words 7 []);
     }))
     (cond (eqb first 69) (finish (number 1) (number 2)) (refusal (number 1) (number 2) (number 3))))
@@ -58,5 +58,5 @@ pub record Read : Type 0 where
   pub line : Line
   pub rest : List ℕ
 
-unfoldable pub readLine : List ℕ → Read
-readLine bytes = record { line = line_of (cut [] bytes).words; rest = (cut [] bytes).rest }
+unfoldable pub read_line : List ℕ → Read
+read_line bytes = record { line = line_of (cut [] bytes).words; rest = (cut [] bytes).rest }

@@ -3,7 +3,7 @@
 use Rattle.std.specs.Prelude.{Bool, cond, ◌||◌, ◌⊎◌, ℕ, ◌+◌, ◌-◌, ◌<◌, ltb, length, take, drop}
 use mathlib.Core.List.{List, ◌++◌, Memᴰ}
 use Rattle.base.specs.Sizes.{Field}
-use Rattle.base.specs.Numbers.{done, noRoom, outOfRange, room}
+use Rattle.base.specs.Numbers.{done, no_room, out_of_range, room}
 use Rattle.listing.specs.declared.Written.{Written}
 use Rattle.listing.specs.declared.Written.TheVariants.{Lines, NoRoom, OutOfRange}
 use Rattle.listing.specs.Lines.{Line, values_of, text, printable}
@@ -23,26 +23,26 @@ abbrev pub lacks : ℕ → List ℕ → ℕ → Bool
 lacks n buffer place = ltb (length buffer) place || ltb (length buffer - place) n
 
 -- "fewer than 376 bytes from the named place, or place past the end"
-unfoldable pub lacksRoom : List ℕ → ℕ → Bool
-lacksRoom = lacks room
+unfoldable pub lacks_room : List ℕ → ℕ → Bool
+lacks_room = lacks room
 
 -- "a refused write leaves the buffer and reports 0 bytes written"
-abbrev pub refusedWith : ℕ → List ℕ → WriteOutcome
-refusedWith number buffer = record { number = number; bytes = 0; buffer = buffer }
+abbrev pub refused_with : ℕ → List ℕ → WriteOutcome
+refused_with number buffer = record { number = number; bytes = 0; buffer = buffer }
 
 -- "Writer: 12, 11."; "Each write, of one cycle's lines (perhaps none) or of an E or R line, asks for 376 bytes."
 unfoldable pub written : List ℕ → ℕ → List Line → WriteOutcome
 written buffer place lines =
     cond (printable lines)
-    (cond (lacksRoom buffer place) (refusedWith noRoom buffer)
+    (cond (lacks_room buffer place) (refused_with no_room buffer)
     (record { number = done; bytes = length (text lines); buffer = put buffer place (text lines) }))
-    (refusedWith outOfRange buffer)
+    (refused_with out_of_range buffer)
 
 -- the document's number and values for each answer, beside the buffer
-abbrev pub writeOutcome : Written → List ℕ → WriteOutcome
-writeOutcome (Lines bytes) buffer = record { number = done; bytes = bytes; buffer = buffer }
-writeOutcome NoRoom buffer = refusedWith noRoom buffer
-writeOutcome OutOfRange buffer = refusedWith outOfRange buffer
+abbrev pub write_outcome : Written → List ℕ → WriteOutcome
+write_outcome (Lines bytes) buffer = record { number = done; bytes = bytes; buffer = buffer }
+write_outcome NoRoom buffer = refused_with no_room buffer
+write_outcome OutOfRange buffer = refused_with out_of_range buffer
 
 -- "reply or line value outside its range": some value of some of the lines that would be written
 pub record Outside (lines : List Line) : Type 0 where

@@ -1,11 +1,11 @@
 // Numbers as text.
 ghost use Rattle.std.specs.Prelude.{◌≡◌, ◌+◌, ◌-◌, ◌≤◌, ◌<◌, length, drop};
-ghost use Rattle.listing.specs.Digits.{glyph as Digits·glyph, decimal as Digits·decimal, lastDigits, hex as Digits·hex};
+ghost use Rattle.listing.specs.Digits.{glyph as digits_glyph, decimal as digits_decimal, last_digits, hex as digits_hex};
 ghost use Rattle.listing.specs.Inside.{Laid, Spelled};
 
 // The last ten decimal digits of a number, zeros in front. No division waits for another.
 pub(crate) fn ten(n: u64) -> [u8; 10]
-    ensures { result ≡ lastDigits 10 10 n }
+    ensures { result ≡ last_digits 10 10 n }
 {
     [
         48 + (n / 1000000000 % 10) as u8,
@@ -23,7 +23,7 @@ pub(crate) fn ten(n: u64) -> [u8; 10]
 
 // How many of the ten lead and are zeros. The last digit always shows.
 pub(crate) fn zeros(n: u64) -> usize
-    ensures { Spelled n (lastDigits 10 10 n) result }
+    ensures { Spelled n (last_digits 10 10 n) result }
 {
     if n < 10 {
         return 9;
@@ -72,7 +72,7 @@ pub(crate) fn copy(out: &mut [u8], at: usize, digits: &[u8; 10], zeros: usize) -
 
 pub(crate) fn decimal(out: &mut [u8], at: usize, n: u64) -> usize
     requires { (n < 10000000000) × (at + 10 ≤ length out.old) }
-    ensures { Laid out.old at (Digits·decimal n) out.new result × (result ≤ at + 10) }
+    ensures { Laid out.old at (digits_decimal n) out.new result × (result ≤ at + 10) }
 {
     let digits = ten(n);
     copy(out, at, &digits, zeros(n))
@@ -81,14 +81,14 @@ pub(crate) fn decimal(out: &mut [u8], at: usize, n: u64) -> usize
 // `0` to `9`, then `a` to `f`, which stand 39 further on.
 fn glyph(d: u32) -> u8
     requires { d < 16 }
-    ensures { result ≡ Digits·glyph d }
+    ensures { result ≡ digits_glyph d }
 {
     (48 + d + (d + 6) / 16 * 39) as u8
 }
 
 pub(crate) fn hex(out: &mut [u8], at: usize, n: u32) -> usize
     requires { at + 8 ≤ length out.old }
-    ensures { Laid out.old at (Digits·hex n) out.new result }
+    ensures { Laid out.old at (digits_hex n) out.new result }
 {
     out[at] = glyph(n / 268435456 % 16);
     out[at + 1] = glyph(n / 16777216 % 16);

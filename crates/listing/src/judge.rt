@@ -1,8 +1,8 @@
 // What a write tests before its first byte: 12, that each value of its lines is in its range; 11, that there is room.
 ghost use Rattle.std.specs.Prelude.{◌≡◌, not, [], ◌∷◌};
-ghost use Rattle.base.specs.Sizes.{mostPorts};
-ghost use Rattle.listing.specs.Lines.{credit as Line·credit, flit as Line·flit, finish as Line·finish, refusal as Line·refusal};
-ghost use Rattle.listing.specs.Lines.{printable, byPort, creditLine, flitLine, cycleLines};
+ghost use Rattle.base.specs.Sizes.{most_ports};
+ghost use Rattle.listing.specs.Lines.{credit as line_credit, flit as line_flit, finish as line_finish, refusal as line_refusal};
+ghost use Rattle.listing.specs.Lines.{printable, by_port, credit_line, flit_line, cycle_lines};
 ghost use Rattle.listing.specs.Writing.{lacks};
 
 use base::{Departure, Left, Reached, Reply};
@@ -18,7 +18,7 @@ pub fn has_room(buf: &[u8], at: usize, asked: usize) -> bool
 }
 
 fn credit(cycle: u64, input: u8, vc: u8) -> bool
-    ensures { result ≡ printable (Line·credit cycle input vc ∷ []) }
+    ensures { result ≡ printable (line_credit cycle input vc ∷ []) }
 {
     if cycle >= base::CYCLE_LIMIT {
         return false;
@@ -30,7 +30,7 @@ fn credit(cycle: u64, input: u8, vc: u8) -> bool
 }
 
 fn flit(cycle: u64, output: u8, d: Departure) -> bool
-    ensures { result ≡ printable (Line·flit cycle output d ∷ []) }
+    ensures { result ≡ printable (line_flit cycle output d ∷ []) }
 {
     if cycle >= base::CYCLE_LIMIT {
         return false;
@@ -54,7 +54,7 @@ fn flit(cycle: u64, output: u8, d: Departure) -> bool
 }
 
 fn credits(cycle: u64, reply: Reply) -> bool
-    ensures { result ≡ printable (byPort (creditLine cycle reply) mostPorts) }
+    ensures { result ≡ printable (by_port (credit_line cycle reply) most_ports) }
 {
     let mut i: u8 = 0;
     while i < base::PORTS {
@@ -73,7 +73,7 @@ fn credits(cycle: u64, reply: Reply) -> bool
 }
 
 fn flits(cycle: u64, reply: Reply) -> bool
-    ensures { result ≡ printable (byPort (flitLine cycle reply) mostPorts) }
+    ensures { result ≡ printable (by_port (flit_line cycle reply) most_ports) }
 {
     let mut i: u8 = 0;
     while i < base::PORTS {
@@ -92,7 +92,7 @@ fn flits(cycle: u64, reply: Reply) -> bool
 }
 
 pub(crate) fn cycle(cycle: u64, reply: Reply) -> bool
-    ensures { result ≡ printable (cycleLines cycle reply) }
+    ensures { result ≡ printable (cycle_lines cycle reply) }
 {
     if !credits(cycle, reply) {
         return false;
@@ -101,7 +101,7 @@ pub(crate) fn cycle(cycle: u64, reply: Reply) -> bool
 }
 
 pub(crate) fn finish(cycles: u64, flits: u64) -> bool
-    ensures { result ≡ printable (Line·finish cycles flits ∷ []) }
+    ensures { result ≡ printable (line_finish cycles flits ∷ []) }
 {
     if cycles > base::CYCLE_LIMIT {
         return false;
@@ -110,7 +110,7 @@ pub(crate) fn finish(cycles: u64, flits: u64) -> bool
 }
 
 pub(crate) fn refusal(number: u8, cycles: u64, place: u8) -> bool
-    ensures { result ≡ printable (Line·refusal number cycles place ∷ []) }
+    ensures { result ≡ printable (line_refusal number cycles place ∷ []) }
 {
     if number < 1 {
         return false;

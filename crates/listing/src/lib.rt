@@ -6,8 +6,8 @@ mod judge;
 mod lines;
 
 ghost use Rattle.std.specs.Prelude.{◌≡◌, [], ◌∷◌};
-ghost use Rattle.listing.specs.Lines.{finish as Line·finish, refusal as Line·refusal, cycleLines};
-ghost use Rattle.listing.specs.Writing.{written, writeOutcome};
+ghost use Rattle.listing.specs.Lines.{finish as line_finish, refusal as line_refusal, cycle_lines};
+ghost use Rattle.listing.specs.Writing.{written, write_outcome};
 
 use base::Reply;
 pub use judge::has_room;
@@ -23,7 +23,7 @@ pub enum Written {
 // "first `C cycle input vc` for each credit reaching a sender, by input; then `F cycle output outvc input invc kind payload` for
 // each flit out, by output"
 pub fn write_cycle(buf: &mut [u8], at: usize, cycle: u64, reply: Reply) -> Written
-    ensures { writeOutcome result buf.new ≡ written buf.old at (cycleLines cycle reply) }
+    ensures { write_outcome result buf.new ≡ written buf.old at (cycle_lines cycle reply) }
 {
     if !judge::cycle(cycle, reply) {
         return Written::OutOfRange;
@@ -37,7 +37,7 @@ pub fn write_cycle(buf: &mut [u8], at: usize, cycle: u64, reply: Reply) -> Writt
 
 // "Last comes `E cycles flits` (accepted cycles, F lines)"
 pub fn write_end(buf: &mut [u8], at: usize, cycles: u64, flits: u64) -> Written
-    ensures { writeOutcome result buf.new ≡ written buf.old at (Line·finish cycles flits ∷ []) }
+    ensures { write_outcome result buf.new ≡ written buf.old at (line_finish cycles flits ∷ []) }
 {
     if !judge::finish(cycles, flits) {
         return Written::OutOfRange;
@@ -51,7 +51,7 @@ pub fn write_end(buf: &mut [u8], at: usize, cycles: u64, flits: u64) -> Written
 
 // "or at the first refusal `R number cycle place`, with accepted cycles so far and the port, the field for 1, else 0"
 pub fn write_refusal(buf: &mut [u8], at: usize, number: u8, cycles: u64, place: u8) -> Written
-    ensures { writeOutcome result buf.new ≡ written buf.old at (Line·refusal number cycles place ∷ []) }
+    ensures { write_outcome result buf.new ≡ written buf.old at (line_refusal number cycles place ∷ []) }
 {
     if !judge::refusal(number, cycles, place) {
         return Written::OutOfRange;

@@ -1,11 +1,11 @@
 // The lines, byte by byte, from a place of the lent part on. What is written is in range and there is room: `judge` has tested it.
 ghost use Rattle.std.specs.Prelude.{◌≡◌, true, [], ◌∷◌, ◌++◌, ◌+◌, ◌*◌, ◌≤◌, ◌<◌, length};
 ghost use Rattle.base.specs.Numbers.{room};
-ghost use Rattle.base.specs.Sizes.{mostPorts};
+ghost use Rattle.base.specs.Sizes.{most_ports};
 ghost use Rattle.listing.specs.Digits.{decimal};
 ghost use Rattle.listing.specs.Inside.{Laid, Spelled};
-ghost use Rattle.listing.specs.Lines.{credit as Line·credit, flit as Line·flit, finish as Line·finish, refusal as Line·refusal};
-ghost use Rattle.listing.specs.Lines.{print, text, printable, byPort, creditLine, flitLine, cycleLines};
+ghost use Rattle.listing.specs.Lines.{credit as line_credit, flit as line_flit, finish as line_finish, refusal as line_refusal};
+ghost use Rattle.listing.specs.Lines.{print, text, printable, by_port, credit_line, flit_line, cycle_lines};
 
 use crate::digits;
 use base::{Departure, Left, Reached, Reply};
@@ -37,8 +37,8 @@ fn credit(
     input: u8,
     vc: u8,
 ) -> usize
-    requires { (printable (Line·credit cycle input vc ∷ []) ≡ true) × Spelled cycle digits.now zeros × (at + 16 ≤ length out.old) }
-    ensures { Laid out.old at (print (Line·credit cycle input vc)) out.new result × (result ≤ at + 16) }
+    requires { (printable (line_credit cycle input vc ∷ []) ≡ true) × Spelled cycle digits.now zeros × (at + 16 ≤ length out.old) }
+    ensures { Laid out.old at (print (line_credit cycle input vc)) out.new result × (result ≤ at + 16) }
 {
     let q = start(out, at, b'C', cycle, digits, zeros);
     out[q] = b' ';
@@ -59,8 +59,8 @@ fn flit(
     output: u8,
     d: Departure,
 ) -> usize
-    requires { (printable (Line·flit cycle output d ∷ []) ≡ true) × Spelled cycle digits.now zeros × (at + 31 ≤ length out.old) }
-    ensures { Laid out.old at (print (Line·flit cycle output d)) out.new result × (result ≤ at + 31) }
+    requires { (printable (line_flit cycle output d ∷ []) ≡ true) × Spelled cycle digits.now zeros × (at + 31 ≤ length out.old) }
+    ensures { Laid out.old at (print (line_flit cycle output d)) out.new result × (result ≤ at + 31) }
 {
     let q = start(out, at, b'F', cycle, digits, zeros);
     let kind = base::letter(d.kind);
@@ -82,9 +82,9 @@ fn flit(
 
 // "first `C cycle input vc` for each credit reaching a sender, by input"
 fn credits(out: &mut [u8], cycle: u64, digits: &[u8; 10], zeros: usize, reply: Reply) -> usize
-    requires { (printable (byPort (creditLine cycle reply) mostPorts) ≡ true) × Spelled cycle digits.now zeros
+    requires { (printable (by_port (credit_line cycle reply) most_ports) ≡ true) × Spelled cycle digits.now zeros
         × (128 ≤ length out.old) }
-    ensures { Laid out.old 0 (text (byPort (creditLine cycle reply) mostPorts)) out.new result × (result ≤ 128) }
+    ensures { Laid out.old 0 (text (by_port (credit_line cycle reply) most_ports)) out.new result × (result ≤ 128) }
 {
     let mut at: usize = 0;
     let mut i: u8 = 0;
@@ -110,9 +110,9 @@ fn flits(
     zeros: usize,
     reply: Reply,
 ) -> usize
-    requires { (printable (byPort (flitLine cycle reply) mostPorts) ≡ true) × Spelled cycle digits.now zeros
+    requires { (printable (by_port (flit_line cycle reply) most_ports) ≡ true) × Spelled cycle digits.now zeros
         × (from + 248 ≤ length out.old) }
-    ensures { Laid out.old from (text (byPort (flitLine cycle reply) mostPorts)) out.new result }
+    ensures { Laid out.old from (text (by_port (flit_line cycle reply) most_ports)) out.new result }
 {
     let mut at: usize = from;
     let mut i: u8 = 0;
@@ -130,8 +130,8 @@ fn flits(
 }
 
 pub(crate) fn cycle(out: &mut [u8], cycle: u64, reply: Reply) -> usize
-    requires { (printable (cycleLines cycle reply) ≡ true) × (room ≤ length out.old) }
-    ensures { Laid out.old 0 (text (cycleLines cycle reply)) out.new result }
+    requires { (printable (cycle_lines cycle reply) ≡ true) × (room ≤ length out.old) }
+    ensures { Laid out.old 0 (text (cycle_lines cycle reply)) out.new result }
 {
     let digits = digits::ten(cycle);
     let zeros = digits::zeros(cycle);
@@ -141,8 +141,8 @@ pub(crate) fn cycle(out: &mut [u8], cycle: u64, reply: Reply) -> usize
 
 // "E cycles flits"
 pub(crate) fn finish(out: &mut [u8], cycles: u64, flits: u64) -> usize
-    requires { (printable (Line·finish cycles flits ∷ []) ≡ true) × (room ≤ length out.old) }
-    ensures { Laid out.old 0 (print (Line·finish cycles flits)) out.new result }
+    requires { (printable (line_finish cycles flits ∷ []) ≡ true) × (room ≤ length out.old) }
+    ensures { Laid out.old 0 (print (line_finish cycles flits)) out.new result }
 {
     out[0] = b'E';
     out[1] = b' ';
@@ -155,8 +155,8 @@ pub(crate) fn finish(out: &mut [u8], cycles: u64, flits: u64) -> usize
 
 // "R number cycle place": a place is one digit.
 pub(crate) fn refusal(out: &mut [u8], number: u8, cycles: u64, place: u8) -> usize
-    requires { (printable (Line·refusal number cycles place ∷ []) ≡ true) × (room ≤ length out.old) }
-    ensures { Laid out.old 0 (print (Line·refusal number cycles place)) out.new result }
+    requires { (printable (line_refusal number cycles place ∷ []) ≡ true) × (room ≤ length out.old) }
+    ensures { Laid out.old 0 (print (line_refusal number cycles place)) out.new result }
 {
     out[0] = b'R';
     out[1] = b' ';

@@ -12,7 +12,7 @@ use Rattle.model.specs.Sizes.{Config}
 use Rattle.model.specs.Router.{OutVc}
 use Rattle.model.specs.Cycle.{Event, Brought}
 use Rattle.model.specs.History.{Departure}
-use Rattle.model.specs.Phases.{onVc, offered, leaving}
+use Rattle.model.specs.Phases.{on_vc, offered, leaving}
 use Rattle.model.specs.Limits.{InRange}
 use Rattle.model.proofs.Lists.{eqb-true}
 
@@ -20,18 +20,18 @@ use Rattle.model.proofs.Lists.{eqb-true}
 pub in_range? : (c : Config) (i v : ℕ) → Dec (InRange c i v)
 in_range? c i v = Dec.and (dec_lt i c.ports) (dec_lt v c.vcs)
 
-pub not-otherwise : {A : Type 0} → Dec A → ¬ ¬ A → A
-not-otherwise (yes a) f = a
-not-otherwise (no a) f = absurd (f a)
+pub not_otherwise : {A : Type 0} → Dec A → ¬ ¬ A → A
+not_otherwise (yes a) f = a
+not_otherwise (no a) f = absurd (f a)
 
 module _ {Flit : Type 0} (i v : ℕ) where
   -- What is offered on an input VC is nothing, or the flit that its port brings for it.
-  pub offered-cases : (e : Event Flit) (P : List Flit → Type 0) → P []
+  pub offered_cases : (e : Event Flit) (P : List Flit → Type 0) → P []
       → ((b : Brought Flit) → e.offer i ≡ some b → b.vc ≡ v → P (b.flit ∷ [])) →
       P (offered e i v)
-  offered-cases e P none-offered one-offered = go (e.offer i) refl
+  offered_cases e P none-offered one-offered = go (e.offer i) refl
     where
-      go : (o : Option (Brought Flit)) → e.offer i ≡ o → P (onVc v o)
+      go : (o : Option (Brought Flit)) → e.offer i ≡ o → P (on_vc v o)
       go none q = none-offered
       go (some b) q = test (eqb b.vc v) refl
         where
@@ -41,12 +41,12 @@ module _ {Flit : Type 0} (i v : ℕ) where
 
   -- a flit as it leaves from VC v of input i by the output VC b
   abbrev pub gone : OutVc → Flit → Departure Flit
-  gone b f = record { output = b.output; outVc = b.vc; input = i; vc = v; flit = f }
+  gone b f = record { output = b.output; out_vc = b.vc; input = i; vc = v; flit = f }
 
   -- What leaves from an input VC is nothing, or the front of its queue by what it is bound to.
-  pub leaving-cases : (P : List (Departure Flit) → Type 0) (l : Bool) (b : Option OutVc) (q : List Flit) → P [] →
+  pub leaving_cases : (P : List (Departure Flit) → Type 0) (l : Bool) (b : Option OutVc) (q : List Flit) → P [] →
       ((a : OutVc) (f : Flit) → l ≡ true → b ≡ some a → P (gone a f ∷ [])) → P (leaving i v l b q)
-  leaving-cases P false b q none_left one_left = none_left
-  leaving-cases P true none q none_left one_left = none_left
-  leaving-cases P true (some b) [] none_left one_left = none_left
-  leaving-cases P true (some b) (f ∷ q) none_left one_left = one_left b f refl refl
+  leaving_cases P false b q none_left one_left = none_left
+  leaving_cases P true none q none_left one_left = none_left
+  leaving_cases P true (some b) [] none_left one_left = none_left
+  leaving_cases P true (some b) (f ∷ q) none_left one_left = one_left b f refl refl

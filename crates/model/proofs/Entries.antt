@@ -11,28 +11,28 @@ use lib.Dec.{eqb}
 use lib.ListN.{length, replicate}
 use Rattle.model.specs.Lists.{keep}
 use Rattle.model.specs.Sizes.{Config}
-use Rattle.model.specs.Channel.{reaching, queueNow}
+use Rattle.model.specs.Channel.{reaching, queue_now}
 use Rattle.model.specs.Router.{Router, OutVc, InVc}
 use Rattle.model.specs.Cycle.{Event, Choice, Brought}
-use Rattle.model.specs.History.{Offer, Departure, same, offersOn, departuresFrom, departuresOn}
-use Rattle.model.specs.Phases.{creditFor, onVc, offered, boundNow, leaving, departure}
-use Rattle.model.specs.Step.{offersAt, creditsAt, entry}
-use Rattle.model.specs.Times.{reachedFor}
-use Rattle.model.specs.Limits.{InRange, creditsFor}
-use Rattle.model.proofs.Cases.{gone, leaving-cases}
-use Rattle.model.proofs.Lists.{eqb_same, eqb-other, eqb-true, keep-replicate, keep_one, keep-grid, keep-grid-one, grid-found}
+use Rattle.model.specs.History.{Offer, Departure, same, offers_on, departures_from, departures_on}
+use Rattle.model.specs.Phases.{credit_for, on_vc, offered, bound_now, leaving, departure}
+use Rattle.model.specs.Step.{offers_at, credits_at, entry}
+use Rattle.model.specs.Times.{reached_for}
+use Rattle.model.specs.Limits.{InRange, credits_for}
+use Rattle.model.proofs.Cases.{gone, leaving_cases}
+use Rattle.model.proofs.Lists.{eqb_same, eqb_other, eqb-true, keep_replicate, keep_one, keep_grid, keep_grid_one, grid_found}
 
 -- the same VC of the same port, and another
-pub same-own : (i v : ℕ) → same i v i v ≡ true
-same-own i v = rw (eqb_same i, eqb_same v)
+pub same_own : (i v : ℕ) → same i v i v ≡ true
+same_own i v = rw (eqb_same i, eqb_same v)
 
-pub same-other : (i v j u : ℕ) → ¬ ((i ≡ j) × (v ≡ u)) → same i v j u ≡ false
-same-other i v j u ne = go (ℕ_discrete i j) (ℕ_discrete v u)
+pub same_other : (i v j u : ℕ) → ¬ ((i ≡ j) × (v ≡ u)) → same i v j u ≡ false
+same_other i v j u ne = go (ℕ_discrete i j) (ℕ_discrete v u)
   where
     go : Dec (i ≡ j) → Dec (v ≡ u) → same i v j u ≡ false
     go (yes p) (yes q) = absurd (ne (p, q))
-    go (yes p) (no q) = rw (p, eqb_same j, eqb-other q)
-    go (no p) d = rw (eqb-other p)
+    go (yes p) (no q) = rw (p, eqb_same j, eqb_other q)
+    go (no p) d = rw (eqb_other p)
 
 and_both : (a b : Bool) → (a && b) ≡ true → (a ≡ true) × (b ≡ true)
 and_both true b t = (refl, t)
@@ -42,33 +42,33 @@ pub same_true : (i v j u : ℕ) → same i v j u ≡ true → (i ≡ j) × (v �
 same_true i v j u t = let r = and_both (eqb i j) (eqb v u) t in (eqb-true i j r.0, eqb-true v u r.1)
 
 -- an output VC is its output and its VC
-pub outVc-path : (b : OutVc) (o w : ℕ) → b.output ≡ o → b.vc ≡ w → b ≡ record { output = o; vc = w }
-outVc-path b o w p q = λ x. record { output = p x; vc = q x }
+pub out_vc_path : (b : OutVc) (o w : ℕ) → b.output ≡ o → b.vc ≡ w → b ≡ record { output = o; vc = w }
+out_vc_path b o w p q = λ x. record { output = p x; vc = q x }
 
 module _ (i v : ℕ) where
   -- the tests of the readings for VC v of port i
-  abbrev comesHomeTo : InVc → Bool
-  comesHomeTo r = same r.input r.vc i v
+  abbrev comes_home_to : InVc → Bool
+  comes_home_to r = same r.input r.vc i v
 
-  abbrev comesBackTo : OutVc → Bool
-  comesBackTo r = same r.output r.vc i v
+  abbrev comes_back_to : OutVc → Bool
+  comes_back_to r = same r.output r.vc i v
 
   module _ {Flit : Type 0} where
-    abbrev offeredTo : Offer Flit → Bool
-    offeredTo o = same o.input o.vc i v
+    abbrev offered_to : Offer Flit → Bool
+    offered_to o = same o.input o.vc i v
 
-    abbrev comesFrom : Departure Flit → Bool
-    comesFrom d = same d.input d.vc i v
+    abbrev comes_from : Departure Flit → Bool
+    comes_from d = same d.input d.vc i v
 
-    abbrev goesBy : Departure Flit → Bool
-    goesBy d = same d.output d.outVc i v
+    abbrev goes_by : Departure Flit → Bool
+    goes_by d = same d.output d.out_vc i v
 
     -- the offer of input j
-    offers-other : (j : ℕ) (b : Option (Brought Flit)) → j ≢ i → keep offeredTo (offersAt j b) ≡ []
+    offers-other : (j : ℕ) (b : Option (Brought Flit)) → j ≢ i → keep offered_to (offers_at j b) ≡ []
     offers-other j none ne = refl
-    offers-other j (some b) ne = rw (same-other j b.vc i v (λ q. ne q.0))
+    offers-other j (some b) ne = rw (same_other j b.vc i v (λ q. ne q.0))
 
-    offers-own : (b : Option (Brought Flit)) → map (λ (o : Offer Flit). o.flit) (keep offeredTo (offersAt i b)) ≡ onVc v b
+    offers-own : (b : Option (Brought Flit)) → map (λ (o : Offer Flit). o.flit) (keep offered_to (offers_at i b)) ≡ on_vc v b
     offers-own none = refl
     offers-own (some b) = rw (eqb_same i) (go (eqb b.vc v))
       where
@@ -78,29 +78,29 @@ module _ (i v : ℕ) where
         go false = refl
 
     -- what leaves from VC u of input j, read by its source
-    leaving-other : (j u : ℕ) (l : Bool) (b : Option OutVc) (q : List Flit) → ¬ ((j ≡ i) × (u ≡ v)) → keep comesFrom (leaving j u l b q)
+    leaving-other : (j u : ℕ) (l : Bool) (b : Option OutVc) (q : List Flit) → ¬ ((j ≡ i) × (u ≡ v)) → keep comes_from (leaving j u l b q)
         ≡ []
-    leaving-other j u l b q ne = leaving-cases j u (λ ds. keep comesFrom ds ≡ []) l b q refl (λ a f x y. rw (same-other j u i v ne))
+    leaving-other j u l b q ne = leaving_cases j u (λ ds. keep comes_from ds ≡ []) l b q refl (λ a f x y. rw (same_other j u i v ne))
 
-    leaving-own : (l : Bool) (b : Option OutVc) (q : List Flit) → keep comesFrom (leaving i v l b q) ≡ leaving i v l b q
-    leaving-own l b q = leaving-cases i v (λ ds. keep comesFrom ds ≡ ds) l b q refl (λ a f x y. rw (same-own i v))
+    leaving-own : (l : Bool) (b : Option OutVc) (q : List Flit) → keep comes_from (leaving i v l b q) ≡ leaving i v l b q
+    leaving-own l b q = leaving_cases i v (λ ds. keep comes_from ds ≡ ds) l b q refl (λ a f x y. rw (same_own i v))
 
     -- the same, read by its output VC
     leaving-by : (j u : ℕ) (l : Bool) (b : Option OutVc) (q : List Flit) → b ≡ some (record { output = i; vc = v }) →
-        keep goesBy (leaving j u l b q) ≡ leaving j u l b q
+        keep goes_by (leaving j u l b q) ≡ leaving j u l b q
     leaving-by j u l b q e =
-        leaving-cases j u (λ ds. keep goesBy ds ≡ ds) l b q refl
-        (λ a f x y. rw (some-injective a (record { output = i; vc = v }) (sym y ∙ e), same-own i v))
+        leaving_cases j u (λ ds. keep goes_by ds ≡ ds) l b q refl
+        (λ a f x y. rw (some-injective a (record { output = i; vc = v }) (sym y ∙ e), same_own i v))
 
     leaving-past : (j u : ℕ) (l : Bool) (b : Option OutVc) (q : List Flit) → b ≢ some (record { output = i; vc = v })
-        → keep goesBy (leaving j u l b q) ≡ []
-    leaving-past j u l b q ne = leaving-cases j u (λ ds. keep goesBy ds ≡ []) l b q refl
-        (λ a f x y. rw (same-other a.output a.vc i v (λ e. ne (y ∙ ap {B = Option OutVc} some (outVc-path a i v e.0 e.1)))))
+        → keep goes_by (leaving j u l b q) ≡ []
+    leaving-past j u l b q ne = leaving_cases j u (λ ds. keep goes_by ds ≡ []) l b q refl
+        (λ a f x y. rw (same_other a.output a.vc i v (λ e. ne (y ∙ ap {B = Option OutVc} some (out_vc_path a i v e.0 e.1)))))
 
     leaving-found : (j u : ℕ) (l : Bool) (b : Option OutVc) (q : List Flit) (d : Departure Flit) (ds : List (Departure Flit)) →
-        keep goesBy (leaving j u l b q) ≡ d ∷ ds → (l ≡ true) × (b ≡ some (record { output = i; vc = v }))
+        keep goes_by (leaving j u l b q) ≡ d ∷ ds → (l ≡ true) × (b ≡ some (record { output = i; vc = v }))
     leaving-found j u l b q d ds =
-        leaving-cases j u (λ x. keep goesBy x ≡ d ∷ ds → (l ≡ true) × (b ≡ some (record { output = i; vc = v }))) l b q
+        leaving_cases j u (λ x. keep goes_by x ≡ d ∷ ds → (l ≡ true) × (b ≡ some (record { output = i; vc = v }))) l b q
         (λ e. absurd (nil≢cons e))
         (λ a f x y. go a f x y (same a.output a.vc i v) refl)
       where
@@ -108,50 +108,50 @@ module _ (i v : ℕ) where
             → cond t (gone j u a f ∷ []) [] ≡ d ∷ ds →
             (l ≡ true) × (b ≡ some (record { output = i; vc = v }))
         go a f x y true t e = let r = same_true a.output a.vc i v t in
-            (x, y ∙ ap {B = Option OutVc} some (outVc-path a i v r.0 r.1))
+            (x, y ∙ ap {B = Option OutVc} some (out_vc_path a i v r.0 r.1))
         go a f x y false t e = absurd (nil≢cons e)
 
   -- the credit of output j
-  credits-other : (j : ℕ) (w : Option ℕ) → j ≢ i → keep comesBackTo (creditsAt j w) ≡ []
-  credits-other j none ne = refl
-  credits-other j (some w) ne = rw (same-other j w i v (λ q. ne q.0))
+  credits_other : (j : ℕ) (w : Option ℕ) → j ≢ i → keep comes_back_to (credits_at j w) ≡ []
+  credits_other j none ne = refl
+  credits_other j (some w) ne = rw (same_other j w i v (λ q. ne q.0))
 
-  credits-own : (w : Option ℕ) → length (keep comesBackTo (creditsAt i w)) ≡ creditFor v w
-  credits-own none = refl
-  credits-own (some w) = rw (eqb_same i) (go (eqb w v))
+  credits_own : (w : Option ℕ) → length (keep comes_back_to (credits_at i w)) ≡ credit_for v w
+  credits_own none = refl
+  credits_own (some w) = rw (eqb_same i) (go (eqb w v))
     where
       go : (t : Bool) → length {A = OutVc} (cond t (record { output = i; vc = w } ∷ []) []) ≡ cond t 1 0
       go true = refl
       go false = refl
 
   -- n credits of VC u of input j
-  reached-other : (j u n : ℕ) → ¬ ((j ≡ i) × (u ≡ v)) → keep comesHomeTo (replicate n (record { input = j; vc = u })) ≡ []
-  reached-other j u n ne = rw (keep-replicate comesHomeTo n (record { input = j; vc = u }), same-other j u i v ne)
+  reached_other : (j u n : ℕ) → ¬ ((j ≡ i) × (u ≡ v)) → keep comes_home_to (replicate n (record { input = j; vc = u })) ≡ []
+  reached_other j u n ne = rw (keep_replicate comes_home_to n (record { input = j; vc = u }), same_other j u i v ne)
 
-  reached-own : (n : ℕ) → keep comesHomeTo (replicate n (record { input = i; vc = v })) ≡ replicate n (record { input = i; vc = v })
-  reached-own n = rw (keep-replicate comesHomeTo n (record { input = i; vc = v }), same-own i v)
+  reached_own : (n : ℕ) → keep comes_home_to (replicate n (record { input = i; vc = v })) ≡ replicate n (record { input = i; vc = v })
+  reached_own n = rw (keep_replicate comes_home_to n (record { input = i; vc = v }), same_own i v)
 
 module _ {Flit : Type 0} (c : Config) (s : Router Flit) (e : Event Flit) (k : Choice) where
   -- The offers of the entry on an input VC are what the step takes on it, if no port beyond the last brings one.
-  pub entry-offers : ((i : ℕ) (b : Brought Flit) → e.offer i ≡ some b → i < c.ports) → (i v : ℕ) →
-      map (λ (o : Offer Flit). o.flit) (offersOn i v (entry c s e k)) ≡ offered e i v
-  entry-offers inside i v =
+  pub entry_offers : ((i : ℕ) (b : Brought Flit) → e.offer i ≡ some b → i < c.ports) → (i v : ℕ) →
+      map (λ (o : Offer Flit). o.flit) (offers_on i v (entry c s e k)) ≡ offered e i v
+  entry_offers inside i v =
       ap (map (λ (o : Offer Flit). o.flit))
-      (keep_one (offeredTo i v) c.ports (λ j. offersAt j (e.offer j)) i (λ j ne. offers-other i v j (e.offer j) ne)
+      (keep_one (offered_to i v) c.ports (λ j. offers_at j (e.offer j)) i (λ j ne. offers-other i v j (e.offer j) ne)
       (λ out. none-beyond out (e.offer i) refl)) ∙ offers-own i v (e.offer i)
     where
-      none-beyond : ¬ (i < c.ports) → (b : Option (Brought Flit)) → e.offer i ≡ b → keep (offeredTo i v) (offersAt i b) ≡ []
+      none-beyond : ¬ (i < c.ports) → (b : Option (Brought Flit)) → e.offer i ≡ b → keep (offered_to i v) (offers_at i b) ≡ []
       none-beyond out none q = refl
       none-beyond out (some b) q = absurd (out (inside i b q))
 
   -- The credits of the entry for an output VC are what the step adds to it, if no port beyond the last brings one.
-  pub entry-credits : ((o w : ℕ) → e.credit o ≡ some w → o < c.ports) → (o w : ℕ) → length (creditsFor o w (entry c s e k))
-      ≡ creditFor w (e.credit o)
-  entry-credits inside o w =
-      ap length (keep_one (comesBackTo o w) c.ports (λ j. creditsAt j (e.credit j)) o (λ j ne. credits-other o w j (e.credit j) ne)
-      (λ out. none-beyond out (e.credit o) refl)) ∙ credits-own o w (e.credit o)
+  pub entry_credits : ((o w : ℕ) → e.credit o ≡ some w → o < c.ports) → (o w : ℕ) → length (credits_for o w (entry c s e k))
+      ≡ credit_for w (e.credit o)
+  entry_credits inside o w =
+      ap length (keep_one (comes_back_to o w) c.ports (λ j. credits_at j (e.credit j)) o (λ j ne. credits_other o w j (e.credit j) ne)
+      (λ out. none-beyond out (e.credit o) refl)) ∙ credits_own o w (e.credit o)
     where
-      none-beyond : ¬ (o < c.ports) → (b : Option ℕ) → e.credit o ≡ b → keep (comesBackTo o w) (creditsAt o b) ≡ []
+      none-beyond : ¬ (o < c.ports) → (b : Option ℕ) → e.credit o ≡ b → keep (comes_back_to o w) (credits_at o b) ≡ []
       none-beyond out none q = refl
       none-beyond out (some b) q = absurd (out (inside o b q))
 
@@ -167,43 +167,43 @@ module _ {Flit : Type 0} (c : Config) (s : Router Flit) (e : Event Flit) (k : Ch
       go false q = rw q
 
   -- The departures of the entry from an input VC are what leaves there.
-  pub entry-from : LeavesInside → (i v : ℕ) → departuresFrom i v (entry c s e k) ≡ departure s k i v
-  entry-from inside i v =
-      keep-grid-one (comesFrom i v) c.ports c.vcs (departure s k) i v
-      (λ j u ne. leaving-other i v j u (k.leaves j u) (boundNow s k j u) (queueNow (s.channel j u)) ne)
+  pub entry_from : LeavesInside → (i v : ℕ) → departures_from i v (entry c s e k) ≡ departure s k i v
+  entry_from inside i v =
+      keep_grid_one (comes_from i v) c.ports c.vcs (departure s k) i v
+      (λ j u ne. leaving-other i v j u (k.leaves j u) (bound_now s k j u) (queue_now (s.channel j u)) ne)
       (λ out. own ∙ stays inside i v out) ∙ own
     where
-      own : keep (comesFrom i v) (departure s k i v) ≡ departure s k i v
-      own = leaving-own i v (k.leaves i v) (boundNow s k i v) (queueNow (s.channel i v))
+      own : keep (comes_from i v) (departure s k i v) ≡ departure s k i v
+      own = leaving-own i v (k.leaves i v) (bound_now s k i v) (queue_now (s.channel i v))
 
   -- The departures of the entry on an output VC are what leaves from the one input VC that is bound to it ..
-  pub entry-on : LeavesInside → (i v : ℕ) (b : OutVc) → boundNow s k i v ≡ some b
-      → ((j u : ℕ) → boundNow s k j u ≡ some b → (j ≡ i) × (u ≡ v)) →
-      departuresOn b.output b.vc (entry c s e k) ≡ departure s k i v
-  entry-on inside i v b q alone =
-      keep-grid-one (goesBy b.output b.vc) c.ports c.vcs (departure s k) i v
-      (λ j u ne. leaving-past b.output b.vc j u (k.leaves j u) (boundNow s k j u) (queueNow (s.channel j u))
+  pub entry_on : LeavesInside → (i v : ℕ) (b : OutVc) → bound_now s k i v ≡ some b
+      → ((j u : ℕ) → bound_now s k j u ≡ some b → (j ≡ i) × (u ≡ v)) →
+      departures_on b.output b.vc (entry c s e k) ≡ departure s k i v
+  entry_on inside i v b q alone =
+      keep_grid_one (goes_by b.output b.vc) c.ports c.vcs (departure s k) i v
+      (λ j u ne. leaving-past b.output b.vc j u (k.leaves j u) (bound_now s k j u) (queue_now (s.channel j u))
       (λ p. ne (alone j u p)))
       (λ out. own ∙ stays inside i v out) ∙ own
     where
-      own : keep (goesBy b.output b.vc) (departure s k i v) ≡ departure s k i v
-      own = leaving-by b.output b.vc i v (k.leaves i v) (boundNow s k i v) (queueNow (s.channel i v)) q
+      own : keep (goes_by b.output b.vc) (departure s k i v) ≡ departure s k i v
+      own = leaving-by b.output b.vc i v (k.leaves i v) (bound_now s k i v) (queue_now (s.channel i v)) q
 
   -- .. and whatever left on an output VC left from an input VC that is bound to it.
-  pub entry-source : (b : OutVc) (d : Departure Flit) (ds : List (Departure Flit)) → departuresOn b.output b.vc (entry c s e k)
+  pub entry_source : (b : OutVc) (d : Departure Flit) (ds : List (Departure Flit)) → departures_on b.output b.vc (entry c s e k)
       ≡ d ∷ ds →
-      (i : ℕ) × (v : ℕ) × (k.leaves i v ≡ true) × (boundNow s k i v ≡ some b)
-  entry-source b d ds q =
-      let r = grid-found c.ports c.vcs (λ j u. keep (goesBy b.output b.vc) (departure s k j u)) d ds
-      (sym (keep-grid (goesBy b.output b.vc) c.ports c.vcs (departure s k)) ∙ q) in
-      let found = leaving-found b.output b.vc r.0 r.1 (k.leaves r.0 r.1) (boundNow s k r.0 r.1)
-      (queueNow (s.channel r.0 r.1)) r.2 r.3 r.4 in
+      (i : ℕ) × (v : ℕ) × (k.leaves i v ≡ true) × (bound_now s k i v ≡ some b)
+  entry_source b d ds q =
+      let r = grid_found c.ports c.vcs (λ j u. keep (goes_by b.output b.vc) (departure s k j u)) d ds
+      (sym (keep_grid (goes_by b.output b.vc) c.ports c.vcs (departure s k)) ∙ q) in
+      let found = leaving-found b.output b.vc r.0 r.1 (k.leaves r.0 r.1) (bound_now s k r.0 r.1)
+      (queue_now (s.channel r.0 r.1)) r.2 r.3 r.4 in
       (r.0, r.1, found.0, found.1)
 
   -- The credits of the entry that reached the sender of an input VC are those that reach it, if none is beyond the ports and VCs.
-  pub entry-reached : (i v : ℕ) → (¬ InRange c i v → reaching (s.channel i v) ≡ 0) →
-      reachedFor i v (entry c s e k) ≡ replicate (reaching (s.channel i v)) (record { input = i; vc = v })
-  entry-reached i v none-beyond =
-      keep-grid-one (comesHomeTo i v) c.ports c.vcs (λ j u. replicate (reaching (s.channel j u)) (record { input = j; vc = u })) i v
-      (λ j u ne. reached-other i v j u (reaching (s.channel j u)) ne) (λ out. rw (none-beyond out))
-      ∙ reached-own i v (reaching (s.channel i v))
+  pub entry_reached : (i v : ℕ) → (¬ InRange c i v → reaching (s.channel i v) ≡ 0) →
+      reached_for i v (entry c s e k) ≡ replicate (reaching (s.channel i v)) (record { input = i; vc = v })
+  entry_reached i v none-beyond =
+      keep_grid_one (comes_home_to i v) c.ports c.vcs (λ j u. replicate (reaching (s.channel j u)) (record { input = j; vc = u })) i v
+      (λ j u ne. reached_other i v j u (reaching (s.channel j u)) ne) (λ out. rw (none-beyond out))
+      ∙ reached_own i v (reaching (s.channel i v))

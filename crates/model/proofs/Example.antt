@@ -9,22 +9,22 @@ use Prim.Native.Nat.{ℕ}
 use lib.Dec.{lit≤}
 use lib.ListN.{length, take}
 use Rattle.model.specs.Sizes.{Config, Delayed}
-use Rattle.model.specs.Channel.{Channel, stored, onWire, goingHome}
+use Rattle.model.specs.Channel.{Channel, stored, on_wire, going_home}
 use Rattle.model.specs.Router.{Router, fresh}
-use Rattle.model.specs.History.{History, leftOn}
+use Rattle.model.specs.History.{History, left_on}
 use Rattle.model.specs.Run.{Run, start}
-use Rattle.model.specs.Times.{acceptedIn, leftIn, reachedIn}
+use Rattle.model.specs.Times.{accepted_in, left_in, reached_in}
 use Rattle.model.specs.Demand3.{Demand3}
 use Rattle.model.proofs.Demand3.{demand3}
 use Rattle.model.proofs.Sample.{Flit, looks, head, body, tail, single, offer, credit, bind, from, left, cycle}
-use Rattle.model.proofs.Given.{Given, routerAfter, historyAfter}
+use Rattle.model.proofs.Given.{Given, router_after, history_after}
 use Rattle.model.proofs.Test.{run_of}
 
 abbrev pub config : Config
 config = record { ports = 3; vcs = 2; depth = 2; downstream = 2; forward = 2; back = 2 }
 
-pub config-delayed : Delayed config
-config-delayed = record { onTheWay = lit≤ tt; onTheWayHome = lit≤ tt }
+pub config_delayed : Delayed config
+config_delayed = record { on_the_way = lit≤ tt; on_the_way_home = lit≤ tt }
 
 abbrev pub cycles : List (Given Flit)
 cycles =
@@ -42,50 +42,50 @@ cycles =
 
 -- the router and the history after the first n cycles
 abbrev pub router : ℕ → Router Flit
-router n = routerAfter looks config (fresh config) (take n cycles)
+router n = router_after looks config (fresh config) (take n cycles)
 
 abbrev pub history : ℕ → History Flit
-history n = historyAfter looks config (fresh config) [] (take n cycles)
+history n = history_after looks config (fresh config) [] (take n cycles)
 
 pub example : Run looks config (router 10) (history 10)
-example = run_of looks config config-delayed (fresh config) [] start cycles tt
+example = run_of looks config config_delayed (fresh config) [] start cycles tt
 
 -- The four numbers of a channel.
 abbrev pub numbers : Channel Flit → List ℕ
-numbers ch = stored config ch ∷ length (onWire ch) ∷ length ch.queue ∷ goingHome ch ∷ []
+numbers ch = stored config ch ∷ length (on_wire ch) ∷ length ch.queue ∷ going_home ch ∷ []
 
 -- After cycle 4 VC 0 of input 0 is bound, and its queue is empty: its tail is yet to come.
-pub bound-and-empty : ((router 5).bound 0 0 ≡ some (record { output = 1; vc = 0 })) × (((router 5).channel 0 0).queue ≡ [])
-bound-and-empty = (refl, refl)
+pub bound_and_empty : ((router 5).bound 0 0 ≡ some (record { output = 1; vc = 0 })) × (((router 5).channel 0 0).queue ≡ [])
+bound_and_empty = (refl, refl)
 
 -- The numbers of two channels after cycles 0, 1, .., 9: stored credits, on the wire, buffered, on the way home. They were worked out by
 -- hand, from the offers and
 -- departures of `cycles` and the sentences of document 01.
-abbrev pub numbersOf : ℕ → ℕ → List (List ℕ)
-numbersOf i v = map (λ n. numbers ((router n).channel i v)) (1 ∷ 2 ∷ 3 ∷ 4 ∷ 5 ∷ 6 ∷ 7 ∷ 8 ∷ 9 ∷ 10 ∷ [])
+abbrev pub numbers_of : ℕ → ℕ → List (List ℕ)
+numbers_of i v = map (λ n. numbers ((router n).channel i v)) (1 ∷ 2 ∷ 3 ∷ 4 ∷ 5 ∷ 6 ∷ 7 ∷ 8 ∷ 9 ∷ 10 ∷ [])
 
-pub numbers-00 : numbersOf 0 0 ≡
+pub numbers_00 : numbers_of 0 0 ≡
     (1 ∷ 1 ∷ 0 ∷ 0 ∷ []) ∷ (1 ∷ 1 ∷ 0 ∷ 0 ∷ []) ∷ (1 ∷ 0 ∷ 1 ∷ 0 ∷ []) ∷ (1 ∷ 0 ∷ 0 ∷ 1 ∷ []) ∷ (1 ∷ 0 ∷ 0 ∷ 1 ∷ []) ∷
     (1 ∷ 1 ∷ 0 ∷ 0 ∷ []) ∷ (1 ∷ 1 ∷ 0 ∷ 0 ∷ []) ∷ (1 ∷ 0 ∷ 0 ∷ 1 ∷ []) ∷ (1 ∷ 0 ∷ 0 ∷ 1 ∷ []) ∷ (2 ∷ 0 ∷ 0 ∷ 0 ∷ []) ∷ []
-numbers-00 = refl
+numbers_00 = refl
 
-pub numbers-20 : numbersOf 2 0 ≡
+pub numbers_20 : numbers_of 2 0 ≡
     (2 ∷ 0 ∷ 0 ∷ 0 ∷ []) ∷ (1 ∷ 1 ∷ 0 ∷ 0 ∷ []) ∷ (1 ∷ 1 ∷ 0 ∷ 0 ∷ []) ∷ (1 ∷ 0 ∷ 1 ∷ 0 ∷ []) ∷ (1 ∷ 0 ∷ 1 ∷ 0 ∷ []) ∷
     (1 ∷ 0 ∷ 0 ∷ 1 ∷ []) ∷ (0 ∷ 1 ∷ 0 ∷ 1 ∷ []) ∷ (1 ∷ 1 ∷ 0 ∷ 0 ∷ []) ∷ (1 ∷ 0 ∷ 0 ∷ 1 ∷ []) ∷ (1 ∷ 0 ∷ 0 ∷ 1 ∷ []) ∷ []
-numbers-20 = refl
+numbers_20 = refl
 
 -- The history's departures: one packet on VC 0 of output 1; on VC 1 a packet of another source, then one that is unfinished.
-pub left-10 : leftOn 1 0 (history 10) ≡ left 1 0 0 0 (head 1 33) ∷ left 1 0 0 0 (tail 34) ∷ []
-left-10 = refl
+pub left_10 : left_on 1 0 (history 10) ≡ left 1 0 0 0 (head 1 33) ∷ left 1 0 0 0 (tail 34) ∷ []
+left_10 = refl
 
-pub left-11 : leftOn 1 1 (history 10) ≡ left 1 1 2 1 (single 1 49) ∷ left 1 1 2 0 (head 1 65) ∷ left 1 1 2 0 (body 66) ∷ []
-left-11 = refl
+pub left_11 : left_on 1 1 (history 10) ≡ left 1 1 2 1 (single 1 49) ∷ left 1 1 2 0 (head 1 65) ∷ left 1 1 2 0 (body 66) ∷ []
+left_11 = refl
 
 -- When: VC 0 of input 0 took flits in cycles 0 and 5, they left in 3 and 7, and their credits reached the sender in 5 and 9.
-pub times-00 : (acceptedIn 0 0 (history 10) ≡ 0 ∷ 5 ∷ []) × (leftIn 0 0 (history 10) ≡ 3 ∷ 7 ∷ [])
-    × (reachedIn 0 0 (history 10) ≡ 5 ∷ 9 ∷ [])
-times-00 = (refl, refl, refl)
+pub times_00 : (accepted_in 0 0 (history 10) ≡ 0 ∷ 5 ∷ []) × (left_in 0 0 (history 10) ≡ 3 ∷ 7 ∷ [])
+    × (reached_in 0 0 (history 10) ≡ 5 ∷ 9 ∷ [])
+times_00 = (refl, refl, refl)
 
 -- Demand 3 of this very run.
-pub example-demand : Demand3 looks config (router 10) (history 10) 9
-example-demand = demand3 looks config config-delayed example
+pub example_demand : Demand3 looks config (router 10) (history 10) 9
+example_demand = demand3 looks config config_delayed example

@@ -34,8 +34,8 @@ is_some none = false
 is_some (some x) = true
 
 module _ {Flit : Type 0} where
-  abbrev pub eventOf : Given Flit → Event Flit
-  eventOf g =
+  abbrev pub event_of : Given Flit → Event Flit
+  event_of g =
       record {
         offer = λ i. map (λ (o : Offer Flit). record { vc = o.vc; flit = o.flit })
             (find (λ (o : Offer Flit). eqb o.input i) g.offers);
@@ -51,10 +51,10 @@ module _ {Flit : Type 0} where
 
 module _ {Flit : Type 0} (look : Look Flit) (c : Config) where
   -- the router and the history after some cycles, from a router and a history
-  abbrev pub routerAfter : Router Flit → List (Given Flit) → Router Flit
-  routerAfter s [] = s
-  routerAfter s (g ∷ gs) = routerAfter (step look c s (eventOf g) (choice_of g)) gs
+  abbrev pub router_after : Router Flit → List (Given Flit) → Router Flit
+  router_after s [] = s
+  router_after s (g ∷ gs) = router_after (step look c s (event_of g) (choice_of g)) gs
 
-  abbrev pub historyAfter : Router Flit → History Flit → List (Given Flit) → History Flit
-  historyAfter s h [] = h
-  historyAfter s h (g ∷ gs) = historyAfter (step look c s (eventOf g) (choice_of g)) (entry c s (eventOf g) (choice_of g) ∷ h) gs
+  abbrev pub history_after : Router Flit → History Flit → List (Given Flit) → History Flit
+  history_after s h [] = h
+  history_after s h (g ∷ gs) = history_after (step look c s (event_of g) (choice_of g)) (entry c s (event_of g) (choice_of g) ∷ h) gs

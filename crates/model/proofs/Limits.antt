@@ -12,39 +12,39 @@ use lib.ListN.{length, drop, replicate}
 use Rattle.model.specs.Lists.{keep, each, flat, All}
 use Rattle.model.specs.Sizes.{Config, Delayed}
 use Rattle.model.specs.Flit.{Look}
-use Rattle.model.specs.Channel.{reaching, queueNow}
+use Rattle.model.specs.Channel.{reaching, queue_now}
 use Rattle.model.specs.Router.{Router, OutVc, InVc}
 use Rattle.model.specs.Cycle.{Event, Choice, Brought}
 use Rattle.model.specs.History.{History, Offer, Departure}
-use Rattle.model.specs.Phases.{granted, boundNow, leaving, departure}
-use Rattle.model.specs.Step.{entry, offersAt, creditsAt, endsPacket, boundAfter, step}
+use Rattle.model.specs.Phases.{granted, bound_now, leaving, departure}
+use Rattle.model.specs.Step.{entry, offers_at, credits_at, ends_packet, bound_after, step}
 use Rattle.model.specs.Legal.{Legal}
 use Rattle.model.specs.Run.{Run, start, accept}
 use Rattle.model.specs.Limits.{InRange, NamesInRange, OncePerPort}
-use Rattle.model.proofs.Lists.{eqb-true, keep-grid, grid-le-one, all-each}
-use Rattle.model.proofs.Cases.{gone, leaving-cases}
-use Rattle.model.proofs.Reading.{Reads, isOpen}
+use Rattle.model.proofs.Lists.{eqb-true, keep_grid, grid_le_one, all-each}
+use Rattle.model.proofs.Cases.{gone, leaving_cases}
+use Rattle.model.proofs.Reading.{Reads, is_open}
 use Rattle.model.proofs.Place.{Goes}
-use Rattle.model.proofs.Invariant.{inv-run, still-held, alone-now, bound-still}
-use Rattle.model.proofs.Ranges.{binds-in-range}
-use Rattle.model.proofs.OutCredits.{output-credits, credit-in-range}
+use Rattle.model.proofs.Invariant.{inv_run, still_held, alone_now, bound_still}
+use Rattle.model.proofs.Ranges.{binds_in_range}
+use Rattle.model.proofs.OutCredits.{output_credits-law, credit-in-range}
 
 module _ {Flit : Type 0} where
   -- at most one flit leaves from an input VC
-  kept-le-one : (p : Departure Flit → Bool) (i v : ℕ) (l : Bool) (b : Option OutVc) (q : List Flit)
+  kept_le_one : (p : Departure Flit → Bool) (i v : ℕ) (l : Bool) (b : Option OutVc) (q : List Flit)
       → length (keep p (leaving i v l b q)) ≤ 1
-  kept-le-one p i v l b q = leaving-cases i v (λ ds. length (keep p ds) ≤ 1) l b q (omega arith) (λ a f x y. go (p (gone i v a f)) a f)
+  kept_le_one p i v l b q = leaving_cases i v (λ ds. length (keep p ds) ≤ 1) l b q (omega arith) (λ a f x y. go (p (gone i v a f)) a f)
     where
       go : (t : Bool) (a : OutVc) (f : Flit) → length (cond t (gone i v a f ∷ []) []) ≤ 1
       go true a f = omega arith
       go false a f = omega arith
 
   -- what is kept of it left from an input VC that is to leave, by what that is bound to
-  kept-left : (p : ℕ → ℕ → Bool) (i v : ℕ) (l : Bool) (b : Option OutVc) (q : List Flit) →
+  kept_left : (p : ℕ → ℕ → Bool) (i v : ℕ) (l : Bool) (b : Option OutVc) (q : List Flit) →
       0 < length (keep (λ (d : Departure Flit). p d.input d.output) (leaving i v l b q)) →
       (l ≡ true) × (a : OutVc) × (b ≡ some a) × (p i a.output ≡ true)
-  kept-left p i v l b q =
-      leaving-cases i v (λ ds. 0 < length (keep (λ (d : Departure Flit). p d.input d.output) ds) →
+  kept_left p i v l b q =
+      leaving_cases i v (λ ds. 0 < length (keep (λ (d : Departure Flit). p d.input d.output) ds) →
       (l ≡ true) × (a : OutVc) × (b ≡ some a) × (p i a.output ≡ true)) l b q (λ k. absurd (omega arith))
       (λ a f x y k. (x, a, y, go (p i a.output) a f k))
     where
@@ -56,34 +56,34 @@ module _ {Flit : Type 0} (look : Look Flit) (c : Config) where
   module _ (s : Router Flit) (e : Event Flit) (k : Choice) (legal : Legal look c s e k) where
     -- A test of input and output that two departures of the cycle pass only if they are one keeps at most one.
     kept-once : (p : ℕ → ℕ → Bool) →
-        ((i v j u : ℕ) (a b : OutVc) → k.leaves i v ≡ true → k.leaves j u ≡ true → boundNow s k i v ≡ some a → boundNow s k j u ≡ some b →
+        ((i v j u : ℕ) (a b : OutVc) → k.leaves i v ≡ true → k.leaves j u ≡ true → bound_now s k i v ≡ some a → bound_now s k j u ≡ some b →
         p i a.output ≡ true → p j b.output ≡ true → (i ≡ j) × (v ≡ u)) →
         length (keep (λ (d : Departure Flit). p d.input d.output) (entry c s e k).departures) ≤ 1
     kept-once p alone =
-        rw (keep-grid test c.ports c.vcs (departure s k))
-        (grid-le-one c.ports c.vcs (λ i v. keep test (departure s k i v))
-        (λ i v. kept-le-one test i v (k.leaves i v) (boundNow s k i v) (queueNow (s.channel i v)))
+        rw (keep_grid test c.ports c.vcs (departure s k))
+        (grid_le_one c.ports c.vcs (λ i v. keep test (departure s k i v))
+        (λ i v. kept_le_one test i v (k.leaves i v) (bound_now s k i v) (queue_now (s.channel i v)))
         (λ i v j u x y. both (found i v x) (found j u y)))
       where
         test : Departure Flit → Bool
         test d = p d.input d.output
 
         Found : ℕ → ℕ → Type 0
-        Found i v = (k.leaves i v ≡ true) × (a : OutVc) × (boundNow s k i v ≡ some a) × (p i a.output ≡ true)
+        Found i v = (k.leaves i v ≡ true) × (a : OutVc) × (bound_now s k i v ≡ some a) × (p i a.output ≡ true)
 
         found : (i v : ℕ) → 0 < length (keep test (departure s k i v)) → Found i v
-        found i v x = kept-left p i v (k.leaves i v) (boundNow s k i v) (queueNow (s.channel i v)) x
+        found i v x = kept_left p i v (k.leaves i v) (bound_now s k i v) (queue_now (s.channel i v)) x
 
         both : {i v j u : ℕ} → Found i v → Found j u → (i ≡ j) × (v ≡ u)
         both {i} {v} {j} {u} x y = alone i v j u x.1 y.1 x.0 y.0 x.2 y.2 x.3 y.3
 
     -- "each output binds at most one per cycle"
-    pub binds-once : (i v j u : ℕ) (a b : OutVc) → s.bound i v ≡ none → s.bound j u ≡ none → boundNow s k i v ≡ some a
-        → boundNow s k j u ≡ some b →
+    pub binds_once-law : (i v j u : ℕ) (a b : OutVc) → s.bound i v ≡ none → s.bound j u ≡ none → bound_now s k i v ≡ some a
+        → bound_now s k j u ≡ some b →
         a.output ≡ b.output → (i ≡ j) × (v ≡ u)
-    binds-once i v j u a b p q x y = legal.bindsOnce i v j u a b (just i v a p x) (just j u b q y)
+    binds_once-law i v j u a b p q x y = legal.binds_once i v j u a b (just i v a p x) (just j u b q y)
       where
-        just : (i v : ℕ) (a : OutVc) → s.bound i v ≡ none → boundNow s k i v ≡ some a → k.grant i v ≡ some a
+        just : (i v : ℕ) (a : OutVc) → s.bound i v ≡ none → bound_now s k i v ≡ some a → k.grant i v ≡ some a
         just i v a p x = go (k.grant i v) x
           where
             go : (g : Option OutVc) → granted g (s.bound i v) ≡ some a → g ≡ some a
@@ -96,44 +96,44 @@ module _ {Flit : Type 0} (look : Look Flit) (c : Config) where
         record {
           inputs = λ n. kept-once (λ i o. eqb i n) (λ i v j u a b x y p q f g. one_input n i v j u x y (eqb-true i n f) (eqb-true j n g));
           outputs = λ n. kept-once (λ i o. eqb o n)
-              (λ i v j u a b x y p q f g. legal.outputOnce i v j u a b x y p q
+              (λ i v j u a b x y p q f g. legal.output_once i v j u a b x y p q
               (eqb-true a.output n f ∙ sym (eqb-true b.output n g)));
         }
       where
         one_input : (n i v j u : ℕ) → k.leaves i v ≡ true → k.leaves j u ≡ true → i ≡ n → j ≡ n → (i ≡ j) × (v ≡ u)
-        one_input n i v j u x y p q = let e : i ≡ j = p ∙ sym q in (e, legal.inputOnce i v u x (rw e y))
+        one_input n i v j u x y p q = let e : i ≡ j = p ∙ sym q in (e, legal.input_once i v u x (rw e y))
 
   -- In every cycle of every run.
-  pub once-per-port : {s : Router Flit} {h : History Flit} → Run look c s h → All OncePerPort h
-  once-per-port start = tt
-  once-per-port (accept {s = s} run e k legal) = (once-now s e k legal, once-per-port run)
+  pub once_per_port : {s : Router Flit} {h : History Flit} → Run look c s h → All OncePerPort h
+  once_per_port start = tt
+  once_per_port (accept {s = s} run e k legal) = (once-now s e k legal, once_per_port run)
 
   module _ (delayed : Delayed c) where
     -- After phase 5 an output VC is held by at most one input VC: "T or S .. frees the output VC, usable from the next cycle".
     pub one-holder : {s : Router Flit} {h : History Flit} → Run look c s h → (e : Event Flit) (k : Choice) → Legal look c s e k
         → (i v j u : ℕ) (b : OutVc) →
-        boundNow s k i v ≡ some b → boundNow s k j u ≡ some b → (i ≡ j) × (v ≡ u)
-    one-holder {s = s} {h = h} run e k legal = alone-now look c delayed s h (inv-run look c delayed run) e k legal
+        bound_now s k i v ≡ some b → bound_now s k j u ≡ some b → (i ≡ j) × (v ≡ u)
+    one-holder {s = s} {h = h} run e k legal = alone_now look c delayed s h (inv_run look c delayed run) e k legal
 
     -- A binding stays what it is until T or S leaves.
     pub stays-bound : {s : Router Flit} {h : History Flit} → Run look c s h → (e : Event Flit) (k : Choice) → Legal look c s e k
         → (i v : ℕ) (b : OutVc) →
-        s.bound i v ≡ some b → (step look c s e k).bound i v ≡ cond (k.leaves i v && endsPacket look (queueNow (s.channel i v))) none
+        s.bound i v ≡ some b → (step look c s e k).bound i v ≡ cond (k.leaves i v && ends_packet look (queue_now (s.channel i v))) none
         (some b)
     stays-bound {s = s} {h = h} run e k legal i v b p =
-        ap (boundAfter look (k.leaves i v) (queueNow (s.channel i v)))
-        (bound-still look c delayed s h (inv-run look c delayed run) e k legal i v b p)
+        ap (bound_after look (k.leaves i v) (queue_now (s.channel i v)))
+        (bound_still look c delayed s h (inv_run look c delayed run) e k legal i v b p)
 
     -- The front flit of an unbound input VC is H or S, so that no B or T ever asks.
     pub front-starts : {s : Router Flit} {h : History Flit} → Run look c s h → (i v : ℕ) (f : Flit) (q : List Flit) → s.bound i v ≡ none →
-        queueNow (s.channel i v) ≡ f ∷ q → look.starts f ≡ true
+        queue_now (s.channel i v) ≡ f ∷ q → look.starts f ≡ true
     front-starts {s = s} {h = h} run i v f q unbound front =
-        let place = (inv-run look c delayed run).place i v in
-        let reads : Reads look (isOpen place.inside) (f ∷ (q ++ flat (drop 1 (s.channel i v).wire))) (s.opened i v) = rw
-        (still-held (s.channel i v), front) at place.reads in
+        let place = (inv_run look c delayed run).place i v in
+        let reads : Reads look (is_open place.inside) (f ∷ (q ++ flat (drop 1 (s.channel i v).wire))) (s.opened i v) = rw
+        (still_held (s.channel i v), front) at place.reads in
         rw (between (s.bound i v) place.inside unbound place.goes) at reads.0
       where
-        between : (b : Option OutVc) (d : Option (Departure Flit)) → b ≡ none → Goes look i v b d (s.channel i v).queue → isOpen d ≡ false
+        between : (b : Option OutVc) (d : Option (Departure Flit)) → b ≡ none → Goes look i v b d (s.channel i v).queue → is_open d ≡ false
         between b none p g = refl
         between none (some d) p g = absurd g
         between (some b) (some d) p g = absurd (none-ne-some b (sym p))
@@ -142,7 +142,7 @@ module _ {Flit : Type 0} (look : Look Flit) (c : Config) where
       names-now : NamesInRange c (entry c s e k)
       names-now =
           record {
-            offers = all-each _ c.ports (λ i. offersAt i (e.offer i)) (λ i l. offer i l (e.offer i) refl);
+            offers = all-each _ c.ports (λ i. offers_at i (e.offer i)) (λ i l. offer i l (e.offer i) refl);
             sources = all-each _ c.ports (λ i. each c.vcs (departure s k i))
                 (λ i l. all-each _ c.vcs (departure s k i) (λ v m. source i v l m));
             outputs = all-each _ c.ports (λ i. each c.vcs (departure s k i))
@@ -150,30 +150,30 @@ module _ {Flit : Type 0} (look : Look Flit) (c : Config) where
             reached = all-each _ c.ports (λ i. each c.vcs (λ v. replicate (reaching (s.channel i v)) (record { input = i; vc = v })))
                 (λ i l. all-each _ c.vcs (λ v. replicate (reaching (s.channel i v)) (record { input = i; vc = v }))
                 (λ v m. home i v l m (reaching (s.channel i v))));
-            credits = all-each _ c.ports (λ o. creditsAt o (e.credit o)) (λ o l. credit o (e.credit o) refl);
+            credits = all-each _ c.ports (λ o. credits_at o (e.credit o)) (λ o l. credit o (e.credit o) refl);
           }
         where
           offer : (i : ℕ) → i < c.ports → (b : Option (Brought Flit)) → e.offer i ≡ b →
-              All (λ (o : Offer Flit). InRange c o.input o.vc) (offersAt i b)
+              All (λ (o : Offer Flit). InRange c o.input o.vc) (offers_at i b)
           offer i l none q = tt
-          offer i l (some b) q = ((l, legal.offerVc i b q), tt)
+          offer i l (some b) q = ((l, legal.offer_vc i b q), tt)
 
           source : (i v : ℕ) → i < c.ports → v < c.vcs → All (λ (d : Departure Flit). InRange c d.input d.vc) (departure s k i v)
-          source i v l m = leaving-cases i v (All (λ (d : Departure Flit). InRange c d.input d.vc)) (k.leaves i v) (boundNow s k i v)
-              (queueNow (s.channel i v)) tt (λ a f x y. ((l, m), tt))
+          source i v l m = leaving_cases i v (All (λ (d : Departure Flit). InRange c d.input d.vc)) (k.leaves i v) (bound_now s k i v)
+              (queue_now (s.channel i v)) tt (λ a f x y. ((l, m), tt))
 
-          output : (i v : ℕ) → All (λ (d : Departure Flit). InRange c d.output d.outVc) (departure s k i v)
-          output i v = leaving-cases i v (All (λ (d : Departure Flit). InRange c d.output d.outVc)) (k.leaves i v) (boundNow s k i v)
-              (queueNow (s.channel i v)) tt (λ a f x y. (binds-in-range look c delayed run e k legal i v a y, tt))
+          output : (i v : ℕ) → All (λ (d : Departure Flit). InRange c d.output d.out_vc) (departure s k i v)
+          output i v = leaving_cases i v (All (λ (d : Departure Flit). InRange c d.output d.out_vc)) (k.leaves i v) (bound_now s k i v)
+              (queue_now (s.channel i v)) tt (λ a f x y. (binds_in_range look c delayed run e k legal i v a y, tt))
 
           home : (i v : ℕ) → i < c.ports → v < c.vcs → (n : ℕ) →
               All (λ (r : InVc). InRange c r.input r.vc) (replicate n (record { input = i; vc = v }))
           home i v l m zero = tt
           home i v l m (suc n) = ((l, m), home i v l m n)
 
-          credit : (o : ℕ) (w : Option ℕ) → e.credit o ≡ w → All (λ (r : OutVc). InRange c r.output r.vc) (creditsAt o w)
+          credit : (o : ℕ) (w : Option ℕ) → e.credit o ≡ w → All (λ (r : OutVc). InRange c r.output r.vc) (credits_at o w)
           credit o none q = tt
-          credit o (some w) q = (credit-in-range look c delayed run e k legal (output-credits look c delayed run) o w q, tt)
+          credit o (some w) q = (credit-in-range look c delayed run e k legal (output_credits-law look c delayed run) o w q, tt)
 
     pub names-in-range : {s : Router Flit} {h : History Flit} → Run look c s h → All (NamesInRange c) h
     names-in-range start = tt

@@ -15,29 +15,29 @@ module _ {Flit : Type 0} where
   after_none t j n [] q l = refl
   after_none t j n (e ∷ h) q l = rw (leb_no (suc t) (e.cycle + j) (omega arith)) (after_none t j e.cycle h q.1 (omega arith))
 
-  upTo-all : (t j n : ℕ) (h : History Flit) → Numbered n h → n + j ≤ suc t → up_to t j h ≡ h
-  upTo-all t j n [] q l = refl
-  upTo-all t j n (e ∷ h) q l = rw (leb_yes (e.cycle + j) t (omega arith))
-      (ap (λ (r : History Flit). e ∷ r) (upTo-all t j e.cycle h q.1 (omega arith)))
+  up_to_all : (t j n : ℕ) (h : History Flit) → Numbered n h → n + j ≤ suc t → up_to t j h ≡ h
+  up_to_all t j n [] q l = refl
+  up_to_all t j n (e ∷ h) q l = rw (leb_yes (e.cycle + j) t (omega arith))
+      (ap (λ (r : History Flit). e ∷ r) (up_to_all t j e.cycle h q.1 (omega arith)))
 
   -- the same with the newest k entries left out
-  after-take : (t j k n : ℕ) (h : History Flit) → Numbered n h → n + j ≡ suc t → after t (j + k) h ≡ take k h
-  after-take t j zero n h q l = after_none t (j + 0) n h q (omega arith)
-  after-take t j (suc k) n [] q l = refl
-  after-take t j (suc k) n (e ∷ h) q l =
+  after_take : (t j k n : ℕ) (h : History Flit) → Numbered n h → n + j ≡ suc t → after t (j + k) h ≡ take k h
+  after_take t j zero n h q l = after_none t (j + 0) n h q (omega arith)
+  after_take t j (suc k) n [] q l = refl
+  after_take t j (suc k) n (e ∷ h) q l =
       rw (leb_yes (suc t) (e.cycle + (j + suc k)) (omega arith))
-      (ap (λ (r : History Flit). e ∷ r) (rw (add-suc j k, ← suc-add j k) (after-take t (suc j) k e.cycle h q.1 (omega arith))))
+      (ap (λ (r : History Flit). e ∷ r) (rw (add-suc j k, ← suc-add j k) (after_take t (suc j) k e.cycle h q.1 (omega arith))))
 
-  upTo-drop : (t j k n : ℕ) (h : History Flit) → Numbered n h → n + j ≡ suc t → up_to t (j + k) h ≡ drop k h
-  upTo-drop t j zero n h q l = upTo-all t (j + 0) n h q (omega arith)
-  upTo-drop t j (suc k) n [] q l = refl
-  upTo-drop t j (suc k) n (e ∷ h) q l =
+  up_to_drop : (t j k n : ℕ) (h : History Flit) → Numbered n h → n + j ≡ suc t → up_to t (j + k) h ≡ drop k h
+  up_to_drop t j zero n h q l = up_to_all t (j + 0) n h q (omega arith)
+  up_to_drop t j (suc k) n [] q l = refl
+  up_to_drop t j (suc k) n (e ∷ h) q l =
       rw (leb_no (e.cycle + (j + suc k)) t (omega arith), add-suc j k, ← suc-add j k)
-      (upTo-drop t (suc j) k e.cycle h q.1 (omega arith))
+      (up_to_drop t (suc j) k e.cycle h q.1 (omega arith))
 
   -- After cycle t, "after t−k" is the newest k entries, and "up to t−k" the others.
-  pub after-newest : (t k : ℕ) (h : History Flit) → Numbered (suc t) h → after t k h ≡ take k h
-  after-newest t k h q = rw (zero-add k) at (after-take t 0 k (suc t) h q (omega arith))
+  pub after_newest : (t k : ℕ) (h : History Flit) → Numbered (suc t) h → after t k h ≡ take k h
+  after_newest t k h q = rw (zero-add k) at (after_take t 0 k (suc t) h q (omega arith))
 
-  pub upTo-older : (t k : ℕ) (h : History Flit) → Numbered (suc t) h → up_to t k h ≡ drop k h
-  upTo-older t k h q = rw (zero-add k) at (upTo-drop t 0 k (suc t) h q (omega arith))
+  pub up_to_older : (t k : ℕ) (h : History Flit) → Numbered (suc t) h → up_to t k h ≡ drop k h
+  up_to_older t k h q = rw (zero-add k) at (up_to_drop t 0 k (suc t) h q (omega arith))

@@ -12,12 +12,12 @@ use Rattle.model.specs.Flit.{Look}
 use Rattle.model.specs.Router.{OutVc}
 use Rattle.model.specs.History.{Departure, flits}
 use Rattle.model.specs.Phases.{leaving}
-use Rattle.model.specs.Step.{boundAfter}
+use Rattle.model.specs.Step.{bound_after}
 use Rattle.model.specs.Legal.{Asks}
 use Rattle.model.specs.Packets.{Whole, Packets}
 use Rattle.model.specs.Demand3.{ByHeadsPort, FromOneSource}
 use Rattle.model.proofs.Cases.{gone}
-use Rattle.model.proofs.Reading.{Reads, isOpen, head_of, Reading, read-on, reading-packets}
+use Rattle.model.proofs.Reading.{Reads, is_open, head_of, Reading, read_on, reading_packets}
 
 module _ {Flit : Type 0} (look : Look Flit) (i v : ℕ) where
   -- An input VC that is unbound stands between packets. One that is bound stands in front of a head for that output, or inside a packet
@@ -33,27 +33,27 @@ module _ {Flit : Type 0} (look : Look Flit) (i v : ℕ) where
       (on : OutVc → List (Departure Flit)) : Type 0 where
     pub inside : Option (Departure Flit)
     pub goes : Goes b inside q
-    pub reads : Reads look (isOpen inside) (q ++ later) opened
+    pub reads : Reads look (is_open inside) (q ++ later) opened
     pub left : Reading look (ByHeadsPort look) inside from
-    pub onOutput : (a : OutVc) → b ≡ some a → Reading look FromOneSource inside (on a)
+    pub on_output : (a : OutVc) → b ≡ some a → Reading look FromOneSource inside (on a)
 
   -- More flits behind the queue change nothing.
   asks_append : (q r : List Flit) (o : ℕ) → Asks look q o → Asks look (q ++ r) o
   asks_append [] r o a = absurd a
   asks_append (f ∷ q) r o a = a
 
-  pub goes-append : (b : Option OutVc) (h : Option (Departure Flit)) (q r : List Flit) → Goes b h q → Goes b h (q ++ r)
-  goes-append none none q r g = g
-  goes-append none (some h) q r g = absurd g
-  goes-append (some b) none q r g = asks_append q r b.output g
-  goes-append (some b) (some h) q r g = g
+  pub goes_append : (b : Option OutVc) (h : Option (Departure Flit)) (q r : List Flit) → Goes b h q → Goes b h (q ++ r)
+  goes_append none none q r g = g
+  goes_append none (some h) q r g = absurd g
+  goes_append (some b) none q r g = asks_append q r b.output g
+  goes_append (some b) (some h) q r g = g
 
   -- An unbound input VC with a head for an output in front is bound to an output VC on which nothing is unfinished.
-  pub place-bind : {q later : List Flit} {opened : Bool} {from : List (Departure Flit)} {on : OutVc → List (Departure Flit)} (b : OutVc) →
+  pub place_bind : {q later : List Flit} {opened : Bool} {from : List (Departure Flit)} {on : OutVc → List (Departure Flit)} (b : OutVc) →
       Place none q later opened from on → Asks look q b.output → Whole look FromOneSource (on b) → Place (some b) q later opened from on
-  place-bind {q} {later} {opened} {from} {on} b p asks idle = go p.inside p.goes p.reads p.left
+  place_bind {q} {later} {opened} {from} {on} b p asks idle = go p.inside p.goes p.reads p.left
     where
-      go : (h : Option (Departure Flit)) → Goes none h q → Reads look (isOpen h) (q ++ later) opened
+      go : (h : Option (Departure Flit)) → Goes none h q → Reads look (is_open h) (q ++ later) opened
           → Reading look (ByHeadsPort look) h from →
           Place (some b) q later opened from on
       go none g r l =
@@ -62,7 +62,7 @@ module _ {Flit : Type 0} (look : Look Flit) (i v : ℕ) where
             goes = asks;
             reads = r;
             left = l;
-            onOutput = λ a e. subst (λ (x : OutVc). Whole look FromOneSource (on x)) (some-injective b a e) idle;
+            on_output = λ a e. subst (λ (x : OutVc). Whole look FromOneSource (on x)) (some-injective b a e) idle;
           }
       go (some h) g r l = absurd g
 
@@ -80,25 +80,25 @@ module _ {Flit : Type 0} (look : Look Flit) (i v : ℕ) where
     -- The front flit of a bound input VC leaves: the VC's packets and the output VC's packets go on alike ..
     module _ {q later : List Flit} {opened : Bool} {from : List (Departure Flit)} {on : OutVc → List (Departure Flit)}
         (p : Place (some b) (f ∷ q) later opened from on) where
-      abbrev pub insideAfter : Option (Departure Flit)
-      insideAfter = cond (look.ends f) none (some (head_of p.inside front))
+      abbrev pub inside_after : Option (Departure Flit)
+      inside_after = cond (look.ends f) none (some (head_of p.inside front))
 
-      pub output-reads : Reading look FromOneSource insideAfter (on b ++ (front ∷ []))
+      pub output-reads : Reading look FromOneSource inside_after (on b ++ (front ∷ []))
       output-reads =
           let fits = front_fits p.inside q p.goes in
-          read-on look FromOneSource p.inside (on b) front (p.onOutput b refl) p.reads.0 (sym fits.1, sym fits.2)
+          read_on look FromOneSource p.inside (on b) front (p.on_output b refl) p.reads.0 (sym fits.1, sym fits.2)
 
       -- .. and its tail unbinds.
       pub place-leave : (after : OutVc → List (Departure Flit)) → after b ≡ on b ++ (front ∷ []) →
           Place (cond (look.ends f) none (some b)) q later opened (from ++ (front ∷ [])) after
       place-leave after e =
           record {
-            inside = insideAfter;
+            inside = inside_after;
             goes = goes (look.ends f) p.inside (front_fits p.inside q p.goes);
             reads = reads (look.ends f) p.inside p.reads.1;
-            left = read-on look (ByHeadsPort look) p.inside from front p.left p.reads.0
+            left = read_on look (ByHeadsPort look) p.inside from front p.left p.reads.0
                 (sym (front_fits p.inside q p.goes).0);
-            onOutput = λ a r. out a (look.ends f) r output-reads;
+            on_output = λ a r. out a (look.ends f) r output-reads;
           }
         where
           goes : (t : Bool) (h : Option (Departure Flit)) →
@@ -108,36 +108,36 @@ module _ {Flit : Type 0} (look : Look Flit) (i v : ℕ) where
           goes false h g = g
 
           reads : (t : Bool) (h : Option (Departure Flit)) → Reads look (not t) (q ++ later) opened →
-              Reads look (isOpen (cond t none (some (head_of h front)))) (q ++ later) opened
+              Reads look (is_open (cond t none (some (head_of h front)))) (q ++ later) opened
           reads true h r = r
           reads false h r = r
 
-          out : (a : OutVc) (t : Bool) → cond t none (some b) ≡ some a → Reading look FromOneSource insideAfter (on b ++ (front ∷ [])) →
-              Reading look FromOneSource insideAfter (after a)
+          out : (a : OutVc) (t : Bool) → cond t none (some b) ≡ some a → Reading look FromOneSource inside_after (on b ++ (front ∷ [])) →
+              Reading look FromOneSource inside_after (after a)
           out a true r w = absurd (none-ne-some a r)
           out a false r w = rw (← some-injective b a r, e) w
 
   -- What leaves, if anything is to, is the front of the queue.
-  pub leaving-front : (l : Bool) (b : Option OutVc) (q : List Flit) → (l ≡ true → IsSome b) → (l ≡ true → 0 < length q) →
+  pub leaving_front : (l : Bool) (b : Option OutVc) (q : List Flit) → (l ≡ true → IsSome b) → (l ≡ true → 0 < length q) →
       (length (leaving i v l b q) ≡ cond l 1 0) × (flits (leaving i v l b q) ++ drop (cond l 1 0) q ≡ q)
-  leaving-front false b q bound flit = (refl, refl)
-  leaving-front true none q bound flit = absurd (bound refl)
-  leaving-front true (some b) [] bound flit = let l = flit refl in absurd (omega arith)
-  leaving-front true (some b) (f ∷ q) bound flit = (refl, refl)
+  leaving_front false b q bound flit = (refl, refl)
+  leaving_front true none q bound flit = absurd (bound refl)
+  leaving_front true (some b) [] bound flit = let l = flit refl in absurd (omega arith)
+  leaving_front true (some b) (f ∷ q) bound flit = (refl, refl)
 
   module _ {later : List Flit} {opened : Bool} {from : List (Departure Flit)} {on : OutVc → List (Departure Flit)} where
     -- An input VC's place after the cycle, in which it lets its front flit leave or not ..
     pub place-cycle : (l : Bool) (b : Option OutVc) (q : List Flit) → (l ≡ true → IsSome b) → (l ≡ true → 0 < length q)
         → Place b q later opened from on →
         (after : OutVc → List (Departure Flit)) → ((a : OutVc) → b ≡ some a → after a ≡ on a ++ leaving i v l b q) →
-        Place (boundAfter look l q b) (drop (cond l 1 0) q) later opened (from ++ leaving i v l b q) after
+        Place (bound_after look l q b) (drop (cond l 1 0) q) later opened (from ++ leaving i v l b q) after
     place-cycle false b q bound flit p after e =
         record {
           inside = p.inside;
           goes = p.goes;
           reads = p.reads;
           left = rw (append-nil from) p.left;
-          onOutput = λ a r. rw (e a r, append-nil (on a)) (p.onOutput a r);
+          on_output = λ a r. rw (e a r, append-nil (on a)) (p.on_output a r);
         }
     place-cycle true none q bound flit p after e = absurd (bound refl)
     place-cycle true (some b) [] bound flit p after e = let l = flit refl in absurd (omega arith)
@@ -146,12 +146,12 @@ module _ {Flit : Type 0} (look : Look Flit) (i v : ℕ) where
     -- .. and the packets on the output VC by which it leaves.
     pub output-cycle : (b : Option OutVc) (q : List Flit) (a : OutVc) → b ≡ some a → 0 < length q → Place b q later opened from on →
         Packets look FromOneSource (on a ++ leaving i v true b q) ×
-        (boundAfter look true q b ≢ some a → Whole look FromOneSource (on a ++ leaving i v true b q))
+        (bound_after look true q b ≢ some a → Whole look FromOneSource (on a ++ leaving i v true b q))
     output-cycle none q a e flit p = absurd (none-ne-some a e)
     output-cycle (some b) [] a e flit p = absurd (omega arith)
     output-cycle (some b) (f ∷ q) a e flit p =
         rw (← some-injective b a e) (
-          reading-packets look FromOneSource (insideAfter b f p) (on b ++ (gone i v b f ∷ [])) (output-reads b f p),
+          reading_packets look FromOneSource (inside_after b f p) (on b ++ (gone i v b f ∷ [])) (output-reads b f p),
           λ ne. go (look.ends f) ne
               (output-reads b f p),
         )

@@ -14,14 +14,14 @@ module _ {Flit : Type 0} (look : Look Flit) where
   Reads a [] b = a ≡ b
   Reads a (f ∷ fs) b = (look.starts f ≡ not a) × Reads (not (look.ends f)) fs b
 
-  pub reads-append : (a : Bool) (fs gs : List Flit) (b z : Bool) → Reads a fs b → Reads b gs z → Reads a (fs ++ gs) z
-  reads-append a [] gs b z r q = rw r q
-  reads-append a (f ∷ fs) gs b z r q = (r.0, reads-append (not (look.ends f)) fs gs b z r.1 q)
+  pub reads_append : (a : Bool) (fs gs : List Flit) (b z : Bool) → Reads a fs b → Reads b gs z → Reads a (fs ++ gs) z
+  reads_append a [] gs b z r q = rw r q
+  reads_append a (f ∷ fs) gs b z r q = (r.0, reads_append (not (look.ends f)) fs gs b z r.1 q)
 
 -- whether a reading stands inside a packet: with some head
-abbrev pub isOpen : {Flit : Type 0} → Option (Departure Flit) → Bool
-isOpen none = false
-isOpen (some h) = true
+abbrev pub is_open : {Flit : Type 0} → Option (Departure Flit) → Bool
+is_open none = false
+is_open (some h) = true
 
 -- the head of the packet that a flit d read there belongs to
 abbrev pub head_of : {Flit : Type 0} → Option (Departure Flit) → Departure Flit → Departure Flit
@@ -35,18 +35,18 @@ module _ {Flit : Type 0} (look : Look Flit) (Fits : Departure Flit → Departure
   Reading (some h) ds = (ps : List (Departure Flit)) × (p : List (Departure Flit)) × (ds ≡ ps ++ p) × Whole look Fits ps
       × Begun look Fits h p
 
-  pub reading-packets : (r : Option (Departure Flit)) (ds : List (Departure Flit)) → Reading r ds → Packets look Fits ds
-  reading-packets none ds w = finished w
-  reading-packets (some h) ds w = rw w.2 (unfinished w.3 w.4)
+  pub reading_packets : (r : Option (Departure Flit)) (ds : List (Departure Flit)) → Reading r ds → Packets look Fits ds
+  reading_packets none ds w = finished w
+  reading_packets (some h) ds w = rw w.2 (unfinished w.3 w.4)
 
   -- one more flit, of a kind that is in order and of the packet that is open
-  pub read-on : (r : Option (Departure Flit)) (ds : List (Departure Flit)) (d : Departure Flit) → Reading r ds → look.starts d.flit
-      ≡ not (isOpen r) →
+  pub read_on : (r : Option (Departure Flit)) (ds : List (Departure Flit)) (d : Departure Flit) → Reading r ds → look.starts d.flit
+      ≡ not (is_open r) →
       Fits (head_of r d) d → Reading (cond (look.ends d.flit) none (some (head_of r d))) (ds ++ (d ∷ []))
-  read-on r ds d w starts fits = go r (look.ends d.flit) refl w starts fits
+  read_on r ds d w starts fits = go r (look.ends d.flit) refl w starts fits
     where
       go : (r : Option (Departure Flit)) (ends : Bool) → look.ends d.flit ≡ ends → Reading r ds → look.starts d.flit
-          ≡ not (isOpen r) →
+          ≡ not (is_open r) →
           Fits (head_of r d) d → Reading (cond ends none (some (head_of r d))) (ds ++ (d ∷ []))
       go none true e w s f = next w (single s e f)
       go none false e w s f = (ds, d ∷ [], refl, w, head s e f)

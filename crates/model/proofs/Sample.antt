@@ -49,7 +49,7 @@ from i v = record { input = i; vc = v }
 
 -- a flit f that left by VC w of output o from VC v of input i
 abbrev pub left : ℕ → ℕ → ℕ → ℕ → Flit → Departure Flit
-left o w i v f = record { output = o; outVc = w; input = i; vc = v; flit = f }
+left o w i v f = record { output = o; out_vc = w; input = i; vc = v; flit = f }
 
 -- a cycle of offers, credits, bindings and departures
 abbrev pub cycle : List (Offer Flit) → List OutVc → List Bind → List InVc → Given Flit

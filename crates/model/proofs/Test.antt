@@ -12,20 +12,20 @@ use lib.Dec.{T, ltb, ltb→lt, eqb}
 use lib.ListN.{length, get_or}
 use Rattle.model.specs.Sizes.{Config, Delayed}
 use Rattle.model.specs.Flit.{Look}
-use Rattle.model.specs.Channel.{takenNow, queueNow}
+use Rattle.model.specs.Channel.{taken_now, queue_now}
 use Rattle.model.specs.Router.{Router, OutVc, InVc}
 use Rattle.model.specs.Cycle.{Event, Choice, Brought}
 use Rattle.model.specs.History.{History, Offer, same}
-use Rattle.model.specs.Phases.{boundNow, outCreditNow}
+use Rattle.model.specs.Phases.{bound_now, out_credit_now}
 use Rattle.model.specs.Step.{step, entry}
 use Rattle.model.specs.Legal.{Legal, Asks, Free}
 use Rattle.model.specs.Run.{Run, accept}
 use Rattle.model.specs.Limits.{InRange}
 use Rattle.model.proofs.Lists.{passed, eqb-true, eqb_same}
 use Rattle.model.proofs.Cases.{in_range?}
-use Rattle.model.proofs.Entries.{same-own, same_true}
-use Rattle.model.proofs.Ranges.{bound-inside}
-use Rattle.model.proofs.Given.{Given, Bind, find, is_some, eventOf, choice_of, routerAfter, historyAfter}
+use Rattle.model.proofs.Entries.{same_own, same_true}
+use Rattle.model.proofs.Ranges.{bound_inside}
+use Rattle.model.proofs.Given.{Given, Bind, find, is_some, event_of, choice_of, router_after, history_after}
 
 -- tests put together
 and_left : (a b : Bool) → T (a && b) → T a
@@ -80,9 +80,9 @@ module _ {A B : Type 0} (key test : A → Bool) (get : A → B) where
       go true e q ih = (x, e, some-injective (get x) b q, and_left (test x) (every test xs) t)
       go false e q ih = ih q
 
-is-some : {A : Type 0} (o : Option A) → is_some o ≡ true → (x : A) × (o ≡ some x)
-is-some none q = absurd (subst (λ (x : Bool). T (not x)) q tt)
-is-some (some x) q = (x, refl)
+is_some-law : {A : Type 0} (o : Option A) → is_some o ≡ true → (x : A) × (o ≡ some x)
+is_some-law none q = absurd (subst (λ (x : Bool). T (not x)) q tt)
+is_some-law (some x) q = (x, refl)
 
 -- the tests of one binding and of one output VC
 abbrev pub asks? : {Flit : Type 0} → Look Flit → List Flit → ℕ → Bool
@@ -101,28 +101,28 @@ abbrev pub elsewhere : Option OutVc → OutVc → Bool
 elsewhere none b = true
 elsewhere (some a) b = not (same a.output a.vc b.output b.vc)
 
-is-elsewhere : (o : Option OutVc) (b : OutVc) → T (elsewhere o b) → o ≢ some b
-is-elsewhere none b t q = none-ne-some b q
-is-elsewhere (some a) b t q = rw (← some-injective a b q, same-own a.output a.vc) at t
+is_elsewhere : (o : Option OutVc) (b : OutVc) → T (elsewhere o b) → o ≢ some b
+is_elsewhere none b t q = none-ne-some b q
+is_elsewhere (some a) b t q = rw (← some-injective a b q, same_own a.output a.vc) at t
 
-abbrev pub sameOutput : Option OutVc → Option OutVc → Bool
-sameOutput none b = false
-sameOutput (some a) none = false
-sameOutput (some a) (some b) = eqb a.output b.output
+abbrev pub same_output : Option OutVc → Option OutVc → Bool
+same_output none b = false
+same_output (some a) none = false
+same_output (some a) (some b) = eqb a.output b.output
 
-unbound-is : (o : Option OutVc) → T (not (is_some o)) → o ≡ none
-unbound-is none t = refl
-unbound-is (some b) t = absurd t
+unbound_is : (o : Option OutVc) → T (not (is_some o)) → o ≡ none
+unbound_is none t = refl
+unbound_is (some b) t = absurd t
 
-bound-is : (o : Option OutVc) → T (is_some o) → IsSome o
-bound-is none t = t
-bound-is (some b) t = t
+bound_is : (o : Option OutVc) → T (is_some o) → IsSome o
+bound_is none t = t
+bound_is (some b) t = t
 
-beq-is : (a b : Bool) → T (beq a b) → a ≡ b
-beq-is true true t = refl
-beq-is true false t = absurd t
-beq-is false true t = absurd t
-beq-is false false t = refl
+beq_is : (a b : Bool) → T (beq a b) → a ≡ b
+beq_is true true t = refl
+beq_is true false t = absurd t
+beq_is false true t = absurd t
+beq_is false false t = refl
 
 eqb_is : {m n : ℕ} → m ≡ n → eqb m n ≡ true
 eqb_is {m} q = rw (← q) (eqb_same m)
@@ -130,38 +130,38 @@ eqb_is {m} q = rw (← q) (eqb_same m)
 -- What a given cycle names passes what every entry of its list passes.
 module _ {Flit : Type 0} (g : Given Flit) where
   abbrev pub e : Event Flit
-  e = eventOf g
+  e = event_of g
 
   abbrev pub k : Choice
   k = choice_of g
 
-  offers-pass : (p : ℕ → ℕ → Flit → Bool) → T (every (λ (o : Offer Flit). p o.input o.vc o.flit) g.offers)
+  offers_pass : (p : ℕ → ℕ → Flit → Bool) → T (every (λ (o : Offer Flit). p o.input o.vc o.flit) g.offers)
       → (i : ℕ) (b : Brought Flit) →
       e.offer i ≡ some b → T (p i b.vc b.flit)
-  offers-pass p t i b q =
+  offers_pass p t i b q =
       let r = found (λ (o : Offer Flit). eqb o.input i) (λ (o : Offer Flit). p o.input o.vc o.flit)
       (λ (o : Offer Flit). record { vc = o.vc; flit = o.flit }) g.offers t b q in
       subst (λ (x : Brought Flit). T (p i x.vc x.flit)) r.2
       (subst (λ (j : ℕ). T (p j r.0.vc r.0.flit)) (eqb-true r.0.input i r.1) r.3)
 
-  credits-pass : (p : ℕ → ℕ → Bool) → T (every (λ (r : OutVc). p r.output r.vc) g.credits) → (o w : ℕ) → e.credit o ≡ some w
+  credits_pass : (p : ℕ → ℕ → Bool) → T (every (λ (r : OutVc). p r.output r.vc) g.credits) → (o w : ℕ) → e.credit o ≡ some w
       → T (p o w)
-  credits-pass p t o w q =
+  credits_pass p t o w q =
       let r = found (λ (r : OutVc). eqb r.output o) (λ (r : OutVc). p r.output r.vc) (λ (r : OutVc). r.vc) g.credits t w q in
       subst (λ (u : ℕ). T (p o u)) r.2 (subst (λ (j : ℕ). T (p j r.0.vc)) (eqb-true r.0.output o r.1) r.3)
 
-  binds-pass : (p : ℕ → ℕ → OutVc → Bool) → T (every (λ (x : Bind). p x.input x.vc x.to) g.binds) → (i v : ℕ) (b : OutVc) →
+  binds_pass : (p : ℕ → ℕ → OutVc → Bool) → T (every (λ (x : Bind). p x.input x.vc x.to) g.binds) → (i v : ℕ) (b : OutVc) →
       k.grant i v ≡ some b → T (p i v b)
-  binds-pass p t i v b q =
+  binds_pass p t i v b q =
       let r = found (λ (x : Bind). same x.input x.vc i v) (λ (x : Bind). p x.input x.vc x.to) (λ (x : Bind). x.to)
       g.binds t b q in
       let here = same_true r.0.input r.0.vc i v r.1 in
       subst (λ (x : OutVc). T (p i v x)) r.2 (subst₂ (λ (j u : ℕ). T (p j u r.0.to)) here.0 here.1 r.3)
 
-  leaves-pass : (p : ℕ → ℕ → Bool) → T (every (λ (x : InVc). p x.input x.vc) g.leaves) → (i v : ℕ) → k.leaves i v ≡ true
+  leaves_pass : (p : ℕ → ℕ → Bool) → T (every (λ (x : InVc). p x.input x.vc) g.leaves) → (i v : ℕ) → k.leaves i v ≡ true
       → T (p i v)
-  leaves-pass p t i v q =
-      let x = is-some (find (λ (x : InVc). same x.input x.vc i v) g.leaves) q in
+  leaves_pass p t i v q =
+      let x = is_some-law (find (λ (x : InVc). same x.input x.vc i v) g.leaves) q in
       let r = found (λ (x : InVc). same x.input x.vc i v) (λ (x : InVc). p x.input x.vc) (λ (x : InVc). x) g.leaves t x.0
       (ap (map (λ (x : InVc). x)) x.1) in
       let here = same_true r.0.input r.0.vc i v r.1 in
@@ -170,10 +170,10 @@ module _ {Flit : Type 0} (g : Given Flit) where
 module _ {Flit : Type 0} (look : Look Flit) (c : Config) (s : Router Flit) (g : Given Flit) where
   abbrev pub paid? : Option OutVc → Bool
   paid? none = true
-  paid? (some b) = ltb 0 (outCreditNow s (e g) b.output b.vc)
+  paid? (some b) = ltb 0 (out_credit_now s (e g) b.output b.vc)
 
   abbrev pub bound? : ℕ → ℕ → Option OutVc
-  bound? i v = boundNow s (k g) i v
+  bound? i v = bound_now s (k g) i v
 
   -- a test for each fact of `Legal`, in its order
   abbrev pub tests : List Bool
@@ -181,21 +181,21 @@ module _ {Flit : Type 0} (look : Look Flit) (c : Config) (s : Router Flit) (g : 
       every (λ (o : Offer Flit). ltb o.input c.ports) g.offers ∷
       every (λ (o : Offer Flit). ltb o.vc c.vcs) g.offers ∷
       every (λ (o : Offer Flit). implies (look.starts o.flit) (ltb (look.port o.flit) c.ports)) g.offers ∷
-      every (λ (r : OutVc). ltb (s.outCredit r.output r.vc) c.downstream) g.credits ∷
+      every (λ (r : OutVc). ltb (s.out_credit r.output r.vc) c.downstream) g.credits ∷
       every (λ (o : Offer Flit). beq (look.starts o.flit) (not (s.opened o.input o.vc))) g.offers ∷
-      every (λ (o : Offer Flit). ltb (takenNow (s.channel o.input o.vc)) c.depth) g.offers ∷
+      every (λ (o : Offer Flit). ltb (taken_now (s.channel o.input o.vc)) c.depth) g.offers ∷
       every (λ (x : Bind). not (is_some (s.bound x.input x.vc))) g.binds ∷
-      every (λ (x : Bind). asks? look (queueNow (s.channel x.input x.vc)) x.to.output) g.binds ∷
+      every (λ (x : Bind). asks? look (queue_now (s.channel x.input x.vc)) x.to.output) g.binds ∷
       every (λ (x : Bind). below c.ports (λ i. below c.vcs (λ v. elsewhere (s.bound i v) x.to))) g.binds ∷
       every (λ (x : Bind). ltb x.to.vc c.vcs) g.binds ∷
       every (λ (x : Bind). every (λ (y : Bind). implies (eqb x.to.output y.to.output)
       (same x.input x.vc y.input y.vc)) g.binds)
       g.binds ∷
       every (λ (x : InVc). is_some (bound? x.input x.vc)) g.leaves ∷
-      every (λ (x : InVc). ltb 0 (length (queueNow (s.channel x.input x.vc)))) g.leaves ∷
+      every (λ (x : InVc). ltb 0 (length (queue_now (s.channel x.input x.vc)))) g.leaves ∷
       every (λ (x : InVc). paid? (bound? x.input x.vc)) g.leaves ∷
       every (λ (x : InVc). every (λ (y : InVc). implies (eqb x.input y.input) (eqb x.vc y.vc)) g.leaves) g.leaves ∷
-      every (λ (x : InVc). every (λ (y : InVc). implies (sameOutput (bound? x.input x.vc) (bound? y.input y.vc))
+      every (λ (x : InVc). every (λ (y : InVc). implies (same_output (bound? x.input x.vc) (bound? y.input y.vc))
       (same x.input x.vc y.input y.vc)) g.leaves) g.leaves ∷
       []
 
@@ -209,96 +209,96 @@ module _ {Flit : Type 0} (look : Look Flit) (c : Config) (s : Router Flit) (g : 
   free_all delayed run b t i v = go (in_range? c i v)
     where
       go : Dec (InRange c i v) → s.bound i v ≢ some b
-      go (yes r) = is-elsewhere (s.bound i v) b
+      go (yes r) = is_elsewhere (s.bound i v) b
           (below_at c.vcs (λ u. elsewhere (s.bound i u) b)
           (below_at c.ports (λ j. below c.vcs (λ u. elsewhere (s.bound j u) b)) t i r.0) v
           r.1)
-      go (no out) = bound-inside look c delayed run i v b out
+      go (no out) = bound_inside look c delayed run i v b out
 
   -- of two that are named, both at one output, or both from one input
-  binds-one : T legal? → (i v j u : ℕ) (a b : OutVc) → (k g).grant i v ≡ some a → (k g).grant j u ≡ some b → a.output ≡ b.output
+  binds_one : T legal? → (i v j u : ℕ) (a b : OutVc) → (k g).grant i v ≡ some a → (k g).grant j u ≡ some b → a.output ≡ b.output
       → (i ≡ j) × (v ≡ u)
-  binds-one t i v j u a b p q o =
-      let one = binds-pass g (λ i v a. every (λ (y : Bind). implies (eqb a.output y.to.output) (same i v y.input y.vc))
+  binds_one t i v j u a b p q o =
+      let one = binds_pass g (λ i v a. every (λ (y : Bind). implies (eqb a.output y.to.output) (same i v y.input y.vc))
       g.binds)
       (nth tests t 10) i v a p in
-      let both = binds-pass g (λ j u b. implies (eqb a.output b.output) (same i v j u)) one j u b q in
+      let both = binds_pass g (λ j u b. implies (eqb a.output b.output) (same i v j u)) one j u b q in
       same_true i v j u (passed (same i v j u) (implied (eqb a.output b.output) (same i v j u) both (eqb_is o)))
 
-  input-one : T legal? → (i v u : ℕ) → (k g).leaves i v ≡ true → (k g).leaves i u ≡ true → v ≡ u
-  input-one t i v u p q =
-      let one = leaves-pass g (λ i v. every (λ (y : InVc). implies (eqb i y.input) (eqb v y.vc)) g.leaves)
+  input_one : T legal? → (i v u : ℕ) → (k g).leaves i v ≡ true → (k g).leaves i u ≡ true → v ≡ u
+  input_one t i v u p q =
+      let one = leaves_pass g (λ i v. every (λ (y : InVc). implies (eqb i y.input) (eqb v y.vc)) g.leaves)
       (nth tests t 14) i v p in
-      let both = leaves-pass g (λ j u. implies (eqb i j) (eqb v u)) one i u q in
+      let both = leaves_pass g (λ j u. implies (eqb i j) (eqb v u)) one i u q in
       eqb-true v u (passed (eqb v u) (implied (eqb i i) (eqb v u) both (eqb_same i)))
 
-  output-one : T legal? → (i v j u : ℕ) (a b : OutVc) → (k g).leaves i v ≡ true → (k g).leaves j u ≡ true → bound? i v ≡ some a
+  output_one : T legal? → (i v j u : ℕ) (a b : OutVc) → (k g).leaves i v ≡ true → (k g).leaves j u ≡ true → bound? i v ≡ some a
       → bound? j u ≡ some b →
       a.output ≡ b.output → (i ≡ j) × (v ≡ u)
-  output-one t i v j u a b p q x y o =
-      let one = leaves-pass g (λ i v. every (λ (y : InVc). implies (sameOutput (bound? i v) (bound? y.input y.vc))
+  output_one t i v j u a b p q x y o =
+      let one = leaves_pass g (λ i v. every (λ (y : InVc). implies (same_output (bound? i v) (bound? y.input y.vc))
       (same i v y.input y.vc))
       g.leaves) (nth tests t 15) i v p in
-      let both = leaves-pass g (λ j u. implies (sameOutput (bound? i v) (bound? j u)) (same i v j u)) one j u q in
-      same_true i v j u (passed (same i v j u) (implied (sameOutput (bound? i v) (bound? j u)) (same i v j u) both (rw (x, y) (eqb_is o))))
+      let both = leaves_pass g (λ j u. implies (same_output (bound? i v) (bound? j u)) (same i v j u)) one j u q in
+      same_true i v j u (passed (same i v j u) (implied (same_output (bound? i v) (bound? j u)) (same i v j u) both (rw (x, y) (eqb_is o))))
 
   -- A cycle that passes, after a run, is within the limits.
-  pub legal-of : Delayed c → {h : History Flit} → Run look c s h → T legal? → Legal look c s (e g) (k g)
-  legal-of delayed run t =
+  pub legal_of : Delayed c → {h : History Flit} → Run look c s h → T legal? → Legal look c s (e g) (k g)
+  legal_of delayed run t =
       record {
-        offerPort = λ i b q. omega (arith, ltb→lt i c.ports (offers-pass g (λ i v f. ltb i c.ports) (nth tests t 0) i b q));
-        offerVc = λ i b q. omega (arith, ltb→lt b.vc c.vcs (offers-pass g (λ i v f. ltb v c.vcs) (nth tests t 1) i b q));
-        offerDestination = λ i b q starts. omega (
+        offer_port = λ i b q. omega (arith, ltb→lt i c.ports (offers_pass g (λ i v f. ltb i c.ports) (nth tests t 0) i b q));
+        offer_vc = λ i b q. omega (arith, ltb→lt b.vc c.vcs (offers_pass g (λ i v f. ltb v c.vcs) (nth tests t 1) i b q));
+        offer_destination = λ i b q starts. omega (
           arith,
           ltb→lt (look.port b.flit) c.ports
               (implied (look.starts b.flit) (ltb (look.port b.flit) c.ports)
-              (offers-pass g (λ i v f. implies (look.starts f) (ltb (look.port f) c.ports)) (nth tests t 2) i b q) starts),
+              (offers_pass g (λ i v f. implies (look.starts f) (ltb (look.port f) c.ports)) (nth tests t 2) i b q) starts),
         );
         room = λ o w q. omega (
           arith,
-          ltb→lt (s.outCredit o w) c.downstream
-              (credits-pass g (λ o w. ltb (s.outCredit o w) c.downstream) (nth tests t 3) o w q),
+          ltb→lt (s.out_credit o w) c.downstream
+              (credits_pass g (λ o w. ltb (s.out_credit o w) c.downstream) (nth tests t 3) o w q),
         );
-        kinds = λ i b q. beq-is (look.starts b.flit) (not (s.opened i b.vc))
-            (offers-pass g (λ i v f. beq (look.starts f) (not (s.opened i v))) (nth tests t 4) i b q);
+        kinds = λ i b q. beq_is (look.starts b.flit) (not (s.opened i b.vc))
+            (offers_pass g (λ i v f. beq (look.starts f) (not (s.opened i v))) (nth tests t 4) i b q);
         paid = λ i b q. omega (
           arith,
-          ltb→lt (takenNow (s.channel i b.vc)) c.depth
-              (offers-pass g (λ i v f. ltb (takenNow (s.channel i v)) c.depth) (nth tests t 5) i b q),
+          ltb→lt (taken_now (s.channel i b.vc)) c.depth
+              (offers_pass g (λ i v f. ltb (taken_now (s.channel i v)) c.depth) (nth tests t 5) i b q),
         );
-        bindsUnbound = λ i v b q. unbound-is (s.bound i v) (binds-pass g (λ i v b. not (is_some (s.bound i v))) (nth tests t 6) i v b q);
-        bindsFront = λ i v b q. asked look (queueNow (s.channel i v)) b.output
-            (binds-pass g (λ i v b. asks? look (queueNow (s.channel i v)) b.output) (nth tests t 7) i v b q);
-        bindsFree = λ i v b q. free_all delayed run b
-            (binds-pass g (λ i v b. below c.ports (λ j. below c.vcs (λ u. elsewhere (s.bound j u) b))) (nth tests t 8) i v b q);
-        bindsVc = λ i v b q. omega (arith, ltb→lt b.vc c.vcs (binds-pass g (λ i v b. ltb b.vc c.vcs) (nth tests t 9) i v b q));
-        bindsOnce = λ i v j u a b p q o. let one = binds-one t i v j u a b p q (cc) in (omega (arith, one), omega (arith, one));
-        leavesBound = λ i v q. bound-is (bound? i v) (leaves-pass g (λ i v. is_some (bound? i v)) (nth tests t 11) i v q);
-        leavesFlit = λ i v q. omega (
+        binds_unbound = λ i v b q. unbound_is (s.bound i v) (binds_pass g (λ i v b. not (is_some (s.bound i v))) (nth tests t 6) i v b q);
+        binds_front = λ i v b q. asked look (queue_now (s.channel i v)) b.output
+            (binds_pass g (λ i v b. asks? look (queue_now (s.channel i v)) b.output) (nth tests t 7) i v b q);
+        binds_free = λ i v b q. free_all delayed run b
+            (binds_pass g (λ i v b. below c.ports (λ j. below c.vcs (λ u. elsewhere (s.bound j u) b))) (nth tests t 8) i v b q);
+        binds_vc = λ i v b q. omega (arith, ltb→lt b.vc c.vcs (binds_pass g (λ i v b. ltb b.vc c.vcs) (nth tests t 9) i v b q));
+        binds_once = λ i v j u a b p q o. let one = binds_one t i v j u a b p q (cc) in (omega (arith, one), omega (arith, one));
+        leaves_bound = λ i v q. bound_is (bound? i v) (leaves_pass g (λ i v. is_some (bound? i v)) (nth tests t 11) i v q);
+        leaves_flit = λ i v q. omega (
           arith,
-          ltb→lt 0 (length (queueNow (s.channel i v)))
-              (leaves-pass g (λ i v. ltb 0 (length (queueNow (s.channel i v)))) (nth tests t 12) i v q),
+          ltb→lt 0 (length (queue_now (s.channel i v)))
+              (leaves_pass g (λ i v. ltb 0 (length (queue_now (s.channel i v)))) (nth tests t 12) i v q),
         );
-        leavesCredit = λ i v b q bound. omega (
+        leaves_credit = λ i v b q bound. omega (
           arith,
-          ltb→lt 0 (outCreditNow s (e g) b.output b.vc)
-              (rw bound at (leaves-pass g (λ i v. paid? (bound? i v)) (nth tests t 13) i v q)),
+          ltb→lt 0 (out_credit_now s (e g) b.output b.vc)
+              (rw bound at (leaves_pass g (λ i v. paid? (bound? i v)) (nth tests t 13) i v q)),
         );
-        inputOnce = λ i v u p q. omega (arith, input-one t i v u p q);
-        outputOnce = λ i v j u a b p q x y o. let one = output-one t i v j u a b p q x y o in (omega (arith, one), omega (arith, one));
+        input_once = λ i v u p q. omega (arith, input_one t i v u p q);
+        output_once = λ i v j u a b p q x y o. let one = output_one t i v j u a b p q x y o in (omega (arith, one), omega (arith, one));
       }
 
 -- Cycles that pass one after another, from a router after a run, make a run.
 module _ {Flit : Type 0} (look : Look Flit) (c : Config) where
   abbrev pub legals? : Router Flit → List (Given Flit) → Bool
   legals? s [] = true
-  legals? s (g ∷ gs) = legal? look c s g && legals? (step look c s (eventOf g) (choice_of g)) gs
+  legals? s (g ∷ gs) = legal? look c s g && legals? (step look c s (event_of g) (choice_of g)) gs
 
   pub run_of : Delayed c → (s : Router Flit) (h : History Flit) → Run look c s h → (gs : List (Given Flit)) → T (legals? s gs) →
-      Run look c (routerAfter look c s gs) (historyAfter look c s h gs)
+      Run look c (router_after look c s gs) (history_after look c s h gs)
   run_of delayed s h run [] t = run
   run_of delayed s h run (g ∷ gs) t =
-      run_of delayed (step look c s (eventOf g) (choice_of g)) (entry c s (eventOf g) (choice_of g) ∷ h)
-      (accept run (eventOf g) (choice_of g)
-      (legal-of look c s g delayed run (and_left (legal? look c s g) (legals? (step look c s (eventOf g) (choice_of g)) gs) t))) gs
-      (and_right (legal? look c s g) (legals? (step look c s (eventOf g) (choice_of g)) gs) t)
+      run_of delayed (step look c s (event_of g) (choice_of g)) (entry c s (event_of g) (choice_of g) ∷ h)
+      (accept run (event_of g) (choice_of g)
+      (legal_of look c s g delayed run (and_left (legal? look c s g) (legals? (step look c s (event_of g) (choice_of g)) gs) t))) gs
+      (and_right (legal? look c s g) (legals? (step look c s (event_of g) (choice_of g)) gs) t)

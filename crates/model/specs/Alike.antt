@@ -3,7 +3,7 @@
 -- Assumes nothing.
 use Rattle.std.specs.Prelude.{◌≡◌, Bool, [], ◌∷◌, ℕ, length}
 use Rattle.model.specs.Lists.{keep}
-use Rattle.model.specs.History.{Departure, Entry, History, departuresFrom, departuresOn}
+use Rattle.model.specs.History.{Departure, Entry, History, departures_from, departures_on}
 
 -- one cycle
 pub record SameCycle {Flit : Type 0} (a b : Entry Flit) : Type 0 where
@@ -12,8 +12,8 @@ pub record SameCycle {Flit : Type 0} (a b : Entry Flit) : Type 0 where
   pub reached : a.reached ≡ b.reached
   pub credits : a.credits ≡ b.credits
   -- of each input VC and of each output VC the same departures, in their order
-  pub from : (i v : ℕ) → departuresFrom i v a ≡ departuresFrom i v b
-  pub on : (o w : ℕ) → departuresOn o w a ≡ departuresOn o w b
+  pub from : (i v : ℕ) → departures_from i v a ≡ departures_from i v b
+  pub on : (o w : ℕ) → departures_on o w a ≡ departures_on o w b
   -- none is lost and none doubled: whatever is asked of a departure, it is true of as many
   pub many : (p : Departure Flit → Bool) → length (keep p a.departures) ≡ length (keep p b.departures)
 

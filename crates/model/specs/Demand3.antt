@@ -4,9 +4,9 @@ use Rattle.std.specs.Prelude.{◌≡◌, true, List, [], ◌∷◌, ◌++◌, �
 use Rattle.model.specs.Lists.{All}
 use Rattle.model.specs.Sizes.{Config}
 use Rattle.model.specs.Flit.{Look}
-use Rattle.model.specs.Channel.{Channel, stored, onWire, goingHome}
+use Rattle.model.specs.Channel.{Channel, stored, on_wire, going_home}
 use Rattle.model.specs.Router.{Router}
-use Rattle.model.specs.History.{History, Numbered, Departure, up_to, after, accepted, leftFrom, leftOn, flits}
+use Rattle.model.specs.History.{History, Numbered, Departure, up_to, after, accepted, left_from, left_on, flits}
 use Rattle.model.specs.Limits.{NamesInRange}
 use Rattle.model.specs.Packets.{Packets}
 
@@ -28,23 +28,23 @@ FromOneSource h d = (d.input ≡ h.input) × (d.vc ≡ h.vc)
 -- Of VC v of input i. `ch` is the channel, F and B are the delays, D is the depth.
 pub record InputDemand {Flit : Type 0} (look : Look Flit) (c : Config) (ch : Channel Flit) (h : History Flit) (t i v : ℕ) : Type 0 where
   -- "on the wire, its offers accepted after t−F"
-  pub wire : length (onWire ch) ≡ length (accepted i v (after t c.forward h))
+  pub wire : length (on_wire ch) ≡ length (accepted i v (after t c.forward h))
   -- "buffered, its offers accepted up to t−F less its departures up to t"
-  pub buffered : length ch.queue + length (leftFrom i v (up_to t 0 h)) ≡ length (accepted i v (up_to t c.forward h))
+  pub buffered : length ch.queue + length (left_from i v (up_to t 0 h)) ≡ length (accepted i v (up_to t c.forward h))
   -- "on the way home, its departures after t−B"
-  pub home : goingHome ch ≡ length (leftFrom i v (after t c.back h))
+  pub home : going_home ch ≡ length (left_from i v (after t c.back h))
   -- "stored credits, D less its offers up to t plus its departures up to t−B"
-  pub credits : stored c ch + length (accepted i v (up_to t 0 h)) ≡ c.depth + length (leftFrom i v (up_to t c.back h))
+  pub credits : stored c ch + length (accepted i v (up_to t 0 h)) ≡ c.depth + length (left_from i v (up_to t c.back h))
   -- the stored credits are D less the slots that the sender has taken
   pub slots : stored c ch + ch.taken ≡ c.depth
   -- ".. and together make the depth."
-  pub depth : stored c ch + length (onWire ch) + length ch.queue + goingHome ch ≡ c.depth
+  pub depth : stored c ch + length (on_wire ch) + length ch.queue + going_home ch ≡ c.depth
   -- "The flits that left from that channel, then those buffered, then those on the wire, are exactly the flits accepted on it, in order"
-  pub order : flits (leftFrom i v h) ++ ch.queue ++ onWire ch ≡ accepted i v h
+  pub order : flits (left_from i v h) ++ ch.queue ++ on_wire ch ≡ accepted i v h
   -- ".. each leaving by the port its packet's head named."
-  pub ports : Packets look (ByHeadsPort look) (leftFrom i v h)
+  pub ports : Packets look (ByHeadsPort look) (left_from i v h)
   -- the same of the flits accepted, in whose places they left
-  pub destinations : LeftByDestination look (leftFrom i v h) (accepted i v h)
+  pub destinations : LeftByDestination look (left_from i v h) (accepted i v h)
 
 pub record Demand3 {Flit : Type 0} (look : Look Flit) (c : Config) (s : Router Flit) (h : History Flit) (t : ℕ) : Type 0 where
   -- the history has one entry for each of the cycles t, .., 1, 0
@@ -56,4 +56,4 @@ pub record Demand3 {Flit : Type 0} (look : Look Flit) (c : Config) (s : Router F
   pub inputs : (i v : ℕ) → i < c.ports → v < c.vcs → InputDemand look c (s.channel i v) h t i v
   -- "On each output channel the flits form whole packets one after another, at most the last unfinished, none holding flits of two
   -- sources."
-  pub outputs : (o w : ℕ) → o < c.ports → w < c.vcs → Packets look FromOneSource (leftOn o w h)
+  pub outputs : (o w : ℕ) → o < c.ports → w < c.vcs → Packets look FromOneSource (left_on o w h)

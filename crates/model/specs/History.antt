@@ -13,7 +13,7 @@ pub record Offer (Flit : Type 0) : Type 0 where
 -- a flit that left: by which output VC, from which input VC
 pub record Departure (Flit : Type 0) : Type 0 where
   pub output : ℕ
-  pub outVc : ℕ
+  pub out_vc : ℕ
   pub input : ℕ
   pub vc : ℕ
   pub flit : Flit
@@ -53,26 +53,26 @@ module _ {Flit : Type 0} where
   abbrev pub after : ℕ → ℕ → History Flit → History Flit
   after t n h = keep (λ (e : Entry Flit). ltb t (e.cycle + n)) h
 
-  abbrev pub offersOn : ℕ → ℕ → Entry Flit → List (Offer Flit)
-  offersOn i v e = keep (λ (o : Offer Flit). same o.input o.vc i v) e.offers
+  abbrev pub offers_on : ℕ → ℕ → Entry Flit → List (Offer Flit)
+  offers_on i v e = keep (λ (o : Offer Flit). same o.input o.vc i v) e.offers
 
-  abbrev pub departuresFrom : ℕ → ℕ → Entry Flit → List (Departure Flit)
-  departuresFrom i v e = keep (λ (d : Departure Flit). same d.input d.vc i v) e.departures
+  abbrev pub departures_from : ℕ → ℕ → Entry Flit → List (Departure Flit)
+  departures_from i v e = keep (λ (d : Departure Flit). same d.input d.vc i v) e.departures
 
-  abbrev pub departuresOn : ℕ → ℕ → Entry Flit → List (Departure Flit)
-  departuresOn o w e = keep (λ (d : Departure Flit). same d.output d.outVc o w) e.departures
+  abbrev pub departures_on : ℕ → ℕ → Entry Flit → List (Departure Flit)
+  departures_on o w e = keep (λ (d : Departure Flit). same d.output d.out_vc o w) e.departures
 
   -- the flits accepted on VC v of input i, the first accepted first
   abbrev pub accepted : ℕ → ℕ → History Flit → List Flit
-  accepted i v h = gather (λ (e : Entry Flit). map (λ (o : Offer Flit). o.flit) (offersOn i v e)) h
+  accepted i v h = gather (λ (e : Entry Flit). map (λ (o : Offer Flit). o.flit) (offers_on i v e)) h
 
   -- what left from VC v of input i, the first to leave first
-  abbrev pub leftFrom : ℕ → ℕ → History Flit → List (Departure Flit)
-  leftFrom i v h = gather (departuresFrom i v) h
+  abbrev pub left_from : ℕ → ℕ → History Flit → List (Departure Flit)
+  left_from i v h = gather (departures_from i v) h
 
   -- what left on VC w of output o, the first to leave first
-  abbrev pub leftOn : ℕ → ℕ → History Flit → List (Departure Flit)
-  leftOn o w h = gather (departuresOn o w) h
+  abbrev pub left_on : ℕ → ℕ → History Flit → List (Departure Flit)
+  left_on o w h = gather (departures_on o w) h
 
   abbrev pub flits : List (Departure Flit) → List Flit
   flits ds = map (λ (d : Departure Flit). d.flit) ds

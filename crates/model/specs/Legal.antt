@@ -4,11 +4,11 @@ use Rattle.std.specs.Prelude.{◌≡◌, ◌≢◌, true, not, List, [], ◌∷�
 use Rattle.std.proofs.Math.Option.{none, some, IsSome}
 use Rattle.model.specs.Sizes.{Config}
 use Rattle.model.specs.Flit.{Look}
-use Rattle.model.specs.Channel.{takenNow, queueNow}
+use Rattle.model.specs.Channel.{taken_now, queue_now}
 use Rattle.model.specs.Router.{Router, OutVc}
 use Rattle.model.specs.Cycle.{Event, Choice, Brought}
-use Rattle.model.specs.Phases.{boundNow, outCreditNow}
-use Rattle.model.specs.Send.{maySend}
+use Rattle.model.specs.Phases.{bound_now, out_credit_now}
+use Rattle.model.specs.Send.{MaySend}
 
 -- "An unbound one whose front flit is H or S asks at its destination" (01, phase 5). A front that is neither does not occur:
 -- `front-starts` of proofs/Limits.
@@ -22,31 +22,31 @@ Free s b = (i v : ℕ) → s.bound i v ≢ some b
 
 pub record Legal {Flit : Type 0} (look : Look Flit) (c : Config) (s : Router Flit) (e : Event Flit) (k : Choice) : Type 0 where
   -- An offer is in range: "3: .. VC, destination or credit too large", "Ports at or beyond P are all zero".
-  pub offerPort : (i : ℕ) (b : Brought Flit) → e.offer i ≡ some b → i < c.ports
-  pub offerVc : (i : ℕ) (b : Brought Flit) → e.offer i ≡ some b → b.vc < c.vcs
-  pub offerDestination : (i : ℕ) (b : Brought Flit) → e.offer i ≡ some b → look.starts b.flit ≡ true → look.port b.flit < c.ports
+  pub offer_port : (i : ℕ) (b : Brought Flit) → e.offer i ≡ some b → i < c.ports
+  pub offer_vc : (i : ℕ) (b : Brought Flit) → e.offer i ≡ some b → b.vc < c.vcs
+  pub offer_destination : (i : ℕ) (b : Brought Flit) → e.offer i ≡ some b → look.starts b.flit ≡ true → look.port b.flit < c.ports
   -- Not 6: "downstream credit where that output VC already has E".
-  pub room : (o w : ℕ) → e.credit o ≡ some w → s.outCredit o w < c.downstream
+  pub room : (o w : ℕ) → e.credit o ≡ some w → s.out_credit o w < c.downstream
   -- Not 4: "B or T with no packet open at that sender VC, or H or S with one open".
   pub kinds : (i : ℕ) (b : Brought Flit) → e.offer i ≡ some b → look.starts b.flit ≡ not (s.opened i b.vc)
   -- Not 5: "no sender credit, after phase 1".
-  pub paid : (i : ℕ) (b : Brought Flit) → e.offer i ≡ some b → maySend c (λ u. takenNow (s.channel i u)) b.vc
+  pub paid : (i : ℕ) (b : Brought Flit) → e.offer i ≡ some b → MaySend c (λ u. taken_now (s.channel i u)) b.vc
   -- A binding is of an unbound input VC ..
-  pub bindsUnbound : (i v : ℕ) (b : OutVc) → k.grant i v ≡ some b → s.bound i v ≡ none
+  pub binds_unbound : (i v : ℕ) (b : OutVc) → k.grant i v ≡ some b → s.bound i v ≡ none
   -- .. whose front flit, after phase 3, is H or S, at its destination ..
-  pub bindsFront : (i v : ℕ) (b : OutVc) → k.grant i v ≡ some b → Asks look (queueNow (s.channel i v)) b.output
+  pub binds_front : (i v : ℕ) (b : OutVc) → k.grant i v ≡ some b → Asks look (queue_now (s.channel i v)) b.output
   -- .. to a free VC of that output, usable from the cycle after the one that freed it ..
-  pub bindsFree : (i v : ℕ) (b : OutVc) → k.grant i v ≡ some b → Free s b
-  pub bindsVc : (i v : ℕ) (b : OutVc) → k.grant i v ≡ some b → b.vc < c.vcs
+  pub binds_free : (i v : ℕ) (b : OutVc) → k.grant i v ≡ some b → Free s b
+  pub binds_vc : (i v : ℕ) (b : OutVc) → k.grant i v ≡ some b → b.vc < c.vcs
   -- .. and "each output binds at most one per cycle".
-  pub bindsOnce : (i v j u : ℕ) (a b : OutVc) → k.grant i v ≡ some a → k.grant j u ≡ some b → a.output ≡ b.output → (i ≡ j) × (v ≡ u)
+  pub binds_once : (i v j u : ℕ) (a b : OutVc) → k.grant i v ≡ some a → k.grant j u ≡ some b → a.output ≡ b.output → (i ≡ j) × (v ≡ u)
   -- What leaves is "a bound input VC (also one bound just now)", "its queue is not empty and its output VC has credit" after phase 2.
-  pub leavesBound : (i v : ℕ) → k.leaves i v ≡ true → IsSome (boundNow s k i v)
-  pub leavesFlit : (i v : ℕ) → k.leaves i v ≡ true → 0 < length (queueNow (s.channel i v))
-  pub leavesCredit : (i v : ℕ) (b : OutVc) → k.leaves i v ≡ true → boundNow s k i v ≡ some b → 0 < outCreditNow s e b.output b.vc
+  pub leaves_bound : (i v : ℕ) → k.leaves i v ≡ true → IsSome (bound_now s k i v)
+  pub leaves_flit : (i v : ℕ) → k.leaves i v ≡ true → 0 < length (queue_now (s.channel i v))
+  pub leaves_credit : (i v : ℕ) (b : OutVc) → k.leaves i v ≡ true → bound_now s k i v ≡ some b → 0 < out_credit_now s e b.output b.vc
   -- "Each input's V-wide arbiter picks one ready VC", "each output's P-wide arbiter picks one row": at most one flit per input and per
   -- output.
-  pub inputOnce : (i v u : ℕ) → k.leaves i v ≡ true → k.leaves i u ≡ true → v ≡ u
-  pub outputOnce : (i v j u : ℕ) (a b : OutVc) → k.leaves i v ≡ true → k.leaves j u ≡ true → boundNow s k i v ≡ some a
-      → boundNow s k j u ≡ some b →
+  pub input_once : (i v u : ℕ) → k.leaves i v ≡ true → k.leaves i u ≡ true → v ≡ u
+  pub output_once : (i v j u : ℕ) (a b : OutVc) → k.leaves i v ≡ true → k.leaves j u ≡ true → bound_now s k i v ≡ some a
+      → bound_now s k j u ≡ some b →
       a.output ≡ b.output → (i ≡ j) × (v ≡ u)

@@ -2,14 +2,14 @@
 -- Assumes nothing.
 use Rattle.std.specs.Prelude.{Bool, true, false, cond, List, [], ◌∷◌, ℕ, ◌+◌, eqb}
 use Rattle.std.proofs.Math.Option.{Option, none, some}
-use Rattle.model.specs.Channel.{queueNow}
+use Rattle.model.specs.Channel.{queue_now}
 use Rattle.model.specs.Router.{Router, OutVc}
 use Rattle.model.specs.Cycle.{Event, Choice, Brought}
 use Rattle.model.specs.History.{Departure}
 
-abbrev pub creditFor : ℕ → Option ℕ → ℕ
-creditFor w none = 0
-creditFor w (some u) = cond (eqb u w) 1 0
+abbrev pub credit_for : ℕ → Option ℕ → ℕ
+credit_for w none = 0
+credit_for w (some u) = cond (eqb u w) 1 0
 
 abbrev pub granted : Option OutVc → Option OutVc → Option OutVc
 granted none before = before
@@ -17,27 +17,27 @@ granted (some b) before = some b
 
 module _ {Flit : Type 0} where
   -- "Each credit from downstream raises the named output VC's credit by one." (01, phase 2) The output credit after phase 2.
-  abbrev pub outCreditNow : Router Flit → Event Flit → ℕ → ℕ → ℕ
-  outCreditNow s e o w = s.outCredit o w + creditFor w (e.credit o)
+  abbrev pub out_credit_now : Router Flit → Event Flit → ℕ → ℕ → ℕ
+  out_credit_now s e o w = s.out_credit o w + credit_for w (e.credit o)
 
-  abbrev pub onVc : ℕ → Option (Brought Flit) → List Flit
-  onVc v none = []
-  onVc v (some b) = cond (eqb b.vc v) (b.flit ∷ []) []
+  abbrev pub on_vc : ℕ → Option (Brought Flit) → List Flit
+  on_vc v none = []
+  on_vc v (some b) = cond (eqb b.vc v) (b.flit ∷ []) []
 
   -- Phase 4: the flit that the cycle brings on VC v of input i, or none.
   abbrev pub offered : Event Flit → ℕ → ℕ → List Flit
-  offered e i v = onVc v (e.offer i)
+  offered e i v = on_vc v (e.offer i)
 
   -- "A bound input VC (also one bound just now)" (01, phase 6): what VC v of input i is bound to after phase 5.
-  abbrev pub boundNow : Router Flit → Choice → ℕ → ℕ → Option OutVc
-  boundNow s k i v = granted (k.grant i v) (s.bound i v)
+  abbrev pub bound_now : Router Flit → Choice → ℕ → ℕ → Option OutVc
+  bound_now s k i v = granted (k.grant i v) (s.bound i v)
 
   abbrev pub leaving : ℕ → ℕ → Bool → Option OutVc → List Flit → List (Departure Flit)
   leaving i v false b q = []
   leaving i v true none q = []
   leaving i v true (some b) [] = []
-  leaving i v true (some b) (f ∷ q) = record { output = b.output; outVc = b.vc; input = i; vc = v; flit = f } ∷ []
+  leaving i v true (some b) (f ∷ q) = record { output = b.output; out_vc = b.vc; input = i; vc = v; flit = f } ∷ []
 
   -- Phase 7: what leaves from VC v of input i, if it is to leave: its front flit, by the output VC that it is bound to.
   abbrev pub departure : Router Flit → Choice → ℕ → ℕ → List (Departure Flit)
-  departure s k i v = leaving i v (k.leaves i v) (boundNow s k i v) (queueNow (s.channel i v))
+  departure s k i v = leaving i v (k.leaves i v) (bound_now s k i v) (queue_now (s.channel i v))

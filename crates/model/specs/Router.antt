@@ -3,7 +3,7 @@
 use Rattle.std.specs.Prelude.{Bool, false, ℕ}
 use Rattle.std.proofs.Math.Option.{Option, none}
 use Rattle.model.specs.Sizes.{Config}
-use Rattle.model.specs.Channel.{Channel, freshChannel}
+use Rattle.model.specs.Channel.{Channel, fresh_channel}
 
 -- one VC of one output
 pub record OutVc : Type 0 where
@@ -20,9 +20,9 @@ pub record Router (Flit : Type 0) : Type 0 where
   pub channel : ℕ → ℕ → Channel Flit  -- by input and VC
   pub opened : ℕ → ℕ → Bool  -- whether the sender of that input VC has a packet open
   pub bound : ℕ → ℕ → Option OutVc  -- "An input VC is either unbound or bound to one output and one of its VCs." (01, phase 5)
-  pub outCredit : ℕ → ℕ → ℕ  -- by output and VC
+  pub out_credit : ℕ → ℕ → ℕ  -- by output and VC
 
 -- "each sender credit is D, each output credit E, the cycle count 0, no packet open, nothing bound or on its way" (01, Sizes)
 abbrev pub fresh : {Flit : Type 0} → Config → Router Flit
 fresh c =
-    record { cycle = 0; channel = λ i v. freshChannel c; opened = λ i v. false; bound = λ i v. none; outCredit = λ o w. c.downstream }
+    record { cycle = 0; channel = λ i v. fresh_channel c; opened = λ i v. false; bound = λ i v. none; out_credit = λ o w. c.downstream }

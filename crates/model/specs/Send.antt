@@ -6,5 +6,5 @@ use Rattle.model.specs.Sizes.{Config}
 -- "5: no sender credit, after phase 1" (01, Numbers given back): the sender of an input may send on VC v, where `taken u` slots of its
 -- VC u are taken after
 -- phase 1, while fewer than D are taken on v.
-abbrev pub maySend : Config → (ℕ → ℕ) → ℕ → Type 0
-maySend c taken v = taken v < c.depth
+abbrev pub MaySend : Config → (ℕ → ℕ) → ℕ → Type 0
+MaySend c taken v = taken v < c.depth

@@ -15,5 +15,5 @@ pub record Config : Type 0 where
 
 -- Of these ranges demand 3 uses only that no delay is zero.
 pub record Delayed (c : Config) : Type 0 where
-  pub onTheWay : 1 ≤ c.forward
-  pub onTheWayHome : 1 ≤ c.back
+  pub on_the_way : 1 ≤ c.forward
+  pub on_the_way_home : 1 ≤ c.back

@@ -5,44 +5,44 @@ use Rattle.std.proofs.Math.Option.{Option, none, some}
 use Rattle.model.specs.Lists.{each}
 use Rattle.model.specs.Sizes.{Config}
 use Rattle.model.specs.Flit.{Look}
-use Rattle.model.specs.Channel.{reaching, queueNow, afterCycle}
+use Rattle.model.specs.Channel.{reaching, queue_now, after_cycle}
 use Rattle.model.specs.Router.{Router, OutVc}
 use Rattle.model.specs.Cycle.{Event, Choice, Brought}
-use Rattle.model.specs.History.{Offer, Entry, departuresOn}
-use Rattle.model.specs.Phases.{offered, outCreditNow, boundNow, departure}
+use Rattle.model.specs.History.{Offer, Entry, departures_on}
+use Rattle.model.specs.Phases.{offered, out_credit_now, bound_now, departure}
 
-abbrev pub offersAt : {Flit : Type 0} → ℕ → Option (Brought Flit) → List (Offer Flit)
-offersAt i none = []
-offersAt i (some b) = record { input = i; vc = b.vc; flit = b.flit } ∷ []
+abbrev pub offers_at : {Flit : Type 0} → ℕ → Option (Brought Flit) → List (Offer Flit)
+offers_at i none = []
+offers_at i (some b) = record { input = i; vc = b.vc; flit = b.flit } ∷ []
 
-abbrev pub creditsAt : ℕ → Option ℕ → List OutVc
-creditsAt o none = []
-creditsAt o (some w) = record { output = o; vc = w } ∷ []
+abbrev pub credits_at : ℕ → Option ℕ → List OutVc
+credits_at o none = []
+credits_at o (some w) = record { output = o; vc = w } ∷ []
 
 -- The cycle's entry: everything that it brought and everything that it gave, by port and VC.
 abbrev pub entry : {Flit : Type 0} → Config → Router Flit → Event Flit → Choice → Entry Flit
 entry c s e k =
     record {
       cycle = s.cycle;
-      offers = each c.ports (λ i. offersAt i (e.offer i));
+      offers = each c.ports (λ i. offers_at i (e.offer i));
       departures = each c.ports (λ i. each c.vcs (λ v. departure s k i v));
       reached = each c.ports (λ i. each c.vcs (λ v. replicate (reaching (s.channel i v)) (record { input = i; vc = v })));
-      credits = each c.ports (λ o. creditsAt o (e.credit o));
+      credits = each c.ports (λ o. credits_at o (e.credit o));
     }
 
 module _ {Flit : Type 0} (look : Look Flit) where
   -- A sender's packet is open after a flit exactly when that flit does not end it.
-  abbrev pub openAfter : Bool → List Flit → Bool
-  openAfter before [] = before
-  openAfter before (f ∷ fs) = openAfter (not (look.ends f)) fs
+  abbrev pub open_after : Bool → List Flit → Bool
+  open_after before [] = before
+  open_after before (f ∷ fs) = open_after (not (look.ends f)) fs
 
-  abbrev pub endsPacket : List Flit → Bool
-  endsPacket [] = false
-  endsPacket (f ∷ q) = look.ends f
+  abbrev pub ends_packet : List Flit → Bool
+  ends_packet [] = false
+  ends_packet (f ∷ q) = look.ends f
 
   -- "T or S unbinds and frees the output VC" (01, phase 7): the binding after a cycle in which the front of the queue left or stayed.
-  abbrev pub boundAfter : Bool → List Flit → Option OutVc → Option OutVc
-  boundAfter left queue b = cond (left && endsPacket queue) none b
+  abbrev pub bound_after : Bool → List Flit → Option OutVc → Option OutVc
+  bound_after left queue b = cond (left && ends_packet queue) none b
 
   -- The router after the cycle. "Each winner leaves its queue, costs one output credit, .. and puts a credit on the way home." (01,
   -- phase 7)
@@ -50,8 +50,8 @@ module _ {Flit : Type 0} (look : Look Flit) where
   step c s e k =
       record {
         cycle = suc s.cycle;
-        channel = λ i v. afterCycle (s.channel i v) (offered e i v) (cond (k.leaves i v) 1 0);
-        opened = λ i v. openAfter (s.opened i v) (offered e i v);
-        bound = λ i v. boundAfter (k.leaves i v) (queueNow (s.channel i v)) (boundNow s k i v);
-        outCredit = λ o w. outCreditNow s e o w - length (departuresOn o w (entry c s e k));
+        channel = λ i v. after_cycle (s.channel i v) (offered e i v) (cond (k.leaves i v) 1 0);
+        opened = λ i v. open_after (s.opened i v) (offered e i v);
+        bound = λ i v. bound_after (k.leaves i v) (queue_now (s.channel i v)) (bound_now s k i v);
+        out_credit = λ o w. out_credit_now s e o w - length (departures_on o w (entry c s e k));
       }

@@ -9,26 +9,26 @@ use native.Mathlib.Nat.{add-zero}
 use native.Mathlib.Omega.{arith}
 use lib.ListN.{length}
 use Rattle.state.specs.declared.Router.{Router}
-use Rattle.state.specs.Fresh.{freshRouter}
+use Rattle.state.specs.Fresh.{fresh_router}
 use Rattle.state.specs.Sound.{Sound}
 use Rattle.trace.specs.declared.place.Place.{Place}
 use Rattle.trace.specs.Bytes.{AreBytes}
-use Rattle.trace.specs.Blocks.{held_of, configOf}
-use Rattle.trace.specs.Judged.{BlockOutcome, nextPlace, judged}
-use Rattle.trace.proofs.Found.{FoundAs, refuses, configures, holds, ends, is-over, found_as}
-use Rattle.listing.specs.Lines.{finish, refusal, flitLines}
+use Rattle.trace.specs.Blocks.{held_of, config_of}
+use Rattle.trace.specs.Judged.{BlockOutcome, next_place, judged}
+use Rattle.trace.proofs.Found.{FoundAs, refuses, configures, holds, ends, is_over, found_as}
+use Rattle.listing.specs.Lines.{finish, refusal, flit_lines}
 use Rattle.runs.specs.declared.Run.{Run}
-use Rattle.router.specs.Running.{Writing, wrote, withPlace, onRun, endedBy, cyclesFrom, byOutcome, blockTaken, blockRoom}
-use Rattle.state.proofs.Legal.{sound-cycle}
-use Rattle.router.proofs.Going.{block-goes-on}
-use Rattle.router.proofs.RunLaws.{begun-ongoing}
-use Rattle.router.proofs.Writes.{refusal-fits, finish-fits}
-use Rattle.night.specs.File.{Printed, cyclesThen, blockThen}
-use Rattle.night.proofs.Added.{Prints, prints-none, prints-as, prints-from}
-use Rattle.night.proofs.Anywhere.{anywhere, nowhere, block_run, Goes, goes-anywhere}
-use Rattle.night.proofs.InRange.{Named, refusal-prints, finish-prints, outcome-named}
-use Rattle.night.proofs.Left.{left_of, leftFrom, leftIn}
-use Rattle.night.proofs.CycleLines.{ended-prints, cycles-print, cycles-place}
+use Rattle.router.specs.Running.{Writing, wrote, with_place, on_run, ended_by, cycles_from, by_outcome, block_taken, room_of_block}
+use Rattle.state.proofs.Legal.{sound_cycle}
+use Rattle.router.proofs.Going.{block_goes_on}
+use Rattle.router.proofs.RunLaws.{begun_ongoing}
+use Rattle.router.proofs.Writes.{refusal_fits, finish_fits}
+use Rattle.night.specs.File.{Printed, cycles_then, block_then}
+use Rattle.night.proofs.Added.{Prints, prints_none, prints_as, prints_from}
+use Rattle.night.proofs.Anywhere.{anywhere, nowhere, block_run, Goes, goes_anywhere}
+use Rattle.night.proofs.InRange.{Named, refusal_prints, finish_prints, outcome_named}
+use Rattle.night.proofs.Left.{left_of, left_from, left_in}
+use Rattle.night.proofs.CycleLines.{ended_prints, cycles_print, cycles_place}
 
 -- a run that can take a block, before its configuration block or after it
 pub record Ready (n : Run) : Type 0 where
@@ -38,37 +38,37 @@ pub record Ready (n : Run) : Type 0 where
   pub unbegun : n.place.configured ≡ false → n.flits ≡ 0
 
 -- one that goes on is ready
-pub goes-ready : (n : Run) → Goes n → n.place.configured ≡ true → Ready n
-goes-ready n g e = record {
-  early = sound-cycle g.sound;
+pub goes_ready : (n : Run) → Goes n → n.place.configured ≡ true → Ready n
+goes_ready n g e = record {
+  early = sound_cycle g.sound;
   few = g.few;
   sound = λ f. g.sound;
   unbegun = λ f. absurd (true≢false (sym e ∙ f));
 }
 
-ready-goes : (n : Run) → Ready n → n.place.configured ≡ true → Goes n
-ready-goes n r e = record { sound = r.sound e; few = r.few; room = nowhere }
+ready_goes : (n : Run) → Ready n → n.place.configured ≡ true → Goes n
+ready_goes n r e = record { sound = r.sound e; few = r.few; room = nowhere }
 
 module _ (block : List ℕ) (bytes : AreBytes block) (w : Writing) (ready : Ready w.run) where
   -- after a block a run is over or ready for the next
-  ready-anywhere : (blockTaken block (anywhere w.run)).run.over ≡ false → Ready (blockTaken block (anywhere w.run)).run
-  ready-anywhere o = go w.run.place.configured refl
+  ready_anywhere : (block_taken block (anywhere w.run)).run.over ≡ false → Ready (block_taken block (anywhere w.run)).run
+  ready_anywhere o = go w.run.place.configured refl
     where
       after : Writing
-      after = blockTaken block (anywhere w.run)
+      after = block_taken block (anywhere w.run)
 
-      go : (b : Bool) → w.run.place.configured ≡ b → Ready (blockTaken block (anywhere w.run)).run
+      go : (b : Bool) → w.run.place.configured ≡ b → Ready (block_taken block (anywhere w.run)).run
       go true e =
-          let k = block-goes-on block bytes (anywhere w.run) e (ready-goes w.run ready e) in
-          goes-ready after.run (goes-anywhere after k.0) k.1
+          let k = block_goes_on block bytes (anywhere w.run) e (ready_goes w.run ready e) in
+          goes_ready after.run (goes_anywhere after k.0) k.1
       go false e =
-          let k = begun-ongoing block (anywhere w.run) e (ready.unbegun e) nowhere o in
-          goes-ready after.run (goes-anywhere after k.0) k.1
+          let k = begun_ongoing block (anywhere w.run) e (ready.unbegun e) nowhere o in
+          goes_ready after.run (goes_anywhere after k.0) k.1
 
-  pub block-ready : (blockTaken block w).run.over ≡ false → Ready (blockTaken block w).run
-  block-ready = subst (λ (n : Run). n.over ≡ false → Ready n) (sym (block_run block w)) ready-anywhere
+  pub block_ready : (block_taken block w).run.over ≡ false → Ready (block_taken block w).run
+  block_ready = subst (λ (n : Run). n.over ≡ false → Ready n) (sym (block_run block w)) ready_anywhere
 
-  module _ (going : w.run.over ≡ false) (there : w.at + blockRoom ≤ length w.buffer) (rest : Place → Router → Printed) where
+  module _ (going : w.run.over ≡ false) (there : w.at + room_of_block ≤ length w.buffer) (rest : Place → Router → Printed) where
     abbrev p : Place
     p = w.run.place
 
@@ -76,49 +76,49 @@ module _ (block : List ℕ) (bytes : AreBytes block) (w : Writing) (ready : Read
     s = w.run.router
 
     abbrev moved : Place → Writing
-    moved q = onRun (withPlace q) w
+    moved q = on_run (with_place q) w
 
     abbrev Block : BlockOutcome → Type 0
     Block o =
-        Prints w (byOutcome o.read o block w) (left_of w.run.flits (blockThen o.read o block s rest))
-        (leftIn (byOutcome o.read o block w).run rest)
+        Prints w (by_outcome o.read o block w) (left_of w.run.flits (block_then o.read o block s rest))
+        (left_in (by_outcome o.read o block w).run rest)
 
     -- what is left of a run that is not over
     going-left : (x : Printed) → left_of w.run.flits x ≡ cond w.run.over [] (left_of w.run.flits x)
     going-left x = ap (λ (b : Bool). cond b [] (left_of w.run.flits x)) (sym going)
 
     of-cycles : p.configured ≡ true → (n : ℕ) → n ≤ 7 → (q : Place)
-        → Prints w (cyclesFrom block 0 n (moved q)) (left_of w.run.flits (cyclesThen (rest q) block 0 n s))
-        (leftIn (cyclesFrom block 0 n (moved q)).run rest)
+        → Prints w (cycles_from block 0 n (moved q)) (left_of w.run.flits (cycles_then (rest q) block 0 n s))
+        (left_in (cycles_from block 0 n (moved q)).run rest)
     of-cycles e n h q =
-        let g = ready-goes w.run ready e in
-        let v = cyclesFrom block 0 n (moved q) in
-        prints-as
-        (prints-from w (withPlace q) (cycles-print block bytes (rest q) n 0 (moved q)
+        let g = ready_goes w.run ready e in
+        let v = cycles_from block 0 n (moved q) in
+        prints_as
+        (prints_from w (with_place q) (cycles_print block bytes (rest q) n 0 (moved q)
         (record { sound = g.sound; few = g.few; room = nowhere }) (omega (arith, there, h))))
-        (going-left (cyclesThen (rest q) block 0 n s)) (ap (λ (x : Place). leftFrom v.run (rest x))
-        (sym (cycles-place block n 0 (moved q))))
+        (going-left (cycles_then (rest q) block 0 n s)) (ap (λ (x : Place). left_from v.run (rest x))
+        (sym (cycles_place block n 0 (moved q))))
 
-    of-found : (o : BlockOutcome) → FoundAs p s.cycle block o → (o.read ≡ none → Named o.number o.field) → Block o
-    unfolding endedBy wrote flitLines
-    of-found _ (refuses n k) named =
-        (ended-prints (refusal n s.cycle k) w (rest p) (refusal-prints n s.cycle k (named refl) ready.early)
-        (refusal-fits n s.cycle k) (omega (arith, there))).prints
-    of-found _ (configures a b _) named = prints-none w _ _ _ refl refl (omega (arith, there))
-        (going-left (rest (nextPlace p block) (freshRouter (configOf block))))
-    of-found _ (holds a l h _) named = of-cycles a (held_of block) h (nextPlace p block)
-    of-found _ (ends a _) named = prints-none w _ _ _ refl refl (omega (arith, there)) (going-left (rest (nextPlace p block) s))
-    of-found _ (is-over a) named =
+    of_found : (o : BlockOutcome) → FoundAs p s.cycle block o → (o.read ≡ none → Named o.number o.field) → Block o
+    unfolding ended_by wrote flit_lines
+    of_found _ (refuses n k) named =
+        (ended_prints (refusal n s.cycle k) w (rest p) (refusal_prints n s.cycle k (named refl) ready.early)
+        (refusal_fits n s.cycle k) (omega (arith, there))).prints
+    of_found _ (configures a b _) named = prints_none w _ _ _ refl refl (omega (arith, there))
+        (going-left (rest (next_place p block) (fresh_router (config_of block))))
+    of_found _ (holds a l h _) named = of-cycles a (held_of block) h (next_place p block)
+    of_found _ (ends a _) named = prints_none w _ _ _ refl refl (omega (arith, there)) (going-left (rest (next_place p block) s))
+    of_found _ (is_over a) named =
         let f = w.run.flits in
         let c = ready.early in
         let few : f ≤ 8000000000 = omega (arith, c, ready.few) in
-        prints-as
-        (prints-from w (withPlace p) (ended-prints (finish s.cycle f) (moved p) (rest p) (finish-prints s.cycle f c few)
-        (finish-fits s.cycle f) (omega (arith, there))).prints)
+        prints_as
+        (prints_from w (with_place p) (ended_prints (finish s.cycle f) (moved p) (rest p) (finish_prints s.cycle f c few)
+        (finish_fits s.cycle f) (omega (arith, there))).prints)
         (ap (λ (n : ℕ). finish s.cycle n ∷ []) (add-zero f)) refl
 
-    pub block-prints : Prints w (blockTaken block w)
-        (left_of w.run.flits (blockThen (judged p s.cycle block).read (judged p s.cycle block) block s rest))
-        (leftIn (blockTaken block w).run rest)
-    unfolding blockTaken
-    block-prints = of-found (judged p s.cycle block) (found_as p s.cycle block) (outcome-named p s.cycle block)
+    pub block-prints : Prints w (block_taken block w)
+        (left_of w.run.flits (block_then (judged p s.cycle block).read (judged p s.cycle block) block s rest))
+        (left_in (block_taken block w).run rest)
+    unfolding block_taken
+    block-prints = of_found (judged p s.cycle block) (found_as p s.cycle block) (outcome_named p s.cycle block)

@@ -9,45 +9,45 @@ use native.Mathlib.Omega.{arith}
 use lib.ListN.{length, take, drop, length-drop}
 use lib.Seq.{length-take-le, take-nil, take-length, take-append-le, drop-append-le, drop-append_seam}
 use Rattle.base.specs.Numbers as numbers
-use Rattle.base.proofs.Lists.{take-inside}
+use Rattle.base.proofs.Lists.{take_inside}
 use Rattle.trace.specs.Bytes.{AreBytes}
-use Rattle.trace.specs.Place.{goodPlace}
+use Rattle.trace.specs.Place.{good_place}
 use Rattle.listing.specs.Lines.{Line, text, printable}
-use Rattle.listing.specs.Writing.{lacksRoom}
-use Rattle.listing.proofs.Outcomes.{room-there}
-use Rattle.listing.proofs.Ports.{text-append}
+use Rattle.listing.specs.Writing.{lacks_room}
+use Rattle.listing.proofs.Outcomes.{room_there}
+use Rattle.listing.proofs.Ports.{text_append}
 use Rattle.runs.specs.declared.Run.{Run}
-use Rattle.runs.specs.Run.{runSound}
-use Rattle.runs.proofs.Places.{going-good}
-use Rattle.router.specs.Running.{Writing, blockTaken, blocksIn, block_at, lacksBlockRoom, Call, begins, takes, stops, goesOn}
-use Rattle.router.specs.Running.{CallOutcome, answered, ranOf}
+use Rattle.runs.specs.Run.{run_sound}
+use Rattle.runs.proofs.Places.{going_good}
+use Rattle.router.specs.Running.{Writing, block_taken, blocks_in, block_at, lacks_block_room, Call, begins, takes, stops, going_on}
+use Rattle.router.specs.Running.{CallOutcome, answered, ran_of}
 use Rattle.router.proofs.Going.{piece_bytes}
-use Rattle.router.proofs.Onward.{goes-full, used-inside}
-use Rattle.router.proofs.RunLaws.{run-goes, configured-ongoing, unconfigured-none}
-use Rattle.night.specs.File.{Printed, fileFrom, cutInto, blocksOf}
-use Rattle.night.specs.Calls.{MayHand, whole, all, usedIn, wroteIn}
-use Rattle.night.proofs.Added.{Adds, adds-length, adds-there, adds-around, Prints, prints-none, prints-as, prints-fine}
-use Rattle.night.proofs.Left.{left_of, leftIn}
-use Rattle.night.proofs.Cuts.{append-bytes}
+use Rattle.router.proofs.Onward.{goes_full, used_inside}
+use Rattle.router.proofs.RunLaws.{run_goes, configured_ongoing, unconfigured_none}
+use Rattle.night.specs.File.{Printed, file_from, cut_into, blocks_of}
+use Rattle.night.specs.Calls.{MayHand, whole, all, used_in, wrote_in}
+use Rattle.night.proofs.Added.{Adds, adds_length, adds_there, adds_around, Prints, prints_none, prints_as, prints_fine}
+use Rattle.night.proofs.Left.{left_of, left_in}
+use Rattle.night.proofs.Cuts.{append_bytes}
 use Rattle.night.proofs.Anywhere.{nowhere}
-use Rattle.night.proofs.BlockLines.{Ready, goes-ready, block-prints}
-use Rattle.night.proofs.PartLines.{block_room, file-end, goes-print}
-use Rattle.night.proofs.Kept.{led-is}
-use Rattle.night.proofs.Used.{Cut, goes-cut, short-over}
+use Rattle.night.proofs.BlockLines.{Ready, goes_ready, block-prints}
+use Rattle.night.proofs.PartLines.{block_room, file_end, goes-print}
+use Rattle.night.proofs.Kept.{led_is}
+use Rattle.night.proofs.Used.{Cut, goes_cut, short_over}
 
-module _ (n : Run) (sound : runSound n ≡ true) (going : n.over ≡ false) where
+module _ (n : Run) (sound : run_sound n ≡ true) (going : n.over ≡ false) where
   -- a run that is not over stands at a place that some file leads to
-  pub good-place : goodPlace n.place n.router.cycle ≡ true
-  good-place = going-good n sound going
+  pub good_place-law : good_place n.place n.router.cycle ≡ true
+  good_place-law = going_good n sound going
 
   -- and can take a block
-  run-ready : Ready n
-  run-ready = go n.place.configured refl
+  run_ready : Ready n
+  run_ready = go n.place.configured refl
     where
       go : (b : Bool) → n.place.configured ≡ b → Ready n
-      go true e = let g = configured-ongoing n [] [] 0 sound e nowhere going in goes-ready n g.0 g.1
+      go true e = let g = configured_ongoing n [] [] 0 sound e nowhere going in goes_ready n g.0 g.1
       go false e =
-          let z = unconfigured-none n [] [] 0 sound e going in
+          let z = unconfigured_none n [] [] 0 sound e going in
           record {
             early = omega (arith, z.0);
             few = omega (arith, z.1);
@@ -63,8 +63,8 @@ pub record Keeps (buffer : List ℕ) (at : ℕ) (o : CallOutcome) : Type 0 where
   pub long : length o.buffer ≡ length buffer
 
 -- one call
-module _ (n : Run) (buffer : List ℕ) (at : ℕ) (sound : runSound n ≡ true) (going : n.over ≡ false)
-    (room : lacksRoom buffer at ≡ false) where
+module _ (n : Run) (buffer : List ℕ) (at : ℕ) (sound : run_sound n ≡ true) (going : n.over ≡ false)
+    (room : lacks_room buffer at ≡ false) where
   abbrev pub handed : Writing
   handed = record { run = n; at = at; buffer = buffer }
 
@@ -72,59 +72,59 @@ module _ (n : Run) (buffer : List ℕ) (at : ℕ) (sound : runSound n ≡ true) 
   begin = begins handed
 
   abbrev pub ends : List ℕ → Call
-  ends part = goesOn part (blocksIn part) begin
+  ends part = going_on part (blocks_in part) begin
 
   inside : at ≤ length buffer
-  unfolding lacksRoom
-  inside = let there = room-there numbers.room buffer at (ap not room) in omega (arith, there)
+  unfolding lacks_room
+  inside = let there = room_there numbers.room buffer at (ap not room) in omega (arith, there)
 
   ready : Ready n
-  ready = run-ready n sound going
+  ready = run_ready n sound going
 
   -- what a call with this part prints where these bytes are left, and are left without those that it used
   abbrev pub Prints-on : List ℕ → Call → Type 0
-  Prints-on left d = Prints handed d.writing (leftIn n (fileFrom (blocksOf left)))
-      (leftIn d.writing.run (fileFrom (blocksOf (drop d.used left))))
+  Prints-on left d = Prints handed d.writing (left_in n (file_from (blocks_of left)))
+      (left_in d.writing.run (file_from (blocks_of (drop d.used left))))
 
   -- no room for a block's lines: nothing
-  full-prints : lacksBlockRoom buffer at ≡ true → (left part : List ℕ) → Prints-on left (ends part)
-  full-prints e left part =
-      subst (Prints-on left) (sym (goes-full part (blocksIn part) begin (omega arith) going e))
-      (prints-none handed handed _ _ refl refl inside refl)
+  full_prints : lacks_block_room buffer at ≡ true → (left part : List ℕ) → Prints-on left (ends part)
+  full_prints e left part =
+      subst (Prints-on left) (sym (goes_full part (blocks_in part) begin (omega arith) going e))
+      (prints_none handed handed _ _ refl refl inside refl)
 
   -- the end of the input is one empty block
-  end-prints : lacksBlockRoom buffer at ≡ false → Prints-on [] (ends [])
-  unfolding goesOn cutInto
-  end-prints e =
-      let one : blocksIn [] ≡ 1 = omega arith in
-      let taken : goesOn [] 1 begin ≡ takes [] begin = rw (going, e) in
-      subst (λ (k : ℕ). Prints-on [] (goesOn [] k begin)) (sym one)
+  end_prints : lacks_block_room buffer at ≡ false → Prints-on [] (ends [])
+  unfolding going_on cut_into
+  end_prints e =
+      let one : blocks_in [] ≡ 1 = omega arith in
+      let taken : going_on [] 1 begin ≡ takes [] begin = rw (going, e) in
+      subst (λ (k : ℕ). Prints-on [] (going_on [] k begin)) (sym one)
       (subst (Prints-on []) (sym taken)
-      (prints-as (block-prints [] (λ i. omega arith) handed ready going (block_room buffer at e) (fileFrom []))
+      (prints_as (block-prints [] (λ i. omega arith) handed ready going (block_room buffer at e) (file_from []))
       (ap₂ (λ (b : Bool) (p : Printed). cond b [] (left_of n.flits p)) going
-      (file-end n.place n.router (good-place n sound going))) refl))
+      (file_end n.place n.router (good_place-law n sound going))) refl))
 
   -- some bytes, whose blocks are the first of those that are left
-  some-prints : (left part : List ℕ) → AreBytes left → AreBytes part → 1 ≤ length part
+  some_prints : (left part : List ℕ) → AreBytes left → AreBytes part → 1 ≤ length part
       → ((j : ℕ) → 512 * j < (ends part).used → block_at part (512 * j) ≡ take 512 (drop (512 * j) left)) → Prints-on left (ends part)
-  some-prints left part bytes are some agree =
-      goes-print left bytes part are (blocksIn part) 0 begin (λ h. refl) (omega arith) (λ e. ready) inside (λ j h l. agree j l)
+  some_prints left part bytes are some agree =
+      goes-print left bytes part are (blocks_in part) 0 begin (λ h. refl) (omega arith) (λ e. ready) inside (λ j h l. agree j l)
 
   -- a file
-  file-prints : (left part : List ℕ) → AreBytes left → MayHand left part → Prints-on left (ends part)
-  file-prints left part bytes hand = go (lacksBlockRoom buffer at) refl left bytes part hand
+  file_prints : (left part : List ℕ) → AreBytes left → MayHand left part → Prints-on left (ends part)
+  file_prints left part bytes hand = go (lacks_block_room buffer at) refl left bytes part hand
     where
-      go : (f : Bool) → lacksBlockRoom buffer at ≡ f → (left : List ℕ) → AreBytes left → (part : List ℕ) → MayHand left part
+      go : (f : Bool) → lacks_block_room buffer at ≡ f → (left : List ℕ) → AreBytes left → (part : List ℕ) → MayHand left part
           → Prints-on left (ends part)
-      go true e left bytes part hand = full-prints e left part
+      go true e left bytes part hand = full_prints e left part
       go false e left bytes _ (whole k a b) =
           let part = take (k * 512) left in
           let long : length part ≡ k * 512 = length-take-le (k * 512) left b in
-          some-prints left part bytes (piece_bytes (k * 512) 0 left bytes) (omega (arith, long, a))
-          (λ j l. take-inside 512 (512 * j) (k * 512) left
-          (omega (arith, l, long, used-inside part (blocksIn part) begin (omega arith))))
-      go false e [] bytes _ all = end-prints e
-      go false e (b ∷ l) bytes _ all = some-prints (b ∷ l) (b ∷ l) bytes bytes (omega arith) (λ j l. refl)
+          some_prints left part bytes (piece_bytes (k * 512) 0 left bytes) (omega (arith, long, a))
+          (λ j l. take_inside 512 (512 * j) (k * 512) left
+          (omega (arith, l, long, used_inside part (blocks_in part) begin (omega arith))))
+      go false e [] bytes _ all = end_prints e
+      go false e (b ∷ l) bytes _ all = some_prints (b ∷ l) (b ∷ l) bytes bytes (omega arith) (λ j l. refl)
 
   -- any part, which stands for the bytes that were used of it
   module _ (part rest : List ℕ) (are : AreBytes part) (more : AreBytes rest) (last : (ends part).writing.run.over ≡ true → rest ≡ [])
@@ -133,7 +133,7 @@ module _ (n : Run) (buffer : List ℕ) (at : ℕ) (sound : runSound n ≡ true) 
       front = take (ends part).used part
 
       front_long : length front ≡ (ends part).used
-      front_long = length-take-le (ends part).used part (used-inside part (blocksIn part) begin (omega arith))
+      front_long = length-take-le (ends part).used part (used_inside part (blocks_in part) begin (omega arith))
 
       -- all of it, where it ends inside a block
       front-all : (ends part).used ≡ length part → (ends part).writing.run.over ≡ true → front ++ rest ≡ part
@@ -145,7 +145,7 @@ module _ (n : Run) (buffer : List ℕ) (at : ℕ) (sound : runSound n ≡ true) 
       agrees (inl (k, e)) j l =
           sym (ap (take 512) (drop-append-le (512 * j) front rest (omega (arith, l, front_long)))
           ∙ take-append-le 512 (drop (512 * j) front) rest (let d = length-drop (512 * j) front in omega (arith, l, e, d, front_long))
-          ∙ take-inside 512 (512 * j) (ends part).used part (omega (arith, l, e)))
+          ∙ take_inside 512 (512 * j) (ends part).used part (omega (arith, l, e)))
       agrees (inr (e, o)) j l = ap (λ (x : List ℕ). take 512 (drop (512 * j) x)) (sym (front-all e o))
 
       used-rest : drop (ends part).used (front ++ rest) ≡ rest
@@ -153,81 +153,81 @@ module _ (n : Run) (buffer : List ℕ) (at : ℕ) (sound : runSound n ≡ true) 
 
       some-used : 1 ≤ length part → Prints-on (front ++ rest) (ends part)
       some-used some =
-          some-prints (front ++ rest) part (append-bytes front rest (piece_bytes (ends part).used 0 part are) more) are some
-          (agrees (goes-cut part are (blocksIn part) begin (led-is n sound) (omega arith) (inl (0, refl))))
+          some_prints (front ++ rest) part (append_bytes front rest (piece_bytes (ends part).used 0 part are) more) are some
+          (agrees (goes_cut part are (blocks_in part) begin (led_is n sound) (omega arith) (inl (0, refl))))
 
   -- at the end of the input the run is over
-  pub none_over : lacksBlockRoom buffer at ≡ false → (ends []).writing.run.over ≡ true
-  unfolding goesOn
+  pub none_over : lacks_block_room buffer at ≡ false → (ends []).writing.run.over ≡ true
+  unfolding going_on
   none_over e =
-      let one : blocksIn [] ≡ 1 = omega arith in
-      let taken : goesOn [] 1 begin ≡ takes [] begin = rw (going, e) in
-      ap (λ (k : ℕ). (goesOn [] k begin).writing.run.over) one ∙ ap (λ (d : Call). d.writing.run.over) taken
-      ∙ short-over [] handed (good-place n sound going) (omega arith)
+      let one : blocks_in [] ≡ 1 = omega arith in
+      let taken : going_on [] 1 begin ≡ takes [] begin = rw (going, e) in
+      ap (λ (k : ℕ). (going_on [] k begin).writing.run.over) one ∙ ap (λ (d : Call). d.writing.run.over) taken
+      ∙ short_over [] handed (good_place-law n sound going) (omega arith)
 
-  used-prints : (part rest : List ℕ) → AreBytes part → AreBytes rest → ((ends part).writing.run.over ≡ true → rest ≡ [])
+  used_prints : (part rest : List ℕ) → AreBytes part → AreBytes rest → ((ends part).writing.run.over ≡ true → rest ≡ [])
       → Prints-on (take (ends part).used part ++ rest) (ends part)
-  used-prints part rest are more last = go (lacksBlockRoom buffer at) refl part are last
+  used_prints part rest are more last = go (lacks_block_room buffer at) refl part are last
     where
-      go : (f : Bool) → lacksBlockRoom buffer at ≡ f → (part : List ℕ) → AreBytes part → ((ends part).writing.run.over ≡ true → rest ≡ [])
+      go : (f : Bool) → lacks_block_room buffer at ≡ f → (part : List ℕ) → AreBytes part → ((ends part).writing.run.over ≡ true → rest ≡ [])
           → Prints-on (take (ends part).used part ++ rest) (ends part)
-      go true e part are last = full-prints e (take (ends part).used part ++ rest) part
+      go true e part are last = full_prints e (take (ends part).used part ++ rest) part
       go false e [] are last =
           subst (λ (l : List ℕ). Prints-on l (ends []))
-          (sym (ap₂ ◌++◌ (take-nil (ends []).used) (last (none_over e)))) (end-prints e)
+          (sym (ap₂ ◌++◌ (take-nil (ends []).used) (last (none_over e)))) (end_prints e)
       go false e (b ∷ l) are last = some-used (b ∷ l) rest are more last (omega arith)
 
   -- what a call writes, and what is left after it, is what was left before it
-  blocks-write : (left part more : List ℕ) → Prints-on left (ends part)
-      → more ≡ text (leftIn (ends part).writing.run (fileFrom (blocksOf (drop (ends part).used left))))
-      → wroteIn at (answered at (ends part)) ++ more ≡ text (leftIn n (fileFrom (blocksOf left)))
-  blocks-write left part more p e = ap₂ ◌++◌ (adds-there p.adds) e ∙ sym (text-append p.lines _) ∙ ap text (sym p.same)
+  blocks_write : (left part more : List ℕ) → Prints-on left (ends part)
+      → more ≡ text (left_in (ends part).writing.run (file_from (blocks_of (drop (ends part).used left))))
+      → wrote_in at (answered at (ends part)) ++ more ≡ text (left_in n (file_from (blocks_of left)))
+  blocks_write left part more p e = ap₂ ◌++◌ (adds_there p.adds) e ∙ sym (text_append p.lines _) ∙ ap text (sym p.same)
 
   -- of a file
-  pub call-writes : (left part more : List ℕ) → AreBytes left → MayHand left part
-      → more ≡ text (leftIn (ranOf n part buffer at).ran.run (fileFrom (blocksOf (drop (ranOf n part buffer at).ran.used left))))
-      → wroteIn at (ranOf n part buffer at) ++ more ≡ text (leftIn n (fileFrom (blocksOf left)))
-  call-writes left part more bytes may =
-      subst (λ (o : CallOutcome). more ≡ text (leftIn o.ran.run (fileFrom (blocksOf (drop o.ran.used left))))
-      → wroteIn at o ++ more ≡ text (leftIn n (fileFrom (blocksOf left)))) (run-goes n part buffer at sound room (blocksIn part) refl)
-      (blocks-write left part more (file-prints left part bytes may))
+  pub call_writes : (left part more : List ℕ) → AreBytes left → MayHand left part
+      → more ≡ text (left_in (ran_of n part buffer at).ran.run (file_from (blocks_of (drop (ran_of n part buffer at).ran.used left))))
+      → wrote_in at (ran_of n part buffer at) ++ more ≡ text (left_in n (file_from (blocks_of left)))
+  call_writes left part more bytes may =
+      subst (λ (o : CallOutcome). more ≡ text (left_in o.ran.run (file_from (blocks_of (drop o.ran.used left))))
+      → wrote_in at o ++ more ≡ text (left_in n (file_from (blocks_of left)))) (run_goes n part buffer at sound room (blocks_in part) refl)
+      (blocks_write left part more (file_prints left part bytes may))
 
   -- of any part
-  pub call-uses : (part rest more : List ℕ) → AreBytes part → AreBytes rest
-      → ((ranOf n part buffer at).ran.run.over ≡ true → rest ≡ [])
-      → more ≡ text (leftIn (ranOf n part buffer at).ran.run (fileFrom (blocksOf rest)))
-      → wroteIn at (ranOf n part buffer at) ++ more
-      ≡ text (leftIn n (fileFrom (blocksOf (usedIn part (ranOf n part buffer at) ++ rest))))
-  call-uses part rest more are bytes =
-      subst (λ (o : CallOutcome). (o.ran.run.over ≡ true → rest ≡ []) → more ≡ text (leftIn o.ran.run (fileFrom (blocksOf rest)))
-      → wroteIn at o ++ more ≡ text (leftIn n (fileFrom (blocksOf (usedIn part o ++ rest)))))
-      (run-goes n part buffer at sound room (blocksIn part) refl)
-      (λ last e. blocks-write (take (ends part).used part ++ rest) part more (used-prints part rest are bytes last)
-      (e ∙ ap (λ (l : List ℕ). text (leftIn (ends part).writing.run (fileFrom (blocksOf l))))
+  pub call_uses : (part rest more : List ℕ) → AreBytes part → AreBytes rest
+      → ((ran_of n part buffer at).ran.run.over ≡ true → rest ≡ [])
+      → more ≡ text (left_in (ran_of n part buffer at).ran.run (file_from (blocks_of rest)))
+      → wrote_in at (ran_of n part buffer at) ++ more
+      ≡ text (left_in n (file_from (blocks_of (used_in part (ran_of n part buffer at) ++ rest))))
+  call_uses part rest more are bytes =
+      subst (λ (o : CallOutcome). (o.ran.run.over ≡ true → rest ≡ []) → more ≡ text (left_in o.ran.run (file_from (blocks_of rest)))
+      → wrote_in at o ++ more ≡ text (left_in n (file_from (blocks_of (used_in part o ++ rest)))))
+      (run_goes n part buffer at sound room (blocks_in part) refl)
+      (λ last e. blocks_write (take (ends part).used part ++ rest) part more (used_prints part rest are bytes last)
+      (e ∙ ap (λ (l : List ℕ). text (left_in (ends part).writing.run (file_from (blocks_of l))))
       (sym (used-rest part rest are bytes last))))
 
   -- and in range, where what is left after it is
-  pub call-fine : (left part : List ℕ) → AreBytes left → MayHand left part
-      → printable (leftIn (ranOf n part buffer at).ran.run (fileFrom (blocksOf (drop (ranOf n part buffer at).ran.used left)))) ≡ true
-      → printable (leftIn n (fileFrom (blocksOf left))) ≡ true
-  call-fine left part bytes may =
-      subst (λ (o : CallOutcome). printable (leftIn o.ran.run (fileFrom (blocksOf (drop o.ran.used left)))) ≡ true
-      → printable (leftIn n (fileFrom (blocksOf left))) ≡ true) (run-goes n part buffer at sound room (blocksIn part) refl)
-      (prints-fine (file-prints left part bytes may))
+  pub call_fine : (left part : List ℕ) → AreBytes left → MayHand left part
+      → printable (left_in (ran_of n part buffer at).ran.run (file_from (blocks_of (drop (ran_of n part buffer at).ran.used left)))) ≡ true
+      → printable (left_in n (file_from (blocks_of left))) ≡ true
+  call_fine left part bytes may =
+      subst (λ (o : CallOutcome). printable (left_in o.ran.run (file_from (blocks_of (drop o.ran.used left)))) ≡ true
+      → printable (left_in n (file_from (blocks_of left))) ≡ true) (run_goes n part buffer at sound room (blocks_in part) refl)
+      (prints_fine (file_prints left part bytes may))
 
   keeps : (d : Call) (lines : List Line) → Adds handed d.writing lines → Keeps buffer at (answered at d)
   keeps d lines a =
-      let around = adds-around a in
+      let around = adds_around a in
       let e : at + (d.writing.at - at) ≡ d.writing.at = omega (arith, a.ahead) in
       record {
         number = refl;
         before = around.0;
         behind = subst (λ (m : ℕ). drop m d.writing.buffer ≡ drop m buffer) (sym e) around.1;
-        long = adds-length a;
+        long = adds_length a;
       }
 
   -- no call of a night is refused, and nothing but what it wrote changes
-  pub call-keeps : (part : List ℕ) → AreBytes part → Keeps buffer at (ranOf n part buffer at)
-  call-keeps part bytes =
-      let p = file-prints part part bytes all in
-      subst (Keeps buffer at) (run-goes n part buffer at sound room (blocksIn part) refl) (keeps (ends part) p.lines p.adds)
+  pub call_keeps : (part : List ℕ) → AreBytes part → Keeps buffer at (ran_of n part buffer at)
+  call_keeps part bytes =
+      let p = file_prints part part bytes all in
+      subst (Keeps buffer at) (run_goes n part buffer at sound room (blocks_in part) refl) (keeps (ends part) p.lines p.adds)

@@ -8,42 +8,42 @@ use native.Mathlib.Omega.{arith}
 use lib.ListN.{length, take, drop, length-drop}
 use lib.Seq.{get_or-drop}
 use Rattle.trace.specs.Bytes.{AreBytes}
-use Rattle.night.specs.File.{cutInto, blocksOf}
+use Rattle.night.specs.File.{cut_into, blocks_of}
 
 -- cutting at most n or m blocks is the same where both are enough
-cut-same : (n m : ℕ) (l : List ℕ) → length l ≤ n → length l ≤ m → cutInto n l ≡ cutInto m l
-unfolding cutInto
-cut-same zero zero l h g = refl
-cut-same zero (suc m) [] h g = refl
-cut-same zero (suc m) (b ∷ l) h g = absurd (not-suc-le-zero h)
-cut-same (suc n) zero [] h g = refl
-cut-same (suc n) zero (b ∷ l) h g = absurd (not-suc-le-zero g)
-cut-same (suc n) (suc m) [] h g = refl
-cut-same (suc n) (suc m) (b ∷ l) h g =
+cut_same : (n m : ℕ) (l : List ℕ) → length l ≤ n → length l ≤ m → cut_into n l ≡ cut_into m l
+unfolding cut_into
+cut_same zero zero l h g = refl
+cut_same zero (suc m) [] h g = refl
+cut_same zero (suc m) (b ∷ l) h g = absurd (not-suc-le-zero h)
+cut_same (suc n) zero [] h g = refl
+cut_same (suc n) zero (b ∷ l) h g = absurd (not-suc-le-zero g)
+cut_same (suc n) (suc m) [] h g = refl
+cut_same (suc n) (suc m) (b ∷ l) h g =
     let e = length-drop 512 (b ∷ l) in
-    ap (λ (bs : List (List ℕ)). take 512 (b ∷ l) ∷ bs) (cut-same n m (drop 512 (b ∷ l)) (omega (arith, e, h)) (omega (arith, e, g)))
+    ap (λ (bs : List (List ℕ)). take 512 (b ∷ l) ∷ bs) (cut_same n m (drop 512 (b ∷ l)) (omega (arith, e, h)) (omega (arith, e, g)))
 
 -- dropping as many as were taken
-pub drop-taken : (n : ℕ) (l : List ℕ) → drop (length (take n l)) l ≡ drop n l
-drop-taken zero l = refl
-drop-taken (suc n) [] = refl
-drop-taken (suc n) (x ∷ l) = drop-taken n l
+pub drop_taken : (n : ℕ) (l : List ℕ) → drop (length (take n l)) l ≡ drop n l
+drop_taken zero l = refl
+drop_taken (suc n) [] = refl
+drop_taken (suc n) (x ∷ l) = drop_taken n l
 
-pub first_block : (l : List ℕ) → 1 ≤ length l → blocksOf l ≡ take 512 l ∷ blocksOf (drop (length (take 512 l)) l)
-unfolding cutInto
+pub first_block : (l : List ℕ) → 1 ≤ length l → blocks_of l ≡ take 512 l ∷ blocks_of (drop (length (take 512 l)) l)
+unfolding cut_into
 first_block [] h = absurd (omega arith)
 first_block (b ∷ l) h =
     let e = length-drop 512 (b ∷ l) in
     ap (λ (bs : List (List ℕ)). take 512 (b ∷ l) ∷ bs)
-    (cut-same (length l) (length (drop 512 (b ∷ l))) (drop 512 (b ∷ l)) (omega (arith, e)) (omega arith)
-    ∙ ap blocksOf (sym (drop-taken 512 (b ∷ l))))
+    (cut_same (length l) (length (drop 512 (b ∷ l))) (drop 512 (b ∷ l)) (omega (arith, e)) (omega arith)
+    ∙ ap blocks_of (sym (drop_taken 512 (b ∷ l))))
 
 -- the bytes after some bytes are bytes
-pub drop-bytes : (u : ℕ) (l : List ℕ) → AreBytes l → AreBytes (drop u l)
-drop-bytes u l b i = subst (λ (m : ℕ). m < 256) (sym (get_or-drop u l i 0)) (b (u + i))
+pub drop_bytes : (u : ℕ) (l : List ℕ) → AreBytes l → AreBytes (drop u l)
+drop_bytes u l b i = subst (λ (m : ℕ). m < 256) (sym (get_or-drop u l i 0)) (b (u + i))
 
 -- bytes behind bytes are bytes
-pub append-bytes : (k l : List ℕ) → AreBytes k → AreBytes l → AreBytes (k ++ l)
-append-bytes [] l a b i = b i
-append-bytes (x ∷ k) l a b zero = a zero
-append-bytes (x ∷ k) l a b (suc i) = append-bytes k l (λ j. a (suc j)) b i
+pub append_bytes : (k l : List ℕ) → AreBytes k → AreBytes l → AreBytes (k ++ l)
+append_bytes [] l a b i = b i
+append_bytes (x ∷ k) l a b zero = a zero
+append_bytes (x ∷ k) l a b (suc i) = append_bytes k l (λ j. a (suc j)) b i

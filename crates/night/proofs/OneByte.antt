@@ -10,152 +10,152 @@ use native.Mathlib.Omega.{arith}
 use lib.ListN.{length, take, drop, length-take, length-drop}
 use lib.Seq.{ext_get_or, get_or-take, get_or-drop, take-take, take_all}
 use Rattle.base.specs.Numbers as numbers
-use Rattle.base.specs.Sizes.{noConfig}
-use Rattle.base.proofs.Lists.{take-inside}
+use Rattle.base.specs.Sizes.{no_config}
+use Rattle.base.proofs.Lists.{take_inside}
 use Rattle.state.specs.declared.Router.{Router}
-use Rattle.state.specs.Fresh.{freshRouter}
+use Rattle.state.specs.Fresh.{fresh_router}
 use Rattle.trace.specs.declared.place.Place.{Place}
 use Rattle.trace.specs.Bytes.{AreBytes}
 use Rattle.trace.specs.Blocks.{part_at}
 use Rattle.trace.specs.Changed.{ChangedAt}
-use Rattle.trace.specs.Place.{start, goodPlace}
-use Rattle.trace.specs.Judged.{BlockOutcome, Read, aConfiguration, someCycles, theEnd, no_more, accepted, refused, read_of}
-use Rattle.trace.specs.Judged.{nextPlace, taken, judged}
-use Rattle.trace.proofs.Exactness.{accepted-taken}
-use Rattle.trace.proofs.Found.{FoundAs, refuses, configures, holds, ends, is-over, found_as}
-use Rattle.trace.proofs.Order.{judged-unsound, judged-follows}
+use Rattle.trace.specs.Place.{start, good_place}
+use Rattle.trace.specs.Judged.{BlockOutcome, Read, a_configuration, some_cycles, the_end, no_more, accepted, refused, read_of}
+use Rattle.trace.specs.Judged.{next_place, taken, judged}
+use Rattle.trace.proofs.Exactness.{accepted_taken}
+use Rattle.trace.proofs.Found.{FoundAs, refuses, configures, holds, ends, is_over, found_as}
+use Rattle.trace.proofs.Order.{judged_unsound, judged-follows}
 use Rattle.trace.proofs.OneByte as block
-use Rattle.listing.specs.Lines.{refusal, text, cycleLines}
+use Rattle.listing.specs.Lines.{refusal, text, cycle_lines}
 use Rattle.rules.specs.declared.Verdict.{Verdict}
 use Rattle.rules.specs.declared.Verdict.TheVariants.{Accepted, Refused}
 use Rattle.rules.specs.Step.{step_of}
 use Rattle.router.proofs.Going.{piece_bytes}
-use Rattle.night.specs.File.{Ending, finishes, Printed, ends_at, after, cycleThen, cyclesThen, blockThen, fileFrom, cutInto}
-use Rattle.night.specs.File.{blocksOf, printedOf, lines_of, list_of}
+use Rattle.night.specs.File.{Ending, finishes, Printed, ends_at, after, cycle_then, cycles_then, block_then, file_from, cut_into}
+use Rattle.night.specs.File.{blocks_of, printed_of, lines_of, list_of}
 use Rattle.night.specs.File as file
-use Rattle.night.specs.Accepted.{acceptedOf}
-use Rattle.night.specs.Changed.{ChangedIn, blocksBefore, thenWrong}
-use Rattle.night.proofs.Accepting.{cycles-accepted}
-use Rattle.night.proofs.Cuts.{first_block, drop-taken, drop-bytes}
+use Rattle.night.specs.Accepted.{accepted_of}
+use Rattle.night.specs.Changed.{ChangedIn, blocks_before, then_wrong}
+use Rattle.night.proofs.Accepting.{cycles_accepted}
+use Rattle.night.proofs.Cuts.{first_block, drop_taken, drop_bytes}
 
 -- a list that ends in R does not end in E
-abbrev isWhole : Ending → Bool
-isWhole finishes = true
-isWhole (file.refuses n k) = false
+abbrev is_whole_list : Ending → Bool
+is_whole_list finishes = true
+is_whole_list (file.refuses n k) = false
 
-not-whole : {n k : ℕ} → file.refuses n k ≡ finishes → ⊥
-not-whole e = true≢false (sym (ap isWhole e))
+not_whole : {n k : ℕ} → file.refuses n k ≡ finishes → ⊥
+not_whole e = true≢false (sym (ap is_whole_list e))
 
 -- ---- what comes before the changed block is printed as before
 
-module _ (f g h : Router → Printed) (rest : (s : Router) → (f s).ending ≡ finishes → g s ≡ thenWrong (h s)) (b : List ℕ) where
-  cycles-before : (n k : ℕ) (s : Router) → (cyclesThen f b k n s).ending ≡ finishes → cyclesThen g b k n s ≡ thenWrong (cyclesThen h b k n s)
-  unfolding cyclesThen
-  cycles-before zero k s e = rest s e
-  cycles-before (suc n) k s e = go (step_of s (part_at b k)).verdict e (cycles-before n (k + 1) (step_of s (part_at b k)).router)
+module _ (f g h : Router → Printed) (rest : (s : Router) → (f s).ending ≡ finishes → g s ≡ then_wrong (h s)) (b : List ℕ) where
+  cycles_before : (n k : ℕ) (s : Router) → (cycles_then f b k n s).ending ≡ finishes → cycles_then g b k n s ≡ then_wrong (cycles_then h b k n s)
+  unfolding cycles_then
+  cycles_before zero k s e = rest s e
+  cycles_before (suc n) k s e = go (step_of s (part_at b k)).verdict e (cycles_before n (k + 1) (step_of s (part_at b k)).router)
     where
-      go : (v : Verdict) → (cycleThen v (step_of s (part_at b k)) s (cyclesThen f b (k + 1) n)).ending ≡ finishes
-          → ((cyclesThen f b (k + 1) n (step_of s (part_at b k)).router).ending ≡ finishes
-          → cyclesThen g b (k + 1) n (step_of s (part_at b k)).router ≡ thenWrong (cyclesThen h b (k + 1) n (step_of s (part_at b k)).router))
-          → cycleThen v (step_of s (part_at b k)) s (cyclesThen g b (k + 1) n)
-          ≡ thenWrong (cycleThen v (step_of s (part_at b k)) s (cyclesThen h b (k + 1) n))
-      go Accepted d more = ap (after (cycleLines s.cycle (step_of s (part_at b k)).reply)) (more d)
-      go (Refused r) d more = absurd (not-whole d)
+      go : (v : Verdict) → (cycle_then v (step_of s (part_at b k)) s (cycles_then f b (k + 1) n)).ending ≡ finishes
+          → ((cycles_then f b (k + 1) n (step_of s (part_at b k)).router).ending ≡ finishes
+          → cycles_then g b (k + 1) n (step_of s (part_at b k)).router ≡ then_wrong (cycles_then h b (k + 1) n (step_of s (part_at b k)).router))
+          → cycle_then v (step_of s (part_at b k)) s (cycles_then g b (k + 1) n)
+          ≡ then_wrong (cycle_then v (step_of s (part_at b k)) s (cycles_then h b (k + 1) n))
+      go Accepted d more = ap (after (cycle_lines s.cycle (step_of s (part_at b k)).reply)) (more d)
+      go (Refused r) d more = absurd (not_whole d)
 
 -- whether what was read is not the end of the input after the end block
-abbrev isMore : Option Read → Bool
-isMore none = true
-isMore (some (aConfiguration c)) = true
-isMore (some (someCycles n)) = true
-isMore (some theEnd) = true
-isMore (some no_more) = false
+abbrev is_more : Option Read → Bool
+is_more none = true
+is_more (some (a_configuration c)) = true
+is_more (some (some_cycles n)) = true
+is_more (some the_end) = true
+is_more (some no_more) = false
 
-module _ (f g h : Place → Router → Printed) (rest : (p : Place) (s : Router) → (f p s).ending ≡ finishes → g p s ≡ thenWrong (h p s)) where
-  block-before : (r : Option Read) (o : BlockOutcome) (b : List ℕ) (s : Router) → isMore r ≡ true
-      → (blockThen r o b s f).ending ≡ finishes → blockThen r o b s g ≡ thenWrong (blockThen r o b s h)
-  block-before none o b s more e = absurd (not-whole e)
-  block-before (some (aConfiguration c)) o b s more e = rest o.place (freshRouter c) e
-  block-before (some (someCycles n)) o b s more e = cycles-before (f o.place) (g o.place) (h o.place) (rest o.place) b n 0 s e
-  block-before (some theEnd) o b s more e = rest o.place s e
-  block-before (some no_more) o b s more e = absurd (true≢false (sym more))
+module _ (f g h : Place → Router → Printed) (rest : (p : Place) (s : Router) → (f p s).ending ≡ finishes → g p s ≡ then_wrong (h p s)) where
+  block_before : (r : Option Read) (o : BlockOutcome) (b : List ℕ) (s : Router) → is_more r ≡ true
+      → (block_then r o b s f).ending ≡ finishes → block_then r o b s g ≡ then_wrong (block_then r o b s h)
+  block_before none o b s more e = absurd (not_whole e)
+  block_before (some (a_configuration c)) o b s more e = rest o.place (fresh_router c) e
+  block_before (some (some_cycles n)) o b s more e = cycles_before (f o.place) (g o.place) (h o.place) (rest o.place) b n 0 s e
+  block_before (some the_end) o b s more e = rest o.place s e
+  block_before (some no_more) o b s more e = absurd (true≢false (sym more))
 
 -- ---- a block of a file whose list ends in E
 
 module _ (b : List ℕ) (p : Place) (s : Router) (rest : Place → Router → Printed)
-    (whole : (blockThen (judged p s.cycle b).read (judged p s.cycle b) b s rest).ending ≡ finishes) where
+    (whole : (block_then (judged p s.cycle b).read (judged p s.cycle b) b s rest).ending ≡ finishes) where
   abbrev is : BlockOutcome
   is = judged p s.cycle b
 
   -- it is accepted
-  taken-there : is.number ≡ numbers.done
-  taken-there = go is (found_as p s.cycle b) whole
+  taken_there : is.number ≡ numbers.done
+  taken_there = go is (found_as p s.cycle b) whole
     where
-      go : (o : BlockOutcome) → FoundAs p s.cycle b o → (blockThen o.read o b s rest).ending ≡ finishes → o.number ≡ numbers.done
-      go _ (refuses n k) e = absurd (not-whole e)
+      go : (o : BlockOutcome) → FoundAs p s.cycle b o → (block_then o.read o b s rest).ending ≡ finishes → o.number ≡ numbers.done
+      go _ (refuses n k) e = absurd (not_whole e)
       go _ (configures _ _ _) e = refl
       go _ (holds _ _ _ _) e = refl
       go _ (ends _ _) e = refl
-      go _ (is-over _) e = refl
+      go _ (is_over _) e = refl
 
   -- it does not come after the end block, where it would be 8
-  before-end : 1 ≤ length b → p.ended ≡ false
-  before-end long = go p.ended refl (goodPlace p s.cycle) refl
+  before_end : 1 ≤ length b → p.ended ≡ false
+  before_end long = go p.ended refl (good_place p s.cycle) refl
     where
       off : (n : ℕ) → is.number ≡ n → (n ≡ 0 → ⊥) → ⊥
-      off n e other = other (sym e ∙ taken-there)
+      off n e other = other (sym e ∙ taken_there)
 
-      go : (d : Bool) → p.ended ≡ d → (g : Bool) → goodPlace p s.cycle ≡ g → d ≡ false
+      go : (d : Bool) → p.ended ≡ d → (g : Bool) → good_place p s.cycle ≡ g → d ≡ false
       go false d g q = refl
       go true d true q =
           absurd (off 8 (ap (λ (o : BlockOutcome). o.number) (judged-follows p s.cycle b q d long)) (λ z. absurd (omega arith)))
       go true d false q =
-          absurd (off 2 (ap (λ (o : BlockOutcome). o.number) (judged-unsound p s.cycle b q)) (λ z. absurd (omega arith)))
+          absurd (off 2 (ap (λ (o : BlockOutcome). o.number) (judged_unsound p s.cycle b q)) (λ z. absurd (omega arith)))
 
   -- so that the place moves on
-  moves-on : 1 ≤ length b → is.place ≡ nextPlace p b
+  moves_on : 1 ≤ length b → is.place ≡ next_place p b
   unfolding taken
-  moves-on long =
-      ap (λ (o : BlockOutcome). o.place) (accepted-taken p s.cycle b taken-there)
-      ∙ ap (λ (d : Bool). (cond d (accepted no_more p) (accepted (read_of b) (nextPlace p b))).place) (before-end long)
+  moves_on long =
+      ap (λ (o : BlockOutcome). o.place) (accepted_taken p s.cycle b taken_there)
+      ∙ ap (λ (d : Bool). (cond d (accepted no_more p) (accepted (read_of b) (next_place p b))).place) (before_end long)
 
-  goes_on : 1 ≤ length b → isMore is.read ≡ true
-  goes_on long = go is (found_as p s.cycle b) (ap (λ (q : Place). q.number) (moves-on long))
+  goes_on : 1 ≤ length b → is_more is.read ≡ true
+  goes_on long = go is (found_as p s.cycle b) (ap (λ (q : Place). q.number) (moves_on long))
     where
-      go : (o : BlockOutcome) → FoundAs p s.cycle b o → o.place.number ≡ p.number + 1 → isMore o.read ≡ true
+      go : (o : BlockOutcome) → FoundAs p s.cycle b o → o.place.number ≡ p.number + 1 → is_more o.read ≡ true
       go _ (refuses n k) d = refl
       go _ (configures _ _ _) d = refl
       go _ (holds _ _ _ _) d = refl
       go _ (ends _ _) d = refl
-      go _ (is-over _) d = absurd (omega arith)
+      go _ (is_over _) d = absurd (omega arith)
 
 -- the block in which a byte is changed is refused with 7
 module _ (x y : List ℕ) (r : ℕ) (xs : AreBytes x) (ys : AreBytes y) (change : ChangedAt r x y) (long : length y ≡ length x)
     (p : Place) (s : Router) (rest other : Place → Router → Printed)
-    (whole : (blockThen (judged p s.cycle x).read (judged p s.cycle x) x s rest).ending ≡ finishes) (some_bytes : 1 ≤ length x) where
-  check-wrong : judged p s.cycle y ≡ refused numbers.checkWrong 0 p
-  check-wrong =
-      let e = taken-there x p s rest whole in
-      block.one-byte-noticed x y r xs ys change p s.cycle (before-end x p s rest whole some_bytes)
+    (whole : (block_then (judged p s.cycle x).read (judged p s.cycle x) x s rest).ending ≡ finishes) (some_bytes : 1 ≤ length x) where
+  check_wrong-law : judged p s.cycle y ≡ refused numbers.check_wrong 0 p
+  check_wrong-law =
+      let e = taken_there x p s rest whole in
+      block.one_byte_noticed x y r xs ys change p s.cycle (before_end x p s rest whole some_bytes)
       (record {
-        notUnsound = λ q. absurd (omega arith);
-        notShort = λ q. absurd (omega arith);
-        notCheckWrong = λ q. absurd (omega arith);
+        not_unsound = λ q. absurd (omega arith);
+        not_short = λ q. absurd (omega arith);
+        not_check_wrong = λ q. absurd (omega arith);
       }) long
 
-  changed_block : blockThen (judged p s.cycle y).read (judged p s.cycle y) y s other ≡ ends_at s (file.refuses numbers.checkWrong 0)
-  changed_block = ap (λ (o : BlockOutcome). blockThen o.read o y s other) check-wrong
+  changed_block : block_then (judged p s.cycle y).read (judged p s.cycle y) y s other ≡ ends_at s (file.refuses numbers.check_wrong 0)
+  changed_block = ap (λ (o : BlockOutcome). block_then o.read o y s other) check_wrong-law
 
 -- ---- block by block
 
 -- the first block, and the blocks of the rest
-cut : (l : List ℕ) → 1 ≤ length l → blocksOf l ≡ take 512 l ∷ blocksOf (drop 512 l)
-cut l h = first_block l h ∙ ap (λ (m : List ℕ). take 512 l ∷ blocksOf m) (drop-taken 512 l)
+cut : (l : List ℕ) → 1 ≤ length l → blocks_of l ≡ take 512 l ∷ blocks_of (drop 512 l)
+cut l h = first_block l h ∙ ap (λ (m : List ℕ). take 512 l ∷ blocks_of m) (drop_taken 512 l)
 
 -- the blocks before, without the first
-drop-before : (n : ℕ) (l : List ℕ) → drop 512 (take (512 + n) l) ≡ take n (drop 512 l)
-drop-before n l =
+drop_before : (n : ℕ) (l : List ℕ) → drop 512 (take (512 + n) l) ≡ take n (drop 512 l)
+drop_before n l =
     sym (take_all n (drop 512 (take (512 + n) l)) (omega (arith, length-drop 512 (take (512 + n) l), length-take (512 + n) l)))
-    ∙ take-inside n 512 (512 + n) l (omega arith)
+    ∙ take_inside n 512 (512 + n) l (omega arith)
 
 -- a byte of a later block
 later : (k : ℕ) (x y : List ℕ) → ChangedIn (512 + k) x y → ChangedIn k (drop 512 x) (drop 512 y)
@@ -177,84 +177,84 @@ first k x y h c =
     }
 
 -- the first block is as it was
-first-same : (k : ℕ) (x y : List ℕ) → ChangedIn (512 + k) x y → take 512 x ≡ take 512 y
-first-same k x y c =
+first_same : (k : ℕ) (x y : List ℕ) → ChangedIn (512 + k) x y → take 512 x ≡ take 512 y
+first_same k x y c =
     ext_get_or 0 (take 512 x) (take 512 y) (omega (arith, length-take 512 x, length-take 512 y, c.long))
     (λ i l. let h : i < 512 = omega (arith, length-take 512 x) in
     get_or-take 512 x i 0 h ∙ c.same i (λ e. absurd (omega arith)) ∙ sym (get_or-take 512 y i 0 h))
 
 -- a block, and then the blocks of the rest
-abbrev blockFirst : Place → Router → List ℕ → List ℕ → Printed
-blockFirst p s b rest = blockThen (judged p s.cycle b).read (judged p s.cycle b) b s (fileFrom (blocksOf rest))
+abbrev block_first : Place → Router → List ℕ → List ℕ → Printed
+block_first p s b rest = block_then (judged p s.cycle b).read (judged p s.cycle b) b s (file_from (blocks_of rest))
 
-file-cut : (l : List ℕ) → 1 ≤ length l → (p : Place) (s : Router) → fileFrom (blocksOf l) p s ≡ blockFirst p s (take 512 l) (drop 512 l)
-unfolding fileFrom
-file-cut l h p s = ap (λ (bs : List (List ℕ)). fileFrom bs p s) (cut l h)
+file_cut : (l : List ℕ) → 1 ≤ length l → (p : Place) (s : Router) → file_from (blocks_of l) p s ≡ block_first p s (take 512 l) (drop 512 l)
+unfolding file_from
+file_cut l h p s = ap (λ (bs : List (List ℕ)). file_from bs p s) (cut l h)
 
 -- the change is in the first block
 module _ (x y : List ℕ) (xs : AreBytes x) (ys : AreBytes y) (p : Place) (s : Router)
-    (whole : (fileFrom (blocksOf x) p s).ending ≡ finishes) where
-  first-noticed : (k : ℕ) → k < 512 → ChangedIn k x y → fileFrom (blocksOf y) p s ≡ ends_at s (file.refuses numbers.checkWrong 0)
-  first-noticed k h c =
+    (whole : (file_from (blocks_of x) p s).ending ≡ finishes) where
+  first_noticed : (k : ℕ) → k < 512 → ChangedIn k x y → file_from (blocks_of y) p s ≡ ends_at s (file.refuses numbers.check_wrong 0)
+  first_noticed k h c =
       let inside = c.inside in
       let long = c.long in
       let some-x : 1 ≤ length x = omega arith in
       let some-y : 1 ≤ length y = omega arith in
-      file-cut y some-y p s
+      file_cut y some-y p s
       ∙ changed_block (take 512 x) (take 512 y) k (piece_bytes 512 0 x xs) (piece_bytes 512 0 y ys) (first k x y h c)
-      (omega (arith, length-take 512 x, length-take 512 y)) p s (fileFrom (blocksOf (drop 512 x))) (fileFrom (blocksOf (drop 512 y)))
-      (ap (λ (o : Printed). o.ending) (sym (file-cut x some-x p s)) ∙ whole) (omega (arith, length-take 512 x))
+      (omega (arith, length-take 512 x, length-take 512 y)) p s (file_from (blocks_of (drop 512 x))) (file_from (blocks_of (drop 512 y)))
+      (ap (λ (o : Printed). o.ending) (sym (file_cut x some-x p s)) ∙ whole) (omega (arith, length-take 512 x))
 
   -- the change is in a later one, with n bytes of blocks between
-  later-noticed : (n k : ℕ) → ChangedIn (512 + k) x y
-      → ((q : Place) (t : Router) → (fileFrom (blocksOf (drop 512 x)) q t).ending ≡ finishes
-      → fileFrom (blocksOf (drop 512 y)) q t ≡ thenWrong (fileFrom (blocksOf (take n (drop 512 x))) q t))
-      → fileFrom (blocksOf y) p s ≡ thenWrong (fileFrom (blocksOf (take (512 + n) x)) p s)
-  later-noticed n k c rest =
+  later_noticed : (n k : ℕ) → ChangedIn (512 + k) x y
+      → ((q : Place) (t : Router) → (file_from (blocks_of (drop 512 x)) q t).ending ≡ finishes
+      → file_from (blocks_of (drop 512 y)) q t ≡ then_wrong (file_from (blocks_of (take n (drop 512 x))) q t))
+      → file_from (blocks_of y) p s ≡ then_wrong (file_from (blocks_of (take (512 + n) x)) p s)
+  later_noticed n k c rest =
       let inside = c.inside in
       let long = c.long in
       let some-x : 1 ≤ length x = omega arith in
       let some-y : 1 ≤ length y = omega arith in
       let b = take 512 x in
       let z = take (512 + n) x in
-      let there : (blockFirst p s b (drop 512 x)).ending ≡ finishes =
-      ap (λ (o : Printed). o.ending) (sym (file-cut x some-x p s)) ∙ whole in
-      let before : fileFrom (blocksOf z) p s ≡ blockFirst p s b (take n (drop 512 x)) =
-      file-cut z (omega (arith, length-take (512 + n) x)) p s
-      ∙ ap₂ (blockFirst p s) (take-take 512 (512 + n) x (omega arith)) (drop-before n x) in
-      file-cut y some-y p s ∙ ap (λ (a : List ℕ). blockFirst p s a (drop 512 y)) (sym (first-same k x y c))
-      ∙ block-before (fileFrom (blocksOf (drop 512 x))) (fileFrom (blocksOf (drop 512 y))) (fileFrom (blocksOf (take n (drop 512 x)))) rest
+      let there : (block_first p s b (drop 512 x)).ending ≡ finishes =
+      ap (λ (o : Printed). o.ending) (sym (file_cut x some-x p s)) ∙ whole in
+      let before : file_from (blocks_of z) p s ≡ block_first p s b (take n (drop 512 x)) =
+      file_cut z (omega (arith, length-take (512 + n) x)) p s
+      ∙ ap₂ (block_first p s) (take-take 512 (512 + n) x (omega arith)) (drop_before n x) in
+      file_cut y some-y p s ∙ ap (λ (a : List ℕ). block_first p s a (drop 512 y)) (sym (first_same k x y c))
+      ∙ block_before (file_from (blocks_of (drop 512 x))) (file_from (blocks_of (drop 512 y))) (file_from (blocks_of (take n (drop 512 x)))) rest
       (judged p s.cycle b).read (judged p s.cycle b) b s
-      (goes_on b p s (fileFrom (blocksOf (drop 512 x))) there (omega (arith, length-take 512 x))) there
-      ∙ sym (ap thenWrong before)
+      (goes_on b p s (file_from (blocks_of (drop 512 x))) there (omega (arith, length-take 512 x))) there
+      ∙ sym (ap then_wrong before)
 
 -- byte k is byte r of block q
-file-noticed : (q r k : ℕ) → r < 512 → k ≡ q * 512 + r → (x y : List ℕ) → AreBytes x → AreBytes y → ChangedIn k x y
+file_noticed : (q r k : ℕ) → r < 512 → k ≡ q * 512 + r → (x y : List ℕ) → AreBytes x → AreBytes y → ChangedIn k x y
     → (p : Place) (s : Router)
-    → (fileFrom (blocksOf x) p s).ending ≡ finishes → fileFrom (blocksOf y) p s ≡ thenWrong (fileFrom (blocksOf (take (q * 512) x)) p s)
-unfolding fileFrom cutInto
-file-noticed zero r k h at x y xs ys c p s e = first-noticed x y xs ys p s e k (omega arith) c
-file-noticed (suc q) r k h at x y xs ys c p s e =
+    → (file_from (blocks_of x) p s).ending ≡ finishes → file_from (blocks_of y) p s ≡ then_wrong (file_from (blocks_of (take (q * 512) x)) p s)
+unfolding file_from cut_into
+file_noticed zero r k h at x y xs ys c p s e = first_noticed x y xs ys p s e k (omega arith) c
+file_noticed (suc q) r k h at x y xs ys c p s e =
     let behind : k ≡ 512 + (q * 512 + r) = omega arith in
     let blocks : 512 + q * 512 ≡ suc q * 512 = omega arith in
     let d : ChangedIn (512 + (q * 512 + r)) x y = subst (λ (m : ℕ). ChangedIn m x y) behind c in
-    later-noticed x y xs ys p s e (q * 512) (q * 512 + r) d
-    (file-noticed q r (q * 512 + r) h refl (drop 512 x) (drop 512 y) (drop-bytes 512 x xs) (drop-bytes 512 y ys)
+    later_noticed x y xs ys p s e (q * 512) (q * 512 + r) d
+    (file_noticed q r (q * 512 + r) h refl (drop 512 x) (drop 512 y) (drop_bytes 512 x xs) (drop_bytes 512 y ys)
     (later (q * 512 + r) x y d))
-    ∙ ap (λ (m : ℕ). thenWrong (fileFrom (blocksOf (take m x)) p s)) blocks
+    ∙ ap (λ (m : ℕ). then_wrong (file_from (blocks_of (take m x)) p s)) blocks
 
-module _ (k : ℕ) (bytes changed : List ℕ) (are : AreBytes bytes) (areToo : AreBytes changed) (change : ChangedIn k bytes changed)
-    (whole : (printedOf bytes).ending ≡ finishes) where
-  pub one-byte-noticed : printedOf changed ≡ thenWrong (printedOf (blocksBefore k bytes))
-  unfolding printedOf
-  one-byte-noticed =
-      file-noticed (k / 512) (k % 512) k (omega arith) (omega arith) bytes changed are areToo change start (freshRouter noConfig) whole
+module _ (k : ℕ) (bytes changed : List ℕ) (are : AreBytes bytes) (are_too : AreBytes changed) (change : ChangedIn k bytes changed)
+    (whole : (printed_of bytes).ending ≡ finishes) where
+  pub one_byte_noticed : printed_of changed ≡ then_wrong (printed_of (blocks_before k bytes))
+  unfolding printed_of
+  one_byte_noticed =
+      file_noticed (k / 512) (k % 512) k (omega arith) (omega arith) bytes changed are are_too change start (fresh_router no_config) whole
 
   -- the list: the lines of the blocks before, then R 7 with the cycles accepted in them and place 0
-  pub one-byte-listed : list_of changed
-      ≡ text ((printedOf (blocksBefore k bytes)).lines ++ refusal numbers.checkWrong (acceptedOf (blocksBefore k bytes)) 0 ∷ [])
+  pub one_byte_listed : list_of changed
+      ≡ text ((printed_of (blocks_before k bytes)).lines ++ refusal numbers.check_wrong (accepted_of (blocks_before k bytes)) 0 ∷ [])
   unfolding list_of
-  one-byte-listed =
-      ap (λ (p : Printed). text (lines_of p)) one-byte-noticed
-      ∙ ap (λ (c : ℕ). text ((printedOf (blocksBefore k bytes)).lines ++ refusal numbers.checkWrong c 0 ∷ []))
-      (cycles-accepted (blocksBefore k bytes) (piece_bytes (k / 512 * 512) 0 bytes are))
+  one_byte_listed =
+      ap (λ (p : Printed). text (lines_of p)) one_byte_noticed
+      ∙ ap (λ (c : ℕ). text ((printed_of (blocks_before k bytes)).lines ++ refusal numbers.check_wrong c 0 ∷ []))
+      (cycles_accepted (blocks_before k bytes) (piece_bytes (k / 512 * 512) 0 bytes are))

@@ -11,19 +11,19 @@ use Rattle.state.specs.declared.Router.{Router}
 use Rattle.state.specs.Sound.{Sound}
 use Rattle.trace.specs.Bytes.{AreBytes}
 use Rattle.trace.specs.declared.place.Place.{Place}
-use Rattle.trace.specs.Blocks.{cycleLength, cycleStart, part_at}
-use Rattle.listing.specs.Lines.{cycleLines, flitLines}
+use Rattle.trace.specs.Blocks.{cycle_length, cycle_start, part_at}
+use Rattle.listing.specs.Lines.{cycle_lines, flit_lines}
 use Rattle.rules.specs.declared.Refusal.{Refusal}
 use Rattle.rules.specs.declared.Verdict.{Verdict}
 use Rattle.rules.specs.declared.Verdict.TheVariants.{Accepted, Refused}
 use Rattle.rules.specs.declared.Stepped.{Stepped}
 use Rattle.rules.specs.Step.{step_of}
-use Rattle.rules.proofs.ChosenStep.{config-stays, cycle_steps}
-use Rattle.rules.proofs.StepSound.{accepted-after}
-use Rattle.history.proofs.Printable.{flits-at-most-ports}
+use Rattle.rules.proofs.ChosenStep.{config_stays, cycle_steps}
+use Rattle.rules.proofs.StepSound.{accepted_after}
+use Rattle.history.proofs.Printable.{flits_at_most_ports}
 use Rattle.runs.specs.declared.Run.{Run}
-use Rattle.router.specs.Running.{Writing, wrote, finished, endedBy, byVerdict, cycled, cyclesFrom}
-use Rattle.router.proofs.Cycling.{cycles-over}
+use Rattle.router.specs.Running.{Writing, wrote, finished, ended_by, by_verdict, cycled, cycles_from}
+use Rattle.router.proofs.Cycling.{cycles_over}
 use Rattle.router.proofs.Going.{piece_bytes}
 
 -- a run after the configuration block, at a place with so many cycles
@@ -43,35 +43,35 @@ module _ (q : Place) (c : ℕ) (n : Run) (part : List ℕ) (bytes : AreBytes par
   x = step_of s part
 
   abbrev next : Run
-  next = record { router = x.router; place = n.place; flits = n.flits + flitLines (cycleLines s.cycle x.reply); over = n.over }
+  next = record { router = x.router; place = n.place; flits = n.flits + flit_lines (cycle_lines s.cycle x.reply); over = n.over }
 
   -- one flit more for each output at most
-  accepted-few : next.flits ≤ x.router.config.ports * x.router.cycle
-  accepted-few =
+  accepted_few : next.flits ≤ x.router.config.ports * x.router.cycle
+  accepted_few =
       let grown : x.router.config.ports * x.router.cycle ≡ s.config.ports * suc s.cycle =
-      ap₂ ◌*◌ (ap (λ (k : Config). k.ports) (config-stays s part bytes e)) (cycle_steps s part bytes e) in
-      omega (arith, grown, mul-suc s.config.ports s.cycle, at.few, flits-at-most-ports s part bytes e)
+      ap₂ ◌*◌ (ap (λ (k : Config). k.ports) (config_stays s part bytes e)) (cycle_steps s part bytes e) in
+      omega (arith, grown, mul-suc s.config.ports s.cycle, at.few, flits_at_most_ports s part bytes e)
 
-  accepted-stands : Stands q (c + 1) next
-  accepted-stands =
+  accepted_stands : Stands q (c + 1) next
+  accepted_stands =
       record {
         place = at.place;
-        sound = accepted-after s part bytes e;
-        few = accepted-few;
+        sound = accepted_after s part bytes e;
+        few = accepted_few;
         cycle = let f = cycle_steps s part bytes e in let g = at.cycle in omega (arith, f, g);
       }
 
 -- the run after a cycle
 module _ (part : List ℕ) (w : Writing) where
-  cycled-on : (e : (step_of w.run.router part).verdict ≡ Accepted) (q : Place) (c : ℕ) (bytes : AreBytes part)
+  cycled_on : (e : (step_of w.run.router part).verdict ≡ Accepted) (q : Place) (c : ℕ) (bytes : AreBytes part)
       (at : Stands q c w.run)
       → (cycled part w).run ≡ next q c w.run part bytes at e
   unfolding cycled wrote
-  cycled-on e q c bytes at = ap (λ (v : Verdict). (byVerdict v (step_of w.run.router part) w).run) e
+  cycled_on e q c bytes at = ap (λ (v : Verdict). (by_verdict v (step_of w.run.router part) w).run) e
 
-  cycled-off : (r : Refusal) → (step_of w.run.router part).verdict ≡ Refused r → (cycled part w).run ≡ finished w.run
-  unfolding cycled wrote endedBy
-  cycled-off r e = ap (λ (v : Verdict). (byVerdict v (step_of w.run.router part) w).run) e
+  cycled_off : (r : Refusal) → (step_of w.run.router part).verdict ≡ Refused r → (cycled part w).run ≡ finished w.run
+  unfolding cycled wrote ended_by
+  cycled_off r e = ap (λ (v : Verdict). (by_verdict v (step_of w.run.router part) w).run) e
 
 -- after m cycles of a block that was taken with c: all were accepted, or the run stopped at one
 pub data Ran (q : Place) (c m : ℕ) (n : Run) : Type 0 where
@@ -88,30 +88,30 @@ module _ (block : List ℕ) (bytes : AreBytes block) (q : Place) (c : ℕ) where
     later = cycled part w
 
     part_bytes : AreBytes part
-    part_bytes = piece_bytes cycleLength (cycleStart k) block bytes
+    part_bytes = piece_bytes cycle_length (cycle_start k) block bytes
 
     one-ran : (v : Verdict) → (step_of w.run.router part).verdict ≡ v
         → (later.run.over ≡ false → Stands q (c + (k + 1)) later.run
-        → Ran q c (k + 1 + n) (cyclesFrom block (k + 1) n later).run)
-        → Ran q c (k + suc n) (cyclesFrom block (k + 1) n later).run
+        → Ran q c (k + 1 + n) (cycles_from block (k + 1) n later).run)
+        → Ran q c (k + suc n) (cycles_from block (k + 1) n later).run
     one-ran Accepted e rest =
-        let is = cycled-on part w e q (c + k) part_bytes s in
-        subst (λ (m : ℕ). Ran q c m (cyclesFrom block (k + 1) n later).run) (omega arith)
+        let is = cycled_on part w e q (c + k) part_bytes s in
+        subst (λ (m : ℕ). Ran q c m (cycles_from block (k + 1) n later).run) (omega arith)
         (rest (ap (λ (m : Run). m.over) is ∙ o)
         (subst (λ (m : Run). Stands q (c + (k + 1)) m) (sym is)
         (subst (λ (m : ℕ). Stands q m (next q (c + k) w.run part part_bytes s e)) (omega arith)
-        (accepted-stands q (c + k) w.run part part_bytes s e))))
+        (accepted_stands q (c + k) w.run part part_bytes s e))))
     one-ran (Refused r) e rest =
-        let is = cycled-off part w r e in
-        subst (λ (v : Writing). Ran q c (k + suc n) v.run) (sym (cycles-over block (k + 1) n later (ap (λ (m : Run). m.over) is)))
+        let is = cycled_off part w r e in
+        subst (λ (v : Writing). Ran q c (k + suc n) v.run) (sym (cycles_over block (k + 1) n later (ap (λ (m : Run). m.over) is)))
         (subst (Ran q c (k + suc n)) (sym is) (stopped k (omega arith) refl
         (record { place = s.place; sound = s.sound; few = s.few; cycle = s.cycle })))
 
-  pub cycles-ran : (n k : ℕ) (w : Writing) → k + n ≤ 7 → w.run.over ≡ false → Stands q (c + k) w.run
-      → Ran q c (k + n) (cyclesFrom block k n w).run
-  unfolding cyclesFrom
-  cycles-ran zero k w l o s = through o (subst (λ (m : ℕ). Stands q (c + m) w.run) (sym (add-zero k)) s)
-  cycles-ran (suc n) k w l o s =
-      subst (λ (b : Bool). Ran q c (k + suc n) (cond b w (cyclesFrom block (k + 1) n (cycled (part_at block k) w))).run) (sym o)
+  pub cycles_ran : (n k : ℕ) (w : Writing) → k + n ≤ 7 → w.run.over ≡ false → Stands q (c + k) w.run
+      → Ran q c (k + n) (cycles_from block k n w).run
+  unfolding cycles_from
+  cycles_ran zero k w l o s = through o (subst (λ (m : ℕ). Stands q (c + m) w.run) (sym (add-zero k)) s)
+  cycles_ran (suc n) k w l o s =
+      subst (λ (b : Bool). Ran q c (k + suc n) (cond b w (cycles_from block (k + 1) n (cycled (part_at block k) w))).run) (sym o)
       (one-ran n k w l o s (step_of w.run.router (part_at block k)).verdict refl
-      (λ d t. cycles-ran n (k + 1) (cycled (part_at block k) w) (omega arith) d t))
+      (λ d t. cycles_ran n (k + 1) (cycled (part_at block k) w) (omega arith) d t))

@@ -9,76 +9,76 @@ use lib.Dec.{eqb}
 use lib.ListN.{length, set, replicate, take}
 use borrow.Author.Tests.{eqb-false}
 use Rattle.base.specs.declared.reply.Departure.{Departure}
-use Rattle.base.specs.Flit.{flitOf, kind_of, destinationOf, payloadOf, startsKind, endsKind}
-use Rattle.base.specs.Search.{firstFrom, every, or_else}
-use Rattle.base.specs.Sizes.{in_range, firstIllegal, illegalField}
-use Rattle.arbiter.specs.RoundRobin.{nextInTurn, pointerAfter}
-use Rattle.arbiter.specs.Matrix.{blankFrom}
+use Rattle.base.specs.Flit.{flit_of, kind_of, destination_of, payload_of, starts_kind, ends_kind}
+use Rattle.base.specs.Search.{first_from, every, or_else}
+use Rattle.base.specs.Sizes.{in_range, first_illegal, illegal_field}
+use Rattle.arbiter.specs.RoundRobin.{next_in_turn, pointer_after}
+use Rattle.arbiter.specs.Matrix.{blank_from}
 use Rattle.arbiter.specs.Arbiter as arbiter
 use Rattle.state.specs.declared.Router.{Router}
-use Rattle.state.specs.Fresh.{freshRouter}
-use Rattle.state.specs.Setters.{withCycle}
-use Rattle.state.specs.Sound.{is_none, all, configurationLegal, cyclesFit, creditsWhole, creditsAddUp, legalFlit, wirePlaceLegal}
-use Rattle.state.specs.Sound.{wireLegal, homeLegal, queuesLegal, outputCreditsFit, namesAgree, arbitersSound, reading, reads}
-use Rattle.state.specs.Sound.{packetsRead, channelsUnused, slotsEmpty, lineUnused, arbitersUnused, shaped, sound}
-use Rattle.state.specs.Views.{queueAt, places, wireOf, home_of, flat, total}
-use Rattle.state.proofs.SoundStates.{withInput, withHomePlace, config, turns, unbound}
-use Rattle.store.specs.Store.{frontOf, pushed, movedUp, popped}
+use Rattle.state.specs.Fresh.{fresh_router}
+use Rattle.state.specs.Setters.{with_cycle}
+use Rattle.state.specs.Sound.{is_none, all, configuration_legal, cycles_fit, credits_whole, credits_add_up, legal_flit, wire_place_legal}
+use Rattle.state.specs.Sound.{wire_legal, home_legal, queues_legal, output_credits_fit, names_agree, arbiters_sound, reading, reads}
+use Rattle.state.specs.Sound.{packets_read, channels_unused, slots_empty, line_unused, arbiters_unused, shaped, sound}
+use Rattle.state.specs.Views.{queue_at, places, wire_of, home_of, flat, total}
+use Rattle.state.proofs.SoundStates.{with_input, with_home_place, config, turns, unbound}
+use Rattle.store.specs.Store.{front_of, pushed, moved_up, popped}
 use Rattle.trace.specs.declared.place.Place.{Place}
-use Rattle.trace.specs.Bytes.{bigEndian, zeros}
-use Rattle.trace.specs.Place.{mayHold, goodPlace}
-use Rattle.trace.specs.Rules.{placeUnsound, bytesFollow, blockShort, checkWrong, blockWrong, fieldWrong}
-use Rattle.trace.specs.Judged.{Read, aConfiguration, someCycles, theEnd, no_more, BlockOutcome, accepted, taken, byField}
+use Rattle.trace.specs.Bytes.{big_endian, zeros}
+use Rattle.trace.specs.Place.{can_hold, good_place}
+use Rattle.trace.specs.Rules.{place_unsound, bytes_follow, block_short, check_wrong, block_wrong, field_wrong}
+use Rattle.trace.specs.Judged.{Read, a_configuration, some_cycles, the_end, no_more, BlockOutcome, accepted, taken, judged_by_field}
 use Rattle.trace.specs.Judged as trace
-use Rattle.listing.specs.Lines.{Line, credit, flit, finish, refusal, byPort, creditLine, flitLine, cycleLines, flitLines}
+use Rattle.listing.specs.Lines.{Line, credit, flit, finish, refusal, by_port, credit_line, flit_line, cycle_lines, flit_lines}
 use Rattle.rules.specs.declared.Verdict.{Verdict}
 use Rattle.rules.specs.declared.Verdict.TheVariants.{Accepted, Refused}
 use Rattle.rules.specs.declared.Stepped.{Stepped}
-use Rattle.rules.specs.Ports.{overPorts}
-use Rattle.rules.specs.Rows.{rowZero, noOffer, legalOffer, rowLegal}
-use Rattle.rules.specs.Intake.{advanced, sendersPaid, reported, creditsReached, outputsPaid, creditsReturned, landings, landed, offers}
-use Rattle.rules.specs.Intake.{offersTaken}
-use Rattle.rules.specs.Allocation.{asks, freeVc, grantOf, bindings, wideMoved, narrowMoved, allocated, isReady, inputPick, request}
-use Rattle.rules.specs.Allocation.{outputPick, switched, winner}
-use Rattle.rules.specs.Departures.{departures, leavingOf}
-use Rattle.rules.specs.Numbers.{runFull, partWrong, rowWrong, creditPastRoom, outOfTurn, noSenderCredit, first_of, judged}
-use Rattle.rules.specs.Step.{takenIn, sentOut, routerAfter, replyOf, step_of}
+use Rattle.rules.specs.Ports.{over_ports}
+use Rattle.rules.specs.Rows.{row_zero, no_offer, legal_offer, row_legal}
+use Rattle.rules.specs.Intake.{advanced, senders_paid, reported, credits_reached, outputs_paid, credits_returned, landings, landed, offers}
+use Rattle.rules.specs.Intake.{offers_taken}
+use Rattle.rules.specs.Allocation.{asks, lowest_free_vc, grant_of, bindings, wide_moved, narrow_moved, allocated, is_ready, input_pick, request}
+use Rattle.rules.specs.Allocation.{output_pick, switched, winner}
+use Rattle.rules.specs.Departures.{departures, leaving_of}
+use Rattle.rules.specs.Numbers.{run_full, part_wrong, row_wrong, credit_past_room, out_of_turn, no_sender_credit, first_of, judged}
+use Rattle.rules.specs.Step.{taken_in, sent_out, router_after, reply_of, step_of}
 use Rattle.rules.proofs.Differ.{Differ}
-use Rattle.night.specs.File.{Ending, finishes, refuses, Printed, ends_at, after, cycleThen, cyclesThen, blockThen, fileFrom, lastLine}
+use Rattle.night.specs.File.{Ending, finishes, refuses, Printed, ends_at, after, cycle_then, cycles_then, block_then, file_from, last_line}
 
 -- THE WRONG VERSIONS, each named like its edit.
 
 -- of the last line
-abbrev cLinesCountedAsFlits : Printed → Ending → Line
-cLinesCountedAsFlits p finishes = finish p.cycles (length p.lines)
-cLinesCountedAsFlits p (refuses n k) = refusal n p.cycles k
+abbrev wrong_c_lines_counted_as_flits : Printed → Ending → Line
+wrong_c_lines_counted_as_flits p finishes = finish p.cycles (length p.lines)
+wrong_c_lines_counted_as_flits p (refuses n k) = refusal n p.cycles k
 
-abbrev flitsOfTheFirstLineOnly : Printed → Ending → Line
-flitsOfTheFirstLineOnly p finishes = finish p.cycles (flitLines (take 1 p.lines))
-flitsOfTheFirstLineOnly p (refuses n k) = refusal n p.cycles k
+abbrev wrong_flits_of_the_first_line_only : Printed → Ending → Line
+wrong_flits_of_the_first_line_only p finishes = finish p.cycles (flit_lines (take 1 p.lines))
+wrong_flits_of_the_first_line_only p (refuses n k) = refusal n p.cycles k
 
 -- of a block
-abbrev endsBeforeTheInputDoes : Option Read → BlockOutcome → List ℕ → Router → (Place → Router → Printed) → Printed
-endsBeforeTheInputDoes none o block s rest = ends_at s (refuses o.number o.field)
-endsBeforeTheInputDoes (some (aConfiguration c)) o block s rest = rest o.place (freshRouter c)
-endsBeforeTheInputDoes (some (someCycles n)) o block s rest = cyclesThen (rest o.place) block 0 n s
-endsBeforeTheInputDoes (some theEnd) o block s rest = ends_at s finishes
-endsBeforeTheInputDoes (some no_more) o block s rest = ends_at s finishes
+abbrev wrong_ends_before_the_input_does : Option Read → BlockOutcome → List ℕ → Router → (Place → Router → Printed) → Printed
+wrong_ends_before_the_input_does none o block s rest = ends_at s (refuses o.number o.field)
+wrong_ends_before_the_input_does (some (a_configuration c)) o block s rest = rest o.place (fresh_router c)
+wrong_ends_before_the_input_does (some (some_cycles n)) o block s rest = cycles_then (rest o.place) block 0 n s
+wrong_ends_before_the_input_does (some the_end) o block s rest = ends_at s finishes
+wrong_ends_before_the_input_does (some no_more) o block s rest = ends_at s finishes
 
 -- of a cycle
-abbrev goesOnAfterARefusal : Verdict → Stepped → Router → (Router → Printed) → Printed
-goesOnAfterARefusal Accepted x s rest = after (cycleLines s.cycle x.reply) (rest x.router)
-goesOnAfterARefusal (Refused r) x s rest = rest x.router
+abbrev wrong_goes_on_after_a_refusal : Verdict → Stepped → Router → (Router → Printed) → Printed
+wrong_goes_on_after_a_refusal Accepted x s rest = after (cycle_lines s.cycle x.reply) (rest x.router)
+wrong_goes_on_after_a_refusal (Refused r) x s rest = rest x.router
 
-abbrev linesOfACycleTwice : Verdict → Stepped → Router → (Router → Printed) → Printed
-linesOfACycleTwice Accepted x s rest =
-    after (cycleLines s.cycle x.reply ++ cycleLines s.cycle x.reply) (rest x.router)
-linesOfACycleTwice (Refused r) x s rest = ends_at s (refuses r.number r.port)
+abbrev wrong_lines_of_a_cycle_twice : Verdict → Stepped → Router → (Router → Printed) → Printed
+wrong_lines_of_a_cycle_twice Accepted x s rest =
+    after (cycle_lines s.cycle x.reply ++ cycle_lines s.cycle x.reply) (rest x.router)
+wrong_lines_of_a_cycle_twice (Refused r) x s rest = ends_at s (refuses r.number r.port)
 
-abbrev worksInCycle0AndOnlyCountsAfterwards : Verdict → Stepped → Router → (Router → Printed) → Printed
-worksInCycle0AndOnlyCountsAfterwards Accepted x s rest =
-    after (cycleLines s.cycle x.reply) (rest (cond (eqb s.cycle 0) x.router (withCycle (s.cycle + 1) s)))
-worksInCycle0AndOnlyCountsAfterwards (Refused r) x s rest = ends_at s (refuses r.number r.port)
+abbrev wrong_works_in_cycle_0_and_only_counts_afterwards : Verdict → Stepped → Router → (Router → Printed) → Printed
+wrong_works_in_cycle_0_and_only_counts_afterwards Accepted x s rest =
+    after (cycle_lines s.cycle x.reply) (rest (cond (eqb s.cycle 0) x.router (with_cycle (s.cycle + 1) s)))
+wrong_works_in_cycle_0_and_only_counts_afterwards (Refused r) x s rest = ends_at s (refuses r.number r.port)
 
 -- BY VALUE.
 
@@ -91,31 +91,31 @@ printed = record { lines = flit 1 1 departure ∷ credit 2 0 0 ∷ flit 2 1 depa
 
 -- P = 2, V = 2, D = 3, E = 2, F = 2, B = 2: a credit of VC 0 of input 0 is on its way home, `later` cycles from its sender
 abbrev homing : ℕ → Router
-homing later = withHomePlace later 0 1 (withInput 0 (unbound 2 false 0) turns)
+homing later = with_home_place later 0 1 (with_input 0 (unbound 2 false 0) turns)
 
 abbrev idle : List ℕ
 idle = replicate 64 0
 
--- a cycle of that router, by one version of `cycleThen`; and then the list ends, or one more cycle without offers comes
-abbrev byCycle : (Verdict → Stepped → Router → (Router → Printed) → Printed) → List ℕ → Router → (Router → Printed) → Printed
-byCycle version part s rest = version (step_of s part).verdict (step_of s part) s rest
+-- a cycle of that router, by one version of `cycle_then`; and then the list ends, or one more cycle without offers comes
+abbrev by_cycle : (Verdict → Stepped → Router → (Router → Printed) → Printed) → List ℕ → Router → (Router → Printed) → Printed
+by_cycle version part s rest = version (step_of s part).verdict (step_of s part) s rest
 
 abbrev ends : Router → Printed
 ends s = ends_at s finishes
 
-abbrev oneMore : Router → Printed
-oneMore s = cyclesThen ends (replicate 512 0) 0 1 s
+abbrev one_more : Router → Printed
+one_more s = cycles_then ends (replicate 512 0) 0 1 s
 
--- the end block of a file with one byte after it, by one version of `blockThen`
-abbrev atTheEnd : (Option Read → BlockOutcome → List ℕ → Router → (Place → Router → Printed) → Printed) → Printed
-atTheEnd version =
-    version (some theEnd) (accepted theEnd (record { number = 2; configured = true; ended = true })) [] turns (fileFrom ((7 ∷ []) ∷ []))
+-- the end block of a file with one byte after it, by one version of `block_then`
+abbrev at_the_end : (Option Read → BlockOutcome → List ℕ → Router → (Place → Router → Printed) → Printed) → Printed
+at_the_end version =
+    version (some the_end) (accepted the_end (record { number = 2; configured = true; ended = true })) [] turns (file_from ((7 ∷ []) ∷ []))
 
-abbrev flitsIn : Line → ℕ
-flitsIn (credit n i v) = 0
-flitsIn (flit n o d) = 0
-flitsIn (finish n k) = k
-flitsIn (refusal n c p) = 0
+abbrev flits_in : Line → ℕ
+flits_in (credit n i v) = 0
+flits_in (flit n o d) = 0
+flits_in (finish n k) = k
+flits_in (refusal n c p) = 0
 
 abbrev number_in : Ending → ℕ
 number_in finishes = 0
@@ -124,39 +124,39 @@ number_in (refuses n k) = n
 -- THE TABLE: a field for each edit; the value of the right definition stands before that of the wrong one.
 pub record WrongVersions : Type 0 where
   -- the E line
-  pub c-lines-counted-as-flits : Differ (lastLine printed finishes) (cLinesCountedAsFlits printed finishes) (finish 3 2) (finish 3 3)
-  pub flits-of-the-first-line-only : Differ (lastLine printed finishes) (flitsOfTheFirstLineOnly printed finishes) (finish 3 2)
+  pub c_lines_counted_as_flits : Differ (last_line printed finishes) (wrong_c_lines_counted_as_flits printed finishes) (finish 3 2) (finish 3 3)
+  pub flits_of_the_first_line_only : Differ (last_line printed finishes) (wrong_flits_of_the_first_line_only printed finishes) (finish 3 2)
       (finish 3 1)
   -- how the list of a file ends that has a byte after its end block
-  pub ends-before-the-input-does : Differ (atTheEnd blockThen).ending (atTheEnd endsBeforeTheInputDoes).ending (refuses 8 0) finishes
+  pub ends_before_the_input_does : Differ (at_the_end block_then).ending (at_the_end wrong_ends_before_the_input_does).ending (refuses 8 0) finishes
   -- how a list ends whose last cycle has kind 5 at port 1
-  pub goes-on-after-a-refusal : Differ (byCycle cycleThen (set idle 8 5) turns ends).ending
-      (byCycle goesOnAfterARefusal (set idle 8 5) turns ends).ending (refuses 3 1) finishes
+  pub goes_on_after_a_refusal : Differ (by_cycle cycle_then (set idle 8 5) turns ends).ending
+      (by_cycle wrong_goes_on_after_a_refusal (set idle 8 5) turns ends).ending (refuses 3 1) finishes
   -- how many lines a cycle has in which one credit reaches its sender
-  pub lines-of-a-cycle-twice : Differ (length (byCycle cycleThen idle (homing 0) ends).lines)
-      (length (byCycle linesOfACycleTwice idle (homing 0) ends).lines) 1 2
+  pub lines_of_a_cycle_twice : Differ (length (by_cycle cycle_then idle (homing 0) ends).lines)
+      (length (by_cycle wrong_lines_of_a_cycle_twice idle (homing 0) ends).lines) 1 2
   -- how many lines cycles 1 and 2 have, in the second of which one credit reaches its sender
-  pub works-in-cycle-0-and-only-counts-afterwards : Differ
-      (length (byCycle cycleThen idle (withCycle 1 (homing 1)) oneMore).lines)
-      (length (byCycle worksInCycle0AndOnlyCountsAfterwards idle (withCycle 1 (homing 1)) oneMore).lines) 1 0
+  pub works_in_cycle_0_and_only_counts_afterwards : Differ
+      (length (by_cycle cycle_then idle (with_cycle 1 (homing 1)) one_more).lines)
+      (length (by_cycle wrong_works_in_cycle_0_and_only_counts_afterwards idle (with_cycle 1 (homing 1)) one_more).lines) 1 0
 
-pub wrong-versions : WrongVersions
-unfolding withInput withHomePlace config turns unbound freshRouter xor firstFrom every or_else in_range firstIllegal illegalField flitOf
-    kind_of destinationOf payloadOf startsKind endsKind nextInTurn pointerAfter blankFrom arbiter.known arbiter.usable arbiter.choice
-    arbiter.moved arbiter.after arbiter.fresh arbiter.sound queueAt places wireOf home_of flat total is_none all configurationLegal
-    cyclesFit creditsWhole creditsAddUp legalFlit wirePlaceLegal wireLegal homeLegal queuesLegal outputCreditsFit namesAgree arbitersSound
-    reading reads packetsRead channelsUnused slotsEmpty lineUnused arbitersUnused shaped sound frontOf pushed movedUp popped bigEndian
-    overPorts rowZero noOffer legalOffer rowLegal advanced sendersPaid reported creditsReached outputsPaid creditsReturned landings landed
-    offers offersTaken asks freeVc grantOf bindings wideMoved narrowMoved allocated isReady inputPick request outputPick switched winner
-    departures leavingOf runFull partWrong rowWrong creditPastRoom outOfTurn noSenderCredit first_of judged takenIn sentOut routerAfter
-    replyOf step_of zeros mayHold goodPlace placeUnsound bytesFollow blockShort checkWrong blockWrong fieldWrong taken byField trace.judged
-    byPort creditLine flitLine cycleLines flitLines cyclesThen fileFrom
-wrong-versions =
+pub wrong_versions : WrongVersions
+unfolding with_input with_home_place config turns unbound fresh_router xor first_from every or_else in_range first_illegal illegal_field flit_of
+    kind_of destination_of payload_of starts_kind ends_kind next_in_turn pointer_after blank_from arbiter.known arbiter.usable arbiter.choice
+    arbiter.moved arbiter.after arbiter.fresh arbiter.sound queue_at places wire_of home_of flat total is_none all configuration_legal
+    cycles_fit credits_whole credits_add_up legal_flit wire_place_legal wire_legal home_legal queues_legal output_credits_fit names_agree arbiters_sound
+    reading reads packets_read channels_unused slots_empty line_unused arbiters_unused shaped sound front_of pushed moved_up popped big_endian
+    over_ports row_zero no_offer legal_offer row_legal advanced senders_paid reported credits_reached outputs_paid credits_returned landings landed
+    offers offers_taken asks lowest_free_vc grant_of bindings wide_moved narrow_moved allocated is_ready input_pick request output_pick switched winner
+    departures leaving_of run_full part_wrong row_wrong credit_past_room out_of_turn no_sender_credit first_of judged taken_in sent_out router_after
+    reply_of step_of zeros can_hold good_place place_unsound bytes_follow block_short check_wrong block_wrong field_wrong taken judged_by_field trace.judged
+    by_port credit_line flit_line cycle_lines flit_lines cycles_then file_from
+wrong_versions =
     record {
-      c-lines-counted-as-flits = record { right_is = refl; wrong-is = refl; apart = λ e. eqb-false 2 3 refl (ap flitsIn e) };
-      flits-of-the-first-line-only = record { right_is = refl; wrong-is = refl; apart = λ e. eqb-false 2 1 refl (ap flitsIn e) };
-      ends-before-the-input-does = record { right_is = refl; wrong-is = refl; apart = λ e. eqb-false 8 0 refl (ap number_in e) };
-      goes-on-after-a-refusal = record { right_is = refl; wrong-is = refl; apart = λ e. eqb-false 3 0 refl (ap number_in e) };
-      lines-of-a-cycle-twice = record { right_is = refl; wrong-is = refl; apart = eqb-false 1 2 refl };
-      works-in-cycle-0-and-only-counts-afterwards = record { right_is = refl; wrong-is = refl; apart = eqb-false 1 0 refl };
+      c_lines_counted_as_flits = record { right_is = refl; wrong_is = refl; apart = λ e. eqb-false 2 3 refl (ap flits_in e) };
+      flits_of_the_first_line_only = record { right_is = refl; wrong_is = refl; apart = λ e. eqb-false 2 1 refl (ap flits_in e) };
+      ends_before_the_input_does = record { right_is = refl; wrong_is = refl; apart = λ e. eqb-false 8 0 refl (ap number_in e) };
+      goes_on_after_a_refusal = record { right_is = refl; wrong_is = refl; apart = λ e. eqb-false 3 0 refl (ap number_in e) };
+      lines_of_a_cycle_twice = record { right_is = refl; wrong_is = refl; apart = eqb-false 1 2 refl };
+      works_in_cycle_0_and_only_counts_afterwards = record { right_is = refl; wrong_is = refl; apart = eqb-false 1 0 refl };
     }

@@ -5,43 +5,43 @@ use mathlib.Core.Bool.{cond}
 use mathlib.Core.List.{List}
 use Prim.Native.Nat.{ℕ}
 use lib.Dec.{eqb}
-use Rattle.base.specs.Numbers.{done, noRoom}
+use Rattle.base.specs.Numbers.{done, no_room}
 use Rattle.listing.specs.declared.Written.{Written}
 use Rattle.listing.specs.declared.Written.TheVariants.{Lines, NoRoom, OutOfRange}
-use Rattle.listing.specs.Writing.{WriteOutcome, writeOutcome}
+use Rattle.listing.specs.Writing.{WriteOutcome, write_outcome}
 use Rattle.listing.proofs.has_room as room
 use Rattle.listing.proofs.write_cycle as cycle
 use Rattle.listing.proofs.write_end as end
 use Rattle.listing.proofs.write_refusal as refusal
 use Rattle.outcomes.specs.Once.{Once}
-use Rattle.outcomes.proofs.Seen.{seen-once}
+use Rattle.outcomes.proofs.Seen.{seen_once}
 
 -- an answer beside the buffer
-abbrev saidBy : Written × List ℕ → WriteOutcome
-saidBy x = writeOutcome x.0 x.1
+abbrev said_by : Written × List ℕ → WriteOutcome
+said_by x = write_outcome x.0 x.1
 
 -- the answer that a number and its bytes stand for
 abbrev written_of : WriteOutcome → Written × List ℕ
-written_of o = (cond (eqb o.number done) (Lines o.bytes) (cond (eqb o.number noRoom) NoRoom OutOfRange), o.buffer)
+written_of o = (cond (eqb o.number done) (Lines o.bytes) (cond (eqb o.number no_room) NoRoom OutOfRange), o.buffer)
 
-written_back : (x : Written × List ℕ) → written_of (saidBy x) ≡ x
+written_back : (x : Written × List ℕ) → written_of (said_by x) ≡ x
 written_back (Lines n, b) = refl
 written_back (NoRoom, b) = refl
 written_back (OutOfRange, b) = refl
 
-write-once : {o : WriteOutcome} (r s : Written) (b d : List ℕ) → writeOutcome r b ≡ o → writeOutcome s d ≡ o → (r ≡ s) × (b ≡ d)
-write-once r s b d p q =
-    let e = seen-once saidBy written_of written_back (r, b) (s, d) p q in
+write_once : {o : WriteOutcome} (r s : Written) (b d : List ℕ) → write_outcome r b ≡ o → write_outcome s d ≡ o → (r ≡ s) × (b ≡ d)
+write_once r s b d p q =
+    let e = seen_once said_by written_of written_back (r, b) (s, d) p q in
     (ap (λ (x : Written × List ℕ). x.0) e, ap (λ (x : Written × List ℕ). x.1) e)
 
-pub write-cycle-once : Once cycle.ended cycle.Reads.Asked cycle.Reads.Learnt
-write-cycle-once κs a = (tt, λ r s u v p q. let e = write-once r s u.0 v.0 p q in (e.0, λ i. (e.1 i, v.1)))
+pub write_cycle_once : Once cycle.ended cycle.Reads.Asked cycle.Reads.Learnt
+write_cycle_once κs a = (tt, λ r s u v p q. let e = write_once r s u.0 v.0 p q in (e.0, λ i. (e.1 i, v.1)))
 
-pub write-end-once : Once end.ended end.Reads.Asked end.Reads.Learnt
-write-end-once κs a = (tt, λ r s u v p q. let e = write-once r s u.0 v.0 p q in (e.0, λ i. (e.1 i, v.1)))
+pub write_end_once : Once end.ended end.Reads.Asked end.Reads.Learnt
+write_end_once κs a = (tt, λ r s u v p q. let e = write_once r s u.0 v.0 p q in (e.0, λ i. (e.1 i, v.1)))
 
-pub write-refusal-once : Once refusal.ended refusal.Reads.Asked refusal.Reads.Learnt
-write-refusal-once κs a = (tt, λ r s u v p q. let e = write-once r s u.0 v.0 p q in (e.0, λ i. (e.1 i, v.1)))
+pub write_refusal_once : Once refusal.ended refusal.Reads.Asked refusal.Reads.Learnt
+write_refusal_once κs a = (tt, λ r s u v p q. let e = write_once r s u.0 v.0 p q in (e.0, λ i. (e.1 i, v.1)))
 
-pub has-room-once : Once room.ended room.Reads.Asked room.Reads.Learnt
-has-room-once κs a = (tt, λ r s u v p q. (p ∙ sym q, refl))
+pub has_room_once : Once room.ended room.Reads.Asked room.Reads.Learnt
+has_room_once κs a = (tt, λ r s u v p q. (p ∙ sym q, refl))

@@ -5,8 +5,8 @@ use Rattle.router.proofs.step as step
 use Rattle.router.proofs.run as run
 use Rattle.outcomes.specs.Once.{Once}
 
-pub step-once : Once step.ended step.Reads.Asked step.Reads.Learnt
-step-once κs a = (tt, λ r s u v p q. (p ∙ sym q, refl))
+pub step_once : Once step.ended step.Reads.Asked step.Reads.Learnt
+step_once κs a = (tt, λ r s u v p q. (p ∙ sym q, refl))
 
-pub run-once : Once run.ended run.Reads.Asked run.Reads.Learnt
-run-once κs a = (tt, λ r s u v p q. (λ i. ((p ∙ sym q) i).ran, λ i. (tt, (tt, (((p ∙ sym q) i).buffer, (tt, tt))))))
+pub run_once : Once run.ended run.Reads.Asked run.Reads.Learnt
+run_once κs a = (tt, λ r s u v p q. (λ i. ((p ∙ sym q) i).ran, λ i. (tt, (tt, (((p ∙ sym q) i).buffer, (tt, tt))))))

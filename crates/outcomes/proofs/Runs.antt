@@ -5,8 +5,8 @@ use Rattle.runs.proofs.Run.start as start
 use Rattle.runs.proofs.is_sound as sound
 use Rattle.outcomes.specs.Once.{Once}
 
-pub start-once : Once start.ended start.Reads.Asked start.Reads.Learnt
-start-once κs a = (tt, λ r s u v p q. (p ∙ sym q, refl))
+pub start_once : Once start.ended start.Reads.Asked start.Reads.Learnt
+start_once κs a = (tt, λ r s u v p q. (p ∙ sym q, refl))
 
-pub is-sound-once : Once sound.ended sound.Reads.Asked sound.Reads.Learnt
-is-sound-once κs a = (tt, λ r s u v p q. (p ∙ sym q, refl))
+pub is_sound_once : Once sound.ended sound.Reads.Asked sound.Reads.Learnt
+is_sound_once κs a = (tt, λ r s u v p q. (p ∙ sym q, refl))

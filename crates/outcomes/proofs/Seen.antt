@@ -4,6 +4,6 @@
 use mathlib.Core.Path.{◌≡◌, sym, ap, ◌∙◌}
 
 -- A view from which there is a way back loses nothing: two outcomes that are seen as the same are the same.
-pub seen-once : {X S : Type 0} (view : X → S) (back : S → X) → ((x : X) → back (view x) ≡ x)
+pub seen_once : {X S : Type 0} (view : X → S) (back : S → X) → ((x : X) → back (view x) ≡ x)
     → {s : S} (x y : X) → view x ≡ s → view y ≡ s → x ≡ y
-seen-once view back home x y p q = sym (home x) ∙ ap back (p ∙ sym q) ∙ home y
+seen_once view back home x y p q = sym (home x) ∙ ap back (p ∙ sym q) ∙ home y

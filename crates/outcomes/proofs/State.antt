@@ -8,17 +8,17 @@ use Rattle.state.proofs.InputVc.with_binding as binding
 use Rattle.state.proofs.OutputVc.with_holder as holder
 use Rattle.outcomes.specs.Once.{Once}
 
-pub fresh-once : Once fresh.ended fresh.Reads.Asked fresh.Reads.Learnt
-fresh-once κs a = (tt, λ r s u v p q. (p ∙ sym q, refl))
+pub fresh_once : Once fresh.ended fresh.Reads.Asked fresh.Reads.Learnt
+fresh_once κs a = (tt, λ r s u v p q. (p ∙ sym q, refl))
 
-pub is-sound-once : Once sound.ended sound.Reads.Asked sound.Reads.Learnt
-is-sound-once κs a = (tt, λ r s u v p q. (p ∙ sym q, refl))
+pub is_sound_once : Once sound.ended sound.Reads.Asked sound.Reads.Learnt
+is_sound_once κs a = (tt, λ r s u v p q. (p ∙ sym q, refl))
 
-pub is-blank-once : Once blank.ended blank.Reads.Asked blank.Reads.Learnt
-is-blank-once κs a = (tt, λ r s u v p q. (p ∙ sym q, refl))
+pub is_blank_once : Once blank.ended blank.Reads.Asked blank.Reads.Learnt
+is_blank_once κs a = (tt, λ r s u v p q. (p ∙ sym q, refl))
 
-pub with-binding-once : Once binding.ended binding.Reads.Asked binding.Reads.Learnt
-with-binding-once κs a = (tt, λ r s u v p q. (p ∙ sym q, refl))
+pub with_binding_once : Once binding.ended binding.Reads.Asked binding.Reads.Learnt
+with_binding_once κs a = (tt, λ r s u v p q. (p ∙ sym q, refl))
 
-pub with-holder-once : Once holder.ended holder.Reads.Asked holder.Reads.Learnt
-with-holder-once κs a = (tt, λ r s u v p q. (p ∙ sym q, refl))
+pub with_holder_once : Once holder.ended holder.Reads.Asked holder.Reads.Learnt
+with_holder_once κs a = (tt, λ r s u v p q. (p ∙ sym q, refl))

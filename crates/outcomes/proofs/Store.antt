@@ -6,11 +6,11 @@ use Rattle.store.proofs.push as push
 use Rattle.store.proofs.pop as pop
 use Rattle.outcomes.specs.Once.{Once}
 
-pub front-once : Once front.ended front.Reads.Asked front.Reads.Learnt
-front-once κs a = (tt, λ r s u v p q. (p ∙ sym q, refl))
+pub front_once : Once front.ended front.Reads.Asked front.Reads.Learnt
+front_once κs a = (tt, λ r s u v p q. (p ∙ sym q, refl))
 
-pub push-once : Once push.ended push.Reads.Asked push.Reads.Learnt
-push-once κs a = (tt, λ r s u v p q. (refl, λ i. (tt, (tt, (tt, ((p ∙ sym q) i, tt))))))
+pub push_once : Once push.ended push.Reads.Asked push.Reads.Learnt
+push_once κs a = (tt, λ r s u v p q. (refl, λ i. (tt, (tt, (tt, ((p ∙ sym q) i, tt))))))
 
-pub pop-once : Once pop.ended pop.Reads.Asked pop.Reads.Learnt
-pop-once κs a = (tt, λ r s u v p q. (refl, λ i. (tt, ((p ∙ sym q) i, tt))))
+pub pop_once : Once pop.ended pop.Reads.Asked pop.Reads.Learnt
+pop_once κs a = (tt, λ r s u v p q. (refl, λ i. (tt, ((p ∙ sym q) i, tt))))

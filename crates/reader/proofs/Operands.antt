@@ -75,11 +75,11 @@ module _ {M : Type 1} {𝓤 : Ura M} {𝓛 : Logic 𝓤} {K : Type 0} {Γ : List
     {C : Calls 𝓤 𝓛.H} {Λ : Loops 𝓤 𝓛.H} {f : Name} {xs : List Operand} {to : Place} {rest : Body} {P : Post 𝓤 𝓛.H} where
   open 𝓛 use {H}
 
-  pub calls-with : K → FmC 𝓤 H 𝓛.laws C → (i kept : Item 𝓤) (asked : ℕ → SProp 𝓤) (vs : ℕ → List Val) (Q : ℕ → Val → SProp 𝓤)
+  pub calls_with : K → FmC 𝓤 H 𝓛.laws C → (i kept : Item 𝓤) (asked : ℕ → SProp 𝓤) (vs : ℕ → List Val) (Q : ℕ → Val → SProp 𝓤)
       → ((m : ℕ) → m < 2 ^ 64 → ent 𝓤 (mean 𝓛 i) (sep 𝓤 (asked m) (mean 𝓛 kept))) → ((m : ℕ) → ent 𝓤 (asked m) (C f (vs m) (Q m)))
       → {n : ℕ} → Opds K 𝓛 (i ∷ Γ) E xs (vs n) → n < 2 ^ 64
       → ((u : Val) → Seq K 𝓛 (raw (Q n u) ∷ kept ∷ Γ) (lands C Λ E to u rest P)) → Seq K 𝓛 (i ∷ Γ) (runs C Λ E (seq (call f xs to) rest) P)
-  calls-with t fm i kept asked vs Q gives met {n} os fits k =
+  calls_with t fm i kept asked vs Q gives met {n} os fits k =
       calls_from t fm i (vs n) (λ u. sep 𝓤 (Q n u) (mean 𝓛 kept))
       (via 𝓤 (sep 𝓤 (asked n) (mean 𝓛 kept)) (gives n fits)
       (via 𝓤 (sep 𝓤 (C f (vs n) (Q n)) (mean 𝓛 kept)) (mono_l 𝓤 (mean 𝓛 kept) (met n))

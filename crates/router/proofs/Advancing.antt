@@ -19,8 +19,8 @@ pub record Moved (k : ℕ) (before line : List ℕ) : Type 0 where
   pub moved : (j : ℕ) → j < k → get_or line j 0 ≡ get_or before (8 + j) 0
   pub rest : (j : ℕ) → k ≤ j → get_or line j 0 ≡ get_or before j 0
 
-pub moved-start : (line : List ℕ) → length line ≡ 64 → Moved 0 line line
-moved-start line e = record { long = e; moved = λ j l. absurd (omega arith); rest = λ j l. refl }
+pub moved_start : (line : List ℕ) → length line ≡ 64 → Moved 0 line line
+moved_start line e = record { long = e; moved = λ j l. absurd (omega arith); rest = λ j l. refl }
 
 pub moved_more : (k : ℕ) (before line : List ℕ) → k < 56 → Moved k before line → Moved (k + 1) before (set line k (get_or line (k + 8) 0))
 moved_more k before line l m =
@@ -46,8 +46,8 @@ pub record Cleared (k : ℕ) (before line : List ℕ) : Type 0 where
   pub kept : (j : ℕ) → j < 56 → get_or line j 0 ≡ get_or before j 0
   pub empty : (j : ℕ) → 56 ≤ j → j < k → get_or line j 0 ≡ 0
 
-pub cleared-start : (k : ℕ) (line : List ℕ) → k ≤ 56 → length line ≡ 64 → Cleared k line line
-cleared-start k line h e = record { long = e; kept = λ j h. refl; empty = λ j g l. absurd (omega arith) }
+pub cleared_start : (k : ℕ) (line : List ℕ) → k ≤ 56 → length line ≡ 64 → Cleared k line line
+cleared_start k line h e = record { long = e; kept = λ j h. refl; empty = λ j g l. absurd (omega arith) }
 
 pub cleared_more : (k : ℕ) (before line : List ℕ) → 56 ≤ k → k < 64 → Cleared k before line → Cleared (k + 1) before (set line k 0)
 cleared_more k before line a l m =
@@ -61,10 +61,10 @@ cleared_more k before line a l m =
     go j h g true e = let long = m.long in rw (eqb-true j k e) (get_or-set_same line k 0 0 (omega arith))
     go j h g false e = get_or-set_other line k j 0 0 (eqb-false j k e) ∙ m.empty j h (lt_of_le-ne (omega arith) (eqb-false j k e))
 
-pub line-advanced : (i k : ℕ) (before between line : List ℕ) → length before ≡ 64 → 56 ≤ i → Moved i before between → 64 ≤ k
+pub line_advanced : (i k : ℕ) (before between line : List ℕ) → length before ≡ 64 → 56 ≤ i → Moved i before between → 64 ≤ k
     → Cleared k between line → line ≡ advanced before
 unfolding advanced
-line-advanced i k before between line e a n b m =
+line_advanced i k before between line e a n b m =
     ext_get_or 0 line (drop 8 before ++ replicate 8 0) (m.long ∙ sym long) (λ j h. go j h (ltb j 56) refl)
   where
     dropped : length (drop 8 before) ≡ 56

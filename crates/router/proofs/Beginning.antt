@@ -5,29 +5,29 @@ use mathlib.Core.List.{List, [], ◌∷◌}
 use mathlib.Core.Option.{Option, none}
 use Prim.Native.Nat.{ℕ, ◌+◌}
 use Rattle.base.specs.declared.config.Config.{Config}
-use Rattle.base.specs.Sizes.{illegalField}
+use Rattle.base.specs.Sizes.{illegal_field}
 use Rattle.state.specs.declared.building.Built.{Built}
-use Rattle.state.specs.Fresh.{freshRouter, builtOf}
+use Rattle.state.specs.Fresh.{fresh_router, built_of}
 use Rattle.trace.specs.declared.place.Place.{Place}
 use Rattle.listing.specs.declared.Written.{Written}
 use Rattle.listing.specs.Lines.{refusal}
-use Rattle.listing.specs.Writing.{written, writeOutcome}
-use Rattle.router.specs.Running.{Writing, withPlace, withRouter, onRun, finished, endedBy}
-use Rattle.router.proofs.Writes.{wrote-is}
+use Rattle.listing.specs.Writing.{written, write_outcome}
+use Rattle.router.specs.Running.{Writing, with_place, with_router, on_run, finished, ended_by}
+use Rattle.router.proofs.Writes.{wrote_is}
 
 module _ (w : Writing) where
   -- a legal configuration gives the fresh router
-  pub built-router : (q : Place) (b : Built) (c : Config) → b ≡ builtOf (illegalField c) c → illegalField c ≡ none
-      → onRun (withRouter b.router) (onRun (withPlace q) w) ≡ onRun (withRouter (freshRouter c)) (onRun (withPlace q) w)
-  unfolding builtOf
-  built-router q b c e l =
-      ap (λ (x : Built). onRun (withRouter x.router) (onRun (withPlace q) w)) (e ∙ ap (λ (o : Option ℕ). builtOf o c) l)
+  pub built_router : (q : Place) (b : Built) (c : Config) → b ≡ built_of (illegal_field c) c → illegal_field c ≡ none
+      → on_run (with_router b.router) (on_run (with_place q) w) ≡ on_run (with_router (fresh_router c)) (on_run (with_place q) w)
+  unfolding built_of
+  built_router q b c e l =
+      ap (λ (x : Built). on_run (with_router x.router) (on_run (with_place q) w)) (e ∙ ap (λ (o : Option ℕ). built_of o c) l)
 
   -- before the configuration block no cycle was accepted
-  pub first-refused : (n k : ℕ) → w.run.router.cycle ≡ 0 → (r : Written) (buffer : List ℕ) (size : ℕ)
-      → writeOutcome r buffer ≡ written w.buffer w.at (refusal n 0 k ∷ []) → ((b : List ℕ) → size ≡ (writeOutcome r b).bytes)
+  pub first_refused : (n k : ℕ) → w.run.router.cycle ≡ 0 → (r : Written) (buffer : List ℕ) (size : ℕ)
+      → write_outcome r buffer ≡ written w.buffer w.at (refusal n 0 k ∷ []) → ((b : List ℕ) → size ≡ (write_outcome r b).bytes)
       → ◌≡◌ {A = Writing} (record { run = finished w.run; at = w.at + size; buffer = buffer })
-      (endedBy (refusal n w.run.router.cycle k) w)
-  unfolding endedBy
-  first-refused n k z r buffer size e f =
-      wrote-is (onRun finished w) (refusal n 0 k ∷ []) r buffer size e f ∙ ap (λ (m : ℕ). endedBy (refusal n m k) w) (sym z)
+      (ended_by (refusal n w.run.router.cycle k) w)
+  unfolding ended_by
+  first_refused n k z r buffer size e f =
+      wrote_is (on_run finished w) (refusal n 0 k ∷ []) r buffer size e f ∙ ap (λ (m : ℕ). ended_by (refusal n m k) w) (sym z)

@@ -17,47 +17,47 @@ use Rattle.base.specs.Bits.{bit}
 use Rattle.arbiter.specs.declared.Narrow.{Narrow}
 use Rattle.arbiter.specs.declared.Pick.{Pick}
 use Rattle.arbiter.specs.declared.Pick.TheVariants.{Nobody, Winner}
-use Rattle.arbiter.specs.Requests.{winnerOf}
-use Rattle.arbiter.specs.RoundRobin.{nextInTurn}
+use Rattle.arbiter.specs.Requests.{winner_of}
+use Rattle.arbiter.specs.RoundRobin.{next_in_turn}
 use Rattle.arbiter.specs.Matrix.{champion}
-use Rattle.arbiter.specs.Arbiter.{Arbiter, ofNarrow, usable, choice}
-use Rattle.arbiter.proofs.ByKind.{known_is, usable-is}
-use Rattle.arbiter.proofs.Winners.{winner-asks}
-use Rattle.state.specs.Fresh.{pastNarrow}
+use Rattle.arbiter.specs.Arbiter.{Arbiter, of_narrow, usable, choice}
+use Rattle.arbiter.proofs.ByKind.{known_is, usable_is}
+use Rattle.arbiter.proofs.Winners.{winner_asks}
+use Rattle.state.specs.Fresh.{past_narrow}
 use Rattle.rules.specs.Ports.{named}
-use Rattle.router.specs.Picks.{pickIn}
+use Rattle.router.specs.Picks.{pick_in}
 
 -- what a choice answers, as a number
-pub nobody-named : (p : Pick) (o : Option ℕ) → p ≡ Nobody → winnerOf p ≡ o → named 0 ≡ o
-nobody-named p o e f = sym (ap winnerOf e) ∙ f
+pub nobody_named : (p : Pick) (o : Option ℕ) → p ≡ Nobody → winner_of p ≡ o → named 0 ≡ o
+nobody_named p o e f = sym (ap winner_of e) ∙ f
 
-pub winner-named : (p : Pick) (w : ℕ) (o : Option ℕ) → p ≡ Winner w → winnerOf p ≡ o → named (w + 1) ≡ o
-winner-named p w o e f = let n : w + 1 ≡ suc w = omega arith in rw n (sym (ap winnerOf e) ∙ f)
+pub winner_named : (p : Pick) (w : ℕ) (o : Option ℕ) → p ≡ Winner w → winner_of p ≡ o → named (w + 1) ≡ o
+winner_named p w o e f = let n : w + 1 ≡ suc w = omega arith in rw n (sym (ap winner_of e) ∙ f)
 
 module _ (places code n : ℕ) (ask : ℕ → Bool) (a : Arbiter) where
   -- a choice is made only within the room
-  usable-chosen : (w : ℕ) → choice places code n ask a ≡ some w → usable places code n a.pointer ≡ true
+  usable_chosen : (w : ℕ) → choice places code n ask a ≡ some w → usable places code n a.pointer ≡ true
   unfolding choice
-  usable-chosen w e = go (usable places code n a.pointer) refl e
+  usable_chosen w e = go (usable places code n a.pointer) refl e
     where
       go : (b : Bool) → usable places code n a.pointer ≡ b
-          → cond b (cond (eqb code 1) (nextInTurn n ask a.pointer) (champion n ask a.rows)) none ≡ some w
+          → cond b (cond (eqb code 1) (next_in_turn n ask a.pointer) (champion n ask a.rows)) none ≡ some w
           → usable places code n a.pointer ≡ true
       go true f g = f
       go false f g = absurd (none-ne-some w g)
 
-  pub winner-low : (p : Pick) (w : ℕ) → p ≡ Winner w → winnerOf p ≡ choice places code n ask a → w < places
-  winner-low p w e f =
-      let g : choice places code n ask a ≡ some w = sym f ∙ ap winnerOf e in
-      let l = (winner-asks places code n ask a w g).0 in
-      let r = (known_is places code n (usable-is places code n a.pointer (usable-chosen w g)).0).room in
+  pub winner_low : (p : Pick) (w : ℕ) → p ≡ Winner w → winner_of p ≡ choice places code n ask a → w < places
+  winner_low p w e f =
+      let g : choice places code n ask a ≡ some w = sym f ∙ ap winner_of e in
+      let l = (winner_asks places code n ask a w g).0 in
+      let r = (known_is places code n (usable_is places code n a.pointer (usable_chosen w g)).0).room in
       omega arith
 
 -- the picks so far, one more
-pub picks-again : (f : ℕ → Option ℕ) (picks : List ℕ) (i p : ℕ) → i < length picks → ((j : ℕ) → j < i → pickIn picks j ≡ f j)
-    → named p ≡ f i → (j : ℕ) → j < i + 1 → pickIn (set picks i p) j ≡ f j
-picks-again f picks i p h below e =
-    below_more (λ (j : ℕ). pickIn (set picks i p) j ≡ f j) i
+pub picks_again : (f : ℕ → Option ℕ) (picks : List ℕ) (i p : ℕ) → i < length picks → ((j : ℕ) → j < i → pick_in picks j ≡ f j)
+    → named p ≡ f i → (j : ℕ) → j < i + 1 → pick_in (set picks i p) j ≡ f j
+picks_again f picks i p h below e =
+    below_more (λ (j : ℕ). pick_in (set picks i p) j ≡ f j) i
     (λ j m. ap named (get_or-set_other picks i j p 0 (omega arith)) ∙ below j m) (ap named (get_or-set_same picks i p 0 h) ∙ e)
 
 -- what is left of a word after one more shift
@@ -70,6 +70,6 @@ pub unshifted : (word v : ℕ) → word ≡ word / 2 ^ (0 * v)
 unshifted word v = sym (ap (λ (k : ℕ). word / 2 ^ k) (zero-mul v) ∙ div-one word)
 
 -- what input i picks among those of the set that are its own
-abbrev pub inputChoice : Config → ℕ → List Narrow → ℕ → Option ℕ
-inputChoice c set arbiters i =
-    choice 8 c.arbiter c.vcs (bit (set / 2 ^ (i * c.vcs))) (ofNarrow (get_or arbiters i pastNarrow))
+abbrev pub input_choice : Config → ℕ → List Narrow → ℕ → Option ℕ
+input_choice c set arbiters i =
+    choice 8 c.arbiter c.vcs (bit (set / 2 ^ (i * c.vcs))) (of_narrow (get_or arbiters i past_narrow))

@@ -5,9 +5,9 @@ use native.Mathlib.Omega.{arith}
 use lib.Arith.{digits_lt}
 
 -- a port and a VC count that each fit a byte
-pub product-fits : (i n : ℕ) → i < 256 → n < 256 → i * n < 65536
-product-fits i zero h g = omega arith
-product-fits i (suc n) h g = let l : i * suc n + 0 < 256 * suc n = digits_lt h (omega arith) in omega arith
+pub product_fits : (i n : ℕ) → i < 256 → n < 256 → i * n < 65536
+product_fits i zero h g = omega arith
+product_fits i (suc n) h g = let l : i * suc n + 0 < 256 * suc n = digits_lt h (omega arith) in omega arith
 
 -- a loop's next turn: it is one of them, and leaves fewer
 pub more : (k n : ℕ) → n < k → n + 1 ≤ k

@@ -8,131 +8,131 @@ use Prim.Native.Nat.{ℕ, zero, suc, ◌+◌, ◌-◌, ◌≤◌, ◌<◌}
 use native.Mathlib.Nat.{le_refl, le_trans}
 use native.Mathlib.Omega.{arith}
 use lib.ListN.{length, take, drop, length-take, length-drop}
-use Rattle.trace.specs.Judged.{BlockOutcome, Read, aConfiguration, someCycles, theEnd, no_more, judged}
+use Rattle.trace.specs.Judged.{BlockOutcome, Read, a_configuration, some_cycles, the_end, no_more, judged}
 use Rattle.trace.specs.Blocks.{part_at}
 use Rattle.listing.specs.Lines.{Line}
 use Rattle.rules.specs.declared.Verdict.{Verdict}
 use Rattle.rules.specs.declared.Verdict.TheVariants.{Accepted, Refused}
 use Rattle.rules.specs.Step.{step_of}
-use Rattle.router.specs.Running.{Writing, wrote, endedBy, byVerdict, cycled, cyclesFrom, byOutcome, blockTaken, block_at}
-use Rattle.router.specs.Running.{lacksBlockRoom, Call, takes, stops, goesOn}
+use Rattle.router.specs.Running.{Writing, wrote, ended_by, by_verdict, cycled, cycles_from, by_outcome, block_taken, block_at}
+use Rattle.router.specs.Running.{lacks_block_room, Call, takes, stops, going_on}
 
 module _ (part : List ℕ) (n : ℕ) (c : Call) where
-  pub goes_none : n ≡ 0 → goesOn part n c ≡ c
-  unfolding goesOn
+  pub goes_none : n ≡ 0 → going_on part n c ≡ c
+  unfolding going_on
   goes_none e = rw e
 
-  pub goes_over : c.writing.run.over ≡ true → goesOn part n c ≡ c
-  unfolding goesOn
+  pub goes_over : c.writing.run.over ≡ true → going_on part n c ≡ c
+  unfolding going_on
   goes_over e = go n
     where
-      go : (m : ℕ) → goesOn part m c ≡ c
+      go : (m : ℕ) → going_on part m c ≡ c
       go zero = refl
       go (suc m) = rw e
 
-pub goes-full : (part : List ℕ) (n : ℕ) (c : Call) → 0 < n → c.writing.run.over ≡ false
-    → lacksBlockRoom c.writing.buffer c.writing.at ≡ true → goesOn part n c ≡ stops c
-unfolding goesOn
-goes-full part (suc n) c l e f = rw (e, f)
+pub goes_full : (part : List ℕ) (n : ℕ) (c : Call) → 0 < n → c.writing.run.over ≡ false
+    → lacks_block_room c.writing.buffer c.writing.at ≡ true → going_on part n c ≡ stops c
+unfolding going_on
+goes_full part (suc n) c l e f = rw (e, f)
 
-pub goes-more : (part : List ℕ) (n : ℕ) (c : Call) → 0 < n → c.writing.run.over ≡ false
-    → lacksBlockRoom c.writing.buffer c.writing.at ≡ false
-    → goesOn part (n - 1) (takes part c) ≡ goesOn part n c
-unfolding goesOn
-goes-more part (suc n) c l e f = let g : suc n - 1 ≡ n = omega arith in rw (e, f, g)
+pub goes_more : (part : List ℕ) (n : ℕ) (c : Call) → 0 < n → c.writing.run.over ≡ false
+    → lacks_block_room c.writing.buffer c.writing.at ≡ false
+    → going_on part (n - 1) (takes part c) ≡ going_on part n c
+unfolding going_on
+goes_more part (suc n) c l e f = let g : suc n - 1 ≡ n = omega arith in rw (e, f, g)
 
 -- as many bytes as a piece has are that piece
-same-take : (n : ℕ) (l : List ℕ) → take (length (take n l)) l ≡ take n l
-same-take zero l = refl
-same-take (suc n) [] = refl
-same-take (suc n) (x ∷ l) = ap (λ (m : List ℕ). x ∷ m) (same-take n l)
+same_take : (n : ℕ) (l : List ℕ) → take (length (take n l)) l ≡ take n l
+same_take zero l = refl
+same_take (suc n) [] = refl
+same_take (suc n) (x ∷ l) = ap (λ (m : List ℕ). x ∷ m) (same_take n l)
 
 pub piece_is : (part : List ℕ) (from end : ℕ) → end ≡ from + length (block_at part from) → take (end - from) (drop from part)
     ≡ block_at part from
 piece_is part from end e =
     let f : end - from ≡ length (block_at part from) = omega (arith, e) in
-    ap (λ (n : ℕ). take n (drop from part)) f ∙ same-take 512 (drop from part)
+    ap (λ (n : ℕ). take n (drop from part)) f ∙ same_take 512 (drop from part)
 
 -- the place only moves on
 wrote_on : (lines : List Line) (w : Writing) → w.at ≤ (wrote lines w).at
 unfolding wrote
 wrote_on lines w = omega arith
 
-ended-on : (line : Line) (w : Writing) → w.at ≤ (endedBy line w).at
-unfolding endedBy
-ended-on line w = wrote_on (line ∷ []) _
+ended_on : (line : Line) (w : Writing) → w.at ≤ (ended_by line w).at
+unfolding ended_by
+ended_on line w = wrote_on (line ∷ []) _
 
-cycled-on : (part : List ℕ) (w : Writing) → w.at ≤ (cycled part w).at
+cycled_on : (part : List ℕ) (w : Writing) → w.at ≤ (cycled part w).at
 unfolding cycled
-cycled-on part w = go (step_of w.run.router part).verdict
+cycled_on part w = go (step_of w.run.router part).verdict
   where
-    go : (v : Verdict) → w.at ≤ (byVerdict v (step_of w.run.router part) w).at
+    go : (v : Verdict) → w.at ≤ (by_verdict v (step_of w.run.router part) w).at
     go Accepted = wrote_on _ _
-    go (Refused r) = ended-on _ w
+    go (Refused r) = ended_on _ w
 
-cycles-on : (block : List ℕ) (n k : ℕ) (w : Writing) → w.at ≤ (cyclesFrom block k n w).at
-unfolding cyclesFrom
-cycles-on block zero k w = le_refl _
-cycles-on block (suc n) k w =
-    either w.run.over (le_trans (cycled-on (part_at block k) w) (cycles-on block n (k + 1) (cycled (part_at block k) w)))
+cycles_on : (block : List ℕ) (n k : ℕ) (w : Writing) → w.at ≤ (cycles_from block k n w).at
+unfolding cycles_from
+cycles_on block zero k w = le_refl _
+cycles_on block (suc n) k w =
+    either w.run.over (le_trans (cycled_on (part_at block k) w) (cycles_on block n (k + 1) (cycled (part_at block k) w)))
   where
-    either : (o : Bool) → w.at ≤ (cyclesFrom block (k + 1) n (cycled (part_at block k) w)).at
-        → w.at ≤ (cond o w (cyclesFrom block (k + 1) n (cycled (part_at block k) w))).at
+    either : (o : Bool) → w.at ≤ (cycles_from block (k + 1) n (cycled (part_at block k) w)).at
+        → w.at ≤ (cond o w (cycles_from block (k + 1) n (cycled (part_at block k) w))).at
     either true h = le_refl _
     either false h = h
 
-pub block_on : (block : List ℕ) (w : Writing) → w.at ≤ (blockTaken block w).at
-unfolding blockTaken
+pub block_on : (block : List ℕ) (w : Writing) → w.at ≤ (block_taken block w).at
+unfolding block_taken
 block_on block w = go (judged w.run.place w.run.router.cycle block)
   where
-    go : (o : BlockOutcome) → w.at ≤ (byOutcome o.read o block w).at
+    go : (o : BlockOutcome) → w.at ≤ (by_outcome o.read o block w).at
     go o = which o.read
       where
-        which : (r : Option Read) → w.at ≤ (byOutcome r o block w).at
-        which none = ended-on _ w
-        which (some (aConfiguration c)) = le_refl _
-        which (some (someCycles n)) = cycles-on block n 0 _
-        which (some theEnd) = le_refl _
-        which (some no_more) = ended-on _ _
+        which : (r : Option Read) → w.at ≤ (by_outcome r o block w).at
+        which none = ended_on _ w
+        which (some (a_configuration c)) = le_refl _
+        which (some (some_cycles n)) = cycles_on block n 0 _
+        which (some the_end) = le_refl _
+        which (some no_more) = ended_on _ _
 
-pub goes_on : (part : List ℕ) (n : ℕ) (c : Call) → c.writing.at ≤ (goesOn part n c).writing.at
-unfolding goesOn
+pub goes_on : (part : List ℕ) (n : ℕ) (c : Call) → c.writing.at ≤ (going_on part n c).writing.at
+unfolding going_on
 goes_on part zero c = le_refl _
 goes_on part (suc n) c =
-    either c.writing.run.over (lacksBlockRoom c.writing.buffer c.writing.at)
+    either c.writing.run.over (lacks_block_room c.writing.buffer c.writing.at)
     (le_trans (block_on (block_at part c.used) c.writing) (goes_on part n (takes part c)))
   where
-    either : (o f : Bool) → c.writing.at ≤ (goesOn part n (takes part c)).writing.at
-        → c.writing.at ≤ (cond o c (cond f (stops c) (goesOn part n (takes part c)))).writing.at
+    either : (o f : Bool) → c.writing.at ≤ (going_on part n (takes part c)).writing.at
+        → c.writing.at ≤ (cond o c (cond f (stops c) (going_on part n (takes part c)))).writing.at
     either true f h = le_refl _
     either false true h = le_refl _
     either false false h = h
 
 -- what is used only grows
-pub used-on : (part : List ℕ) (n : ℕ) (c : Call) → c.used ≤ (goesOn part n c).used
-unfolding goesOn
-used-on part zero c = le_refl c.used
-used-on part (suc n) c =
-    either c.writing.run.over (lacksBlockRoom c.writing.buffer c.writing.at) (used-on part n (takes part c))
+pub used_on : (part : List ℕ) (n : ℕ) (c : Call) → c.used ≤ (going_on part n c).used
+unfolding going_on
+used_on part zero c = le_refl c.used
+used_on part (suc n) c =
+    either c.writing.run.over (lacks_block_room c.writing.buffer c.writing.at) (used_on part n (takes part c))
   where
-    either : (o f : Bool) → (takes part c).used ≤ (goesOn part n (takes part c)).used
-        → c.used ≤ (cond o c (cond f (stops c) (goesOn part n (takes part c)))).used
+    either : (o f : Bool) → (takes part c).used ≤ (going_on part n (takes part c)).used
+        → c.used ≤ (cond o c (cond f (stops c) (going_on part n (takes part c)))).used
     either true f h = le_refl c.used
     either false true h = le_refl c.used
     either false false h = omega (arith, h)
 
 -- no more is used than there is
-pub used-inside : (part : List ℕ) (n : ℕ) (c : Call) → c.used ≤ length part → (goesOn part n c).used ≤ length part
-unfolding goesOn
-used-inside part zero c h = h
-used-inside part (suc n) c h = either c.writing.run.over (lacksBlockRoom c.writing.buffer c.writing.at)
-    (used-inside part n (takes part c) more)
+pub used_inside : (part : List ℕ) (n : ℕ) (c : Call) → c.used ≤ length part → (going_on part n c).used ≤ length part
+unfolding going_on
+used_inside part zero c h = h
+used_inside part (suc n) c h = either c.writing.run.over (lacks_block_room c.writing.buffer c.writing.at)
+    (used_inside part n (takes part c) more)
   where
     more : c.used + length (block_at part c.used) ≤ length part
     more = omega (arith, h, length-take 512 (drop c.used part), length-drop c.used part)
 
-    either : (o f : Bool) → (goesOn part n (takes part c)).used ≤ length part
-        → (cond o c (cond f (stops c) (goesOn part n (takes part c)))).used ≤ length part
+    either : (o f : Bool) → (going_on part n (takes part c)).used ≤ length part
+        → (cond o c (cond f (stops c) (going_on part n (takes part c)))).used ≤ length part
     either true f g = h
     either false true g = h
     either false false g = g

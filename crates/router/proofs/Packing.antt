@@ -13,22 +13,22 @@ use Rattle.rules.specs.Step.{step_of}
 use Rattle.runs.specs.declared.Run.{Run}
 use Rattle.router.specs.declared.parts.Parts.{Parts}
 use Rattle.router.specs.declared.running.RunParts.{RunParts}
-use Rattle.router.specs.Running.{Writing, Call, goesOn, CallOutcome, answered}
-use Rattle.router.specs.Inside.{Ongoing, writingOf}
-use Rattle.router.specs.Whole.{parts_of, routerOf}
+use Rattle.router.specs.Running.{Writing, Call, going_on, CallOutcome, answered}
+use Rattle.router.specs.Inside.{Ongoing, writing_of}
+use Rattle.router.specs.Whole.{parts_of, router_of}
 
 module _ (s : Router) (before : Parts) (apart : before ≡ parts_of s) where
   abbrev together : Parts → Router
-  together p = routerOf s.config s.cycle p s.store s.wire s.home
+  together p = router_of s.config s.cycle p s.store s.wire s.home
 
-  pub parts-sound : Sound s → Sound (together before)
-  parts-sound sound = subst (λ (p : Parts). Sound (together p)) (sym apart) sound
+  pub parts_sound : Sound s → Sound (together before)
+  parts_sound sound = subst (λ (p : Parts). Sound (together p)) (sym apart) sound
 
   -- a cycle
-  pub parts-step : (part : List ℕ) (v : Verdict) (t r : Router) (reply : Reply) → t ≡ r
+  pub parts_step : (part : List ℕ) (v : Verdict) (t r : Router) (reply : Reply) → t ≡ r
       → ◌≡◌ {A = Stepped} (record { verdict = v; router = r; reply = reply }) (step_of (together before) part)
       → ◌≡◌ {A = Stepped} (record { verdict = v; router = t; reply = reply }) (step_of s part)
-  parts-step part v t r reply packed e =
+  parts_step part v t r reply packed e =
       ap (λ (u : Router). record { verdict = v; router = u; reply = reply }) packed
       ∙ e ∙ ap (λ (p : Parts). step_of (together p) part) apart
 
@@ -38,18 +38,18 @@ module _ (run : Run) (before : Parts) (apart : before ≡ parts_of run.router) (
 
   abbrev inside : Parts → Writing
   inside p =
-      writingOf run.router.config
+      writing_of run.router.config
       (record { parts = p; place = run.place; cycle = run.router.cycle; flits = run.flits; over = run.over; at = at })
       run.router.store run.router.wire run.router.home buffer
 
-  pub parts-ongoing : Ongoing handed → Ongoing (inside before)
-  parts-ongoing o = subst (λ (p : Parts). Ongoing (inside p)) (sym apart) o
+  pub parts_ongoing : Ongoing handed → Ongoing (inside before)
+  parts_ongoing o = subst (λ (p : Parts). Ongoing (inside p)) (sym apart) o
 
   -- the blocks of a call
-  pub parts-answer : (start used asks count first : ℕ) (part later store wire home : List ℕ) (after : RunParts) (t : Router)
-      → t ≡ routerOf run.router.config after.cycle after.parts store wire home
-      → ◌≡◌ {A = Call} (record { used = used; asks = asks; writing = writingOf run.router.config after store wire home later })
-      (goesOn part count (record { used = first; asks = 0; writing = inside before }))
+  pub parts_answer : (start used asks count first : ℕ) (part later store wire home : List ℕ) (after : RunParts) (t : Router)
+      → t ≡ router_of run.router.config after.cycle after.parts store wire home
+      → ◌≡◌ {A = Call} (record { used = used; asks = asks; writing = writing_of run.router.config after store wire home later })
+      (going_on part count (record { used = first; asks = 0; writing = inside before }))
       → ◌≡◌ {A = CallOutcome}
       (record {
         ran =
@@ -62,8 +62,8 @@ module _ (run : Run) (before : Parts) (apart : before ≡ parts_of run.router) (
             };
         buffer = later;
       })
-      (answered start (goesOn part count (record { used = first; asks = 0; writing = handed })))
-  parts-answer start used asks count first part later store wire home after t packed e =
+      (answered start (going_on part count (record { used = first; asks = 0; writing = handed })))
+  parts_answer start used asks count first part later store wire home after t packed e =
       ap (λ (u : Router).
       record {
         ran =
@@ -77,4 +77,4 @@ module _ (run : Run) (before : Parts) (apart : before ≡ parts_of run.router) (
         buffer = later;
       }) packed
       ∙ ap (answered start)
-      (e ∙ ap (λ (p : Parts). goesOn part count (record { used = first; asks = 0; writing = inside p })) apart)
+      (e ∙ ap (λ (p : Parts). going_on part count (record { used = first; asks = 0; writing = inside p })) apart)

@@ -6,59 +6,59 @@ use Prim.Native.Nat.{ℕ, zero, suc, ◌+◌, ◌*◌, ◌/◌, ◌^◌}
 use lib.ListN.{get_or, replicate}
 use Rattle.base.specs.declared.config.Config.{Config}
 use Rattle.base.specs.Bits.{bit}
-use Rattle.base.proofs.Bits.{bit-zero, bit-shr}
-use Rattle.base.proofs.Lists.{getD-zeros}
+use Rattle.base.proofs.Bits.{bit_zero, bit_shr}
+use Rattle.base.proofs.Lists.{get_d_zeros}
 use Rattle.arbiter.specs.declared.Narrow.{Narrow}
-use Rattle.arbiter.specs.Arbiter.{ofNarrow, choice}
-use Rattle.arbiter.proofs.Winners.{no-request-no-winner}
+use Rattle.arbiter.specs.Arbiter.{of_narrow, choice}
+use Rattle.arbiter.proofs.Winners.{no_request_no_winner}
 use Rattle.state.specs.declared.InputVc.{InputVc}
-use Rattle.state.specs.Fresh.{pastNarrow}
-use Rattle.rules.specs.Ports.{overPorts, named}
-use Rattle.rules.specs.Allocation.{picked, vcOf, narrowMoved}
-use Rattle.rules.specs.Departures.{Leaving, departures, leavesBy}
-use Rattle.router.specs.Picks.{pickIn, asksIn}
-use Rattle.router.proofs.Choosing.{inputChoice}
-use Rattle.router.proofs.Columns.{asks-not, blank-rows}
-use Rattle.router.proofs.Moving.{turn, turn-stays}
+use Rattle.state.specs.Fresh.{past_narrow}
+use Rattle.rules.specs.Ports.{over_ports, named}
+use Rattle.rules.specs.Allocation.{picked, vc_of, narrow_moved}
+use Rattle.rules.specs.Departures.{Leaving, departures, leaves_by}
+use Rattle.router.specs.Picks.{pick_in, asks_in}
+use Rattle.router.proofs.Choosing.{input_choice}
+use Rattle.router.proofs.Columns.{asks_not, blank_rows}
+use Rattle.router.proofs.Moving.{turn, turn_stays}
 
 -- no picks
-abbrev pub noPicks : List ℕ
-noPicks = replicate 8 0
+abbrev pub no_picks : List ℕ
+no_picks = replicate 8 0
 
 -- no requests
-abbrev pub noRequests : List (List ℕ)
-noRequests = replicate 8 (replicate 8 0)
+abbrev pub no_requests : List (List ℕ)
+no_requests = replicate 8 (replicate 8 0)
 
 -- turns that change nothing
-over-rests : {A : Type 0} → (n : ℕ) (f : A → ℕ → A) (s : A) → ((t : A) (i : ℕ) → t ≡ f t i) → s ≡ overPorts n f s
-unfolding overPorts
-over-rests zero f s e = refl
-over-rests (suc n) f s e = over-rests n f s e ∙ e (overPorts n f s) n
+over_rests : {A : Type 0} → (n : ℕ) (f : A → ℕ → A) (s : A) → ((t : A) (i : ℕ) → t ≡ f t i) → s ≡ over_ports n f s
+unfolding over_ports
+over_rests zero f s e = refl
+over_rests (suc n) f s e = over_rests n f s e ∙ e (over_ports n f s) n
 
 module _ (c : Config) where
-  pub picks-rest : (set : ℕ) (arbiters : List Narrow) → set ≡ 0 → (i : ℕ) → pickIn noPicks i ≡ inputChoice c set arbiters i
-  picks-rest set arbiters e i =
-      ap named (getD-zeros 8 i)
-      ∙ sym (no-request-no-winner 8 c.arbiter c.vcs (bit (set / 2 ^ (i * c.vcs))) (ofNarrow (get_or arbiters i pastNarrow))
-      (λ j h. bit-shr set (i * c.vcs) j ∙ ap (λ (s : ℕ). bit s (i * c.vcs + j)) e ∙ bit-zero (i * c.vcs + j)))
+  pub picks_rest : (set : ℕ) (arbiters : List Narrow) → set ≡ 0 → (i : ℕ) → pick_in no_picks i ≡ input_choice c set arbiters i
+  picks_rest set arbiters e i =
+      ap named (get_d_zeros 8 i)
+      ∙ sym (no_request_no_winner 8 c.arbiter c.vcs (bit (set / 2 ^ (i * c.vcs))) (of_narrow (get_or arbiters i past_narrow))
+      (λ j h. bit_shr set (i * c.vcs) j ∙ ap (λ (s : ℕ). bit s (i * c.vcs + j)) e ∙ bit_zero (i * c.vcs + j)))
 
-  pub requests-rest : (inputs : List InputVc) (i o : ℕ) → asksIn noRequests i o ≡ picked c inputs i o (pickIn noPicks i)
-  requests-rest inputs i o =
-      asks-not noRequests o i (blank-rows 8 i o) ∙ sym (ap (λ (p : ℕ). picked c inputs i o (named p)) (getD-zeros 8 i))
+  pub requests_rest : (inputs : List InputVc) (i o : ℕ) → asks_in no_requests i o ≡ picked c inputs i o (pick_in no_picks i)
+  requests_rest inputs i o =
+      asks_not no_requests o i (blank_rows 8 i o) ∙ sym (ap (λ (p : ℕ). picked c inputs i o (named p)) (get_d_zeros 8 i))
 
-  pub rows-rest : (arbiters : List Narrow) (o : ℕ)
-      → pickIn noPicks o ≡ choice 8 c.arbiter c.ports (λ (i : ℕ). asksIn noRequests i o) (ofNarrow (get_or arbiters o pastNarrow))
-  rows-rest arbiters o =
-      ap named (getD-zeros 8 o)
-      ∙ sym (no-request-no-winner 8 c.arbiter c.ports (λ (i : ℕ). asksIn noRequests i o) (ofNarrow (get_or arbiters o pastNarrow))
-      (λ i h. asks-not noRequests o i (blank-rows 8 i o)))
+  pub rows_rest : (arbiters : List Narrow) (o : ℕ)
+      → pick_in no_picks o ≡ choice 8 c.arbiter c.ports (λ (i : ℕ). asks_in no_requests i o) (of_narrow (get_or arbiters o past_narrow))
+  rows_rest arbiters o =
+      ap named (get_d_zeros 8 o)
+      ∙ sym (no_request_no_winner 8 c.arbiter c.ports (λ (i : ℕ). asks_in no_requests i o) (of_narrow (get_or arbiters o past_narrow))
+      (λ i h. asks_not no_requests o i (blank_rows 8 i o)))
 
-  pub arbiters-rest : (n : ℕ) (arbiters : List Narrow) → arbiters ≡ narrowMoved c n (pickIn noPicks) arbiters
-  unfolding narrowMoved
-  arbiters-rest n arbiters = over-rests c.ports (turn c n noPicks) arbiters (λ t i. turn-stays c n noPicks t i (getD-zeros 8 i))
+  pub arbiters_rest : (n : ℕ) (arbiters : List Narrow) → arbiters ≡ narrow_moved c n (pick_in no_picks) arbiters
+  unfolding narrow_moved
+  arbiters_rest n arbiters = over_rests c.ports (turn c n no_picks) arbiters (λ t i. turn_stays c n no_picks t i (get_d_zeros 8 i))
 
-  pub nothing-leaves : (l : Leaving) → l ≡ departures c (λ (o : ℕ). vcOf (pickIn noPicks) (pickIn noPicks o)) l
+  pub nothing_leaves : (l : Leaving) → l ≡ departures c (λ (o : ℕ). vc_of (pick_in no_picks) (pick_in no_picks o)) l
   unfolding departures
-  nothing-leaves l =
-      over-rests c.ports (λ t o. leavesBy c o (vcOf (pickIn noPicks) (pickIn noPicks o)) t) l
-      (λ t o. sym (ap (λ (p : ℕ). leavesBy c o (vcOf (pickIn noPicks) (named p)) t) (getD-zeros 8 o)))
+  nothing_leaves l =
+      over_rests c.ports (λ t o. leaves_by c o (vc_of (pick_in no_picks) (pick_in no_picks o)) t) l
+      (λ t o. sym (ap (λ (p : ℕ). leaves_by c o (vc_of (pick_in no_picks) (named p)) t) (get_d_zeros 8 o)))

@@ -8,16 +8,16 @@ use native.Mathlib.Nat.{min-eq_left, min-eq_right}
 use native.Mathlib.Omega.{arith}
 use lib.ListN.{length, drop, length-take, length-drop}
 use Rattle.listing.specs.Writing.{lacks}
-use Rattle.router.specs.Running.{blockRoom, lacksBlockRoom, block_at}
+use Rattle.router.specs.Running.{room_of_block, lacks_block_room, block_at}
 
 -- the tests of the room for a block, in the words of the rules
 module _ (buffer : List ℕ) (at : ℕ) where
-  pub full : lacks blockRoom buffer at ≡ true → lacksBlockRoom buffer at ≡ true
-  unfolding lacksBlockRoom
+  pub full : lacks room_of_block buffer at ≡ true → lacks_block_room buffer at ≡ true
+  unfolding lacks_block_room
   full e = e
 
-  pub roomy : lacks blockRoom buffer at ≡ false → lacksBlockRoom buffer at ≡ false
-  unfolding lacksBlockRoom
+  pub roomy : lacks room_of_block buffer at ≡ false → lacks_block_room buffer at ≡ false
+  unfolding lacks_block_room
   roomy e = e
 
 module _ (part : List ℕ) (from : ℕ) where

@@ -11,9 +11,9 @@ use lib.Dec.{eqb, leb}
 use borrow.Author.Tests.{eqb-true, eqb-false, leb-true, leb-false}
 use lib.Seq.{set_out, get_or-set_same, get_or-set_other}
 use Rattle.base.specs.declared.config.Config.{Config}
-use Rattle.state.specs.Views.{channelNumber}
-use Rattle.rules.specs.Ports.{overPorts, named}
-use Rattle.rules.proofs.Folds.{over-keeps}
+use Rattle.state.specs.Views.{channel_number}
+use Rattle.rules.specs.Ports.{over_ports, named}
+use Rattle.rules.proofs.Folds.{over_keeps}
 use Rattle.rules.proofs.Named.{named_some}
 
 module _ {A : Type 0} (d : A) (g : A → A) where
@@ -22,9 +22,9 @@ module _ {A : Type 0} (d : A) (g : A → A) where
   at xs x = set xs x (g (get_or xs x d))
 
   -- a count that g raises by one at most
-  pub at-fits : (m : A → ℕ) → ((a : A) → m (g a) ≤ m a + 1) → (xs : List A) (y n : ℕ) → ((x : ℕ) → m (get_or xs x d) ≤ n) → (x : ℕ)
+  pub at_fits : (m : A → ℕ) → ((a : A) → m (g a) ≤ m a + 1) → (xs : List A) (y n : ℕ) → ((x : ℕ) → m (get_or xs x d) ≤ n) → (x : ℕ)
       → m (get_or (at xs y) x d) ≤ n + 1
-  at-fits m raises xs y n f x = go (eqb x y) refl (leb (length xs) y) refl
+  at_fits m raises xs y n f x = go (eqb x y) refl (leb (length xs) y) refl
     where
       go : (b : Bool) → eqb x y ≡ b → (e : Bool) → leb (length xs) y ≡ e → m (get_or (set xs y (g (get_or xs y d))) x d) ≤ n + 1
       go false e _ _ = rw (get_or-set_other xs y x (g (get_or xs y d)) d (eqb-false x y e)) (let l = f x in omega arith)
@@ -36,38 +36,38 @@ module _ {A : Type 0} (d : A) (g : A → A) where
   -- what happens at port i, where `names i` is its number
   module _ (c : Config) (names : ℕ → ℕ) (step : ℕ → Option ℕ → List A → List A)
       (skips : (i : ℕ) (xs : List A) → step i none xs ≡ xs)
-      (acts : (i v : ℕ) (xs : List A) → step i (some v) xs ≡ at xs (channelNumber c i v)) where
+      (acts : (i v : ℕ) (xs : List A) → step i (some v) xs ≡ at xs (channel_number c i v)) where
     abbrev pub turn : List A → ℕ → List A
     turn xs i = step i (named (names i)) xs
 
-    pub turn-none : (xs : List A) (i : ℕ) → names i ≡ 0 → xs ≡ turn xs i
-    turn-none xs i e = rw e (sym (skips i xs))
+    pub turn_none : (xs : List A) (i : ℕ) → names i ≡ 0 → xs ≡ turn xs i
+    turn_none xs i e = rw e (sym (skips i xs))
 
-    pub turn-some : (xs : List A) (i p : ℕ) → p ≡ names i → (p ≡ 0 → ⊥) → at xs (channelNumber c i (p - 1)) ≡ turn xs i
+    pub turn-some : (xs : List A) (i p : ℕ) → p ≡ names i → (p ≡ 0 → ⊥) → at xs (channel_number c i (p - 1)) ≡ turn xs i
     turn-some xs i p e n = rw (sym e, named_some p n) (sym (acts i (p - 1) xs))
 
     -- a VC that there is not changes nothing
-    pub turn-out : (xs : List A) (i p : ℕ) → p ≡ names i → (p ≡ 0 → ⊥) → length xs ≤ channelNumber c i (p - 1) → xs ≡ turn xs i
-    turn-out xs i p e n l = sym (set_out xs (channelNumber c i (p - 1)) (g (get_or xs (channelNumber c i (p - 1)) d)) l)
+    pub turn_out : (xs : List A) (i p : ℕ) → p ≡ names i → (p ≡ 0 → ⊥) → length xs ≤ channel_number c i (p - 1) → xs ≡ turn xs i
+    turn_out xs i p e n l = sym (set_out xs (channel_number c i (p - 1)) (g (get_or xs (channel_number c i (p - 1)) d)) l)
         ∙ turn-some xs i p e n
 
-    pub turns-long : (xs : List A) (n : ℕ) → length (overPorts n turn xs) ≡ length xs
-    turns-long xs n = over-keeps (λ (t : List A). length t ≡ length xs) n turn xs (λ t i l e. go t i (named (names i)) e) refl
+    pub turns-long : (xs : List A) (n : ℕ) → length (over_ports n turn xs) ≡ length xs
+    turns-long xs n = over_keeps (λ (t : List A). length t ≡ length xs) n turn xs (λ t i l e. go t i (named (names i)) e) refl
       where
         go : (t : List A) (i : ℕ) (o : Option ℕ) → length t ≡ length xs → length (step i o t) ≡ length xs
         go t i none e = ap length (skips i t) ∙ e
-        go t i (some v) e = ap length (acts i v t) ∙ length-set t (channelNumber c i v) (g (get_or t (channelNumber c i v) d)) ∙ e
+        go t i (some v) e = ap length (acts i v t) ∙ length-set t (channel_number c i v) (g (get_or t (channel_number c i v) d)) ∙ e
 
     -- so far the count has risen by the turns taken at most
     pub turns_fit : (m : A → ℕ) → ((a : A) → m (g a) ≤ m a + 1) → (xs : List A) (k n : ℕ) → ((x : ℕ) → m (get_or xs x d) ≤ k) → (x : ℕ)
-        → m (get_or (overPorts n turn xs) x d) ≤ k + n
-    unfolding overPorts
+        → m (get_or (over_ports n turn xs) x d) ≤ k + n
+    unfolding over_ports
     turns_fit m raises xs k zero f x = let l = f x in omega arith
     turns_fit m raises xs k (suc n) f x = go (named (names n)) (turns_fit m raises xs k n f)
       where
-        go : (o : Option ℕ) → ((y : ℕ) → m (get_or (overPorts n turn xs) y d) ≤ k + n)
-            → m (get_or (step n o (overPorts n turn xs)) x d) ≤ k + suc n
-        go none h = rw (skips n (overPorts n turn xs)) (let l = h x in omega arith)
+        go : (o : Option ℕ) → ((y : ℕ) → m (get_or (over_ports n turn xs) y d) ≤ k + n)
+            → m (get_or (step n o (over_ports n turn xs)) x d) ≤ k + suc n
+        go none h = rw (skips n (over_ports n turn xs)) (let l = h x in omega arith)
         go (some v) h =
             let e : k + suc n ≡ k + n + 1 = omega arith in
-            rw (acts n v (overPorts n turn xs), e) (at-fits m raises (overPorts n turn xs) (channelNumber c n v) (k + n) h x)
+            rw (acts n v (over_ports n turn xs), e) (at_fits m raises (over_ports n turn xs) (channel_number c n v) (k + n) h x)

@@ -5,37 +5,37 @@ use Rattle.std.proofs.Math.Option.{Option, some, none}
 use Rattle.base.specs.declared.config.Config.{Config}
 use Rattle.state.specs.declared.InputVc.{InputVc}
 use Rattle.state.specs.declared.OutputVc.{OutputVc}
-use Rattle.state.specs.Fresh.{freshInput}
-use Rattle.state.specs.Views.{channelNumber, outputAt}
-use Rattle.rules.specs.Ports.{overPorts, named}
-use Rattle.rules.specs.Allocation.{Grant, bindTo, heldBy}
+use Rattle.state.specs.Fresh.{fresh_input}
+use Rattle.state.specs.Views.{channel_number, output_at}
+use Rattle.rules.specs.Ports.{over_ports, named}
+use Rattle.rules.specs.Allocation.{Grant, bind_to, held_by}
 use Rattle.router.specs.declared.allocation.Granted.{Granted}
 
-abbrev pub withVc : ℕ → Option ℕ → Option Grant
-withVc w none = none
-withVc w (some x) = some (record { requester = x; vc = w })
+abbrev pub with_vc : ℕ → Option ℕ → Option Grant
+with_vc w none = none
+with_vc w (some x) = some (record { requester = x; vc = w })
 
 -- 1 + the requester and the VC, or nothing
-abbrev pub grantIn : Granted → Option Grant
-grantIn g = withVc g.vc (named g.requester)
+abbrev pub grant_in : Granted → Option Grant
+grant_in g = with_vc g.vc (named g.requester)
 
 -- what output o granted
-abbrev pub grantAt : List Granted → ℕ → Option Grant
-grantAt made o = grantIn (get_or made o (record { requester = 0; vc = 0 }))
+abbrev pub grant_at : List Granted → ℕ → Option Grant
+grant_at made o = grant_in (get_or made o (record { requester = 0; vc = 0 }))
 
 -- `bindings` by its two lists: the input VC that output o binds
-abbrev pub inputBound : ℕ → Option Grant → List InputVc → List InputVc
-inputBound o none inputs = inputs
-inputBound o (some g) inputs = set inputs g.requester (bindTo o g.vc (get_or inputs g.requester (freshInput 0)))
+abbrev pub input_bound : ℕ → Option Grant → List InputVc → List InputVc
+input_bound o none inputs = inputs
+input_bound o (some g) inputs = set inputs g.requester (bind_to o g.vc (get_or inputs g.requester (fresh_input 0)))
 
 -- and the VC of output o that is held from then on
-abbrev pub outputHeld : Config → ℕ → Option Grant → List OutputVc → List OutputVc
-outputHeld c o none outputs = outputs
-outputHeld c o (some g) outputs =
-    set outputs (channelNumber c o g.vc) (heldBy (g.requester / c.vcs) (g.requester % c.vcs) (outputAt c outputs o g.vc))
+abbrev pub output_held : Config → ℕ → Option Grant → List OutputVc → List OutputVc
+output_held c o none outputs = outputs
+output_held c o (some g) outputs =
+    set outputs (channel_number c o g.vc) (held_by (g.requester / c.vcs) (g.requester % c.vcs) (output_at c outputs o g.vc))
 
-unfoldable pub inputsBound : Config → (ℕ → Option Grant) → List InputVc → List InputVc
-inputsBound c grant = overPorts c.ports (λ inputs o. inputBound o (grant o) inputs)
+unfoldable pub inputs_bound : Config → (ℕ → Option Grant) → List InputVc → List InputVc
+inputs_bound c grant = over_ports c.ports (λ inputs o. input_bound o (grant o) inputs)
 
-unfoldable pub outputsHeld : Config → (ℕ → Option Grant) → List OutputVc → List OutputVc
-outputsHeld c grant = overPorts c.ports (λ outputs o. outputHeld c o (grant o) outputs)
+unfoldable pub outputs_held : Config → (ℕ → Option Grant) → List OutputVc → List OutputVc
+outputs_held c grant = over_ports c.ports (λ outputs o. output_held c o (grant o) outputs)

@@ -5,12 +5,12 @@ use Rattle.base.specs.declared.config.Config.{Config}
 use Rattle.state.specs.Sound.{Sound}
 use Rattle.router.specs.declared.running.RunParts.{RunParts}
 use Rattle.router.specs.Running.{Writing}
-use Rattle.router.specs.Whole.{routerOf}
+use Rattle.router.specs.Whole.{router_of}
 
-abbrev pub writingOf : Config → RunParts → List ℕ → List ℕ → List ℕ → List ℕ → Writing
-writingOf c w store wire home buffer =
+abbrev pub writing_of : Config → RunParts → List ℕ → List ℕ → List ℕ → List ℕ → Writing
+writing_of c w store wire home buffer =
     record {
-      run = record { router = routerOf c w.cycle w.parts store wire home; place = w.place; flits = w.flits; over = w.over };
+      run = record { router = router_of c w.cycle w.parts store wire home; place = w.place; flits = w.flits; over = w.over };
       at = w.at;
       buffer = buffer;
     }

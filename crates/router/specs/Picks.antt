@@ -9,9 +9,9 @@ abbrev pub below : ℕ → ℕ → Option ℕ
 below n x = cond (ltb x n) (some x) none
 
 -- what port i picked
-abbrev pub pickIn : List ℕ → ℕ → Option ℕ
-pickIn picks i = named (get_or picks i 0)
+abbrev pub pick_in : List ℕ → ℕ → Option ℕ
+pick_in picks i = named (get_or picks i 0)
 
 -- the table: whether input i asks for output o
-abbrev pub asksIn : List (List ℕ) → ℕ → ℕ → Bool
-asksIn table i o = not (eqb (get_or (get_or table i []) o 0) 0)
+abbrev pub asks_in : List (List ℕ) → ℕ → ℕ → Bool
+asks_in table i o = not (eqb (get_or (get_or table i []) o 0) 0)

@@ -2,15 +2,15 @@
 -- Assumes nothing.
 use Rattle.std.specs.Prelude.{cond, List, ℕ}
 use Rattle.std.proofs.Math.Option.{Option, some, none}
-use Rattle.rules.specs.Rows.{brings, vcAt, flitAt}
+use Rattle.rules.specs.Rows.{brings, vc_at, flit_at}
 use Rattle.router.specs.declared.rows.Offer.{Offer}
 use Rattle.router.specs.declared.rows.Row.{Row}
 use Rattle.router.specs.declared.rows.Row.TheVariants.{Idle, Brings}
 
-abbrev pub offerOf : Row → Option Offer
-offerOf Idle = none
-offerOf (Brings x) = some x
+abbrev pub offer_of : Row → Option Offer
+offer_of Idle = none
+offer_of (Brings x) = some x
 
 -- the flit that the row of port i brings, and its VC
-unfoldable pub offerAt : List ℕ → ℕ → Option Offer
-offerAt part i = cond (brings part i) (some (record { vc = vcAt part i; flit = flitAt part i })) none
+unfoldable pub offer_at : List ℕ → ℕ → Option Offer
+offer_at part i = cond (brings part i) (some (record { vc = vc_at part i; flit = flit_at part i })) none

@@ -3,22 +3,22 @@
 -- Assumes nothing.
 use Rattle.std.specs.Prelude.{Bool, true, cond, not, List, [], ◌∷◌, ℕ, zero, suc, ◌+◌, ◌-◌, ◌*◌, ◌/◌, length, take, drop}
 use Rattle.std.proofs.Math.Option.{Option, some, none}
-use Rattle.base.specs.Numbers.{done, notSound, noRoom, room}
+use Rattle.base.specs.Numbers.{done, not_sound, no_room, room}
 use Rattle.state.specs.declared.Router.{Router}
-use Rattle.state.specs.Fresh.{freshRouter}
+use Rattle.state.specs.Fresh.{fresh_router}
 use Rattle.trace.specs.declared.place.Place.{Place}
-use Rattle.trace.specs.Blocks.{blockLength, part_at}
-use Rattle.trace.specs.Judged.{Read, aConfiguration, someCycles, theEnd, no_more, judged}
+use Rattle.trace.specs.Blocks.{block_length, part_at}
+use Rattle.trace.specs.Judged.{Read, a_configuration, some_cycles, the_end, no_more, judged}
 use Rattle.trace.specs.Judged as trace
-use Rattle.listing.specs.Lines.{Line, finish, refusal, cycleLines, flitLines}
-use Rattle.listing.specs.Writing.{lacks, lacksRoom, written}
+use Rattle.listing.specs.Lines.{Line, finish, refusal, cycle_lines, flit_lines}
+use Rattle.listing.specs.Writing.{lacks, lacks_room, written}
 use Rattle.rules.specs.declared.Verdict.{Verdict}
 use Rattle.rules.specs.declared.Verdict.TheVariants.{Accepted, Refused}
 use Rattle.rules.specs.declared.Stepped.{Stepped}
 use Rattle.rules.specs.Step.{step_of}
 use Rattle.runs.specs.declared.Run.{Run}
 use Rattle.router.specs.declared.entry.Ran.{Ran}
-use Rattle.runs.specs.Run.{runSound}
+use Rattle.runs.specs.Run.{run_sound}
 
 -- a run, the caller's buffer, and the place in it where the next line comes
 pub record Writing : Type 0 where
@@ -35,73 +35,73 @@ wrote lines w =
       buffer = (written w.buffer w.at lines).buffer;
     }
 
-abbrev pub withPlace : Place → Run → Run
-withPlace p n = record { router = n.router; place = p; flits = n.flits; over = n.over }
+abbrev pub with_place : Place → Run → Run
+with_place p n = record { router = n.router; place = p; flits = n.flits; over = n.over }
 
-abbrev pub withRouter : Router → Run → Run
-withRouter s n = record { router = s; place = n.place; flits = n.flits; over = n.over }
+abbrev pub with_router : Router → Run → Run
+with_router s n = record { router = s; place = n.place; flits = n.flits; over = n.over }
 
-abbrev pub withFlits : ℕ → Run → Run
-withFlits m n = record { router = n.router; place = n.place; flits = n.flits + m; over = n.over }
+abbrev pub with_flits : ℕ → Run → Run
+with_flits m n = record { router = n.router; place = n.place; flits = n.flits + m; over = n.over }
 
 abbrev pub finished : Run → Run
 finished n = record { router = n.router; place = n.place; flits = n.flits; over = true }
 
-abbrev pub onRun : (Run → Run) → Writing → Writing
-onRun f w = record { run = f w.run; at = w.at; buffer = w.buffer }
+abbrev pub on_run : (Run → Run) → Writing → Writing
+on_run f w = record { run = f w.run; at = w.at; buffer = w.buffer }
 
 -- "Last comes `E ..`, or at the first refusal `R ..`": nothing comes after it
-unfoldable pub endedBy : Line → Writing → Writing
-endedBy line w = wrote (line ∷ []) (onRun finished w)
+unfoldable pub ended_by : Line → Writing → Writing
+ended_by line w = wrote (line ∷ []) (on_run finished w)
 
 -- "per accepted cycle" its lines; a refused one ends the list
-abbrev pub byVerdict : Verdict → Stepped → Writing → Writing
-byVerdict Accepted x w =
-    wrote (cycleLines w.run.router.cycle x.reply)
-    (onRun (λ n. withRouter x.router (withFlits (flitLines (cycleLines n.router.cycle x.reply)) n)) w)
-byVerdict (Refused r) x w = endedBy (refusal r.number w.run.router.cycle r.port) w
+abbrev pub by_verdict : Verdict → Stepped → Writing → Writing
+by_verdict Accepted x w =
+    wrote (cycle_lines w.run.router.cycle x.reply)
+    (on_run (λ n. with_router x.router (with_flits (flit_lines (cycle_lines n.router.cycle x.reply)) n)) w)
+by_verdict (Refused r) x w = ended_by (refusal r.number w.run.router.cycle r.port) w
 
 abbrev pub by_step : Stepped → Writing → Writing
-by_step x w = byVerdict x.verdict x w
+by_step x w = by_verdict x.verdict x w
 
 unfoldable pub cycled : List ℕ → Writing → Writing
 cycled part w = by_step (step_of w.run.router part) w
 
 -- the n cycles of a block from cycle k on, up to the first refusal
-unfoldable pub cyclesFrom : List ℕ → ℕ → ℕ → Writing → Writing
-cyclesFrom block k zero w = w
-cyclesFrom block k (suc n) w = cond w.run.over w (cyclesFrom block (k + 1) n (cycled (part_at block k) w))
+unfoldable pub cycles_from : List ℕ → ℕ → ℕ → Writing → Writing
+cycles_from block k zero w = w
+cycles_from block k (suc n) w = cond w.run.over w (cycles_from block (k + 1) n (cycled (part_at block k) w))
 
 -- what a block was read as, at the place after it
-abbrev pub byRead : Read → List ℕ → Writing → Writing
-byRead (aConfiguration c) block w = onRun (withRouter (freshRouter c)) w
-byRead (someCycles n) block w = cyclesFrom block 0 n w
-byRead theEnd block w = w
-byRead no_more block w = endedBy (finish w.run.router.cycle w.run.flits) w
+abbrev pub by_read : Read → List ℕ → Writing → Writing
+by_read (a_configuration c) block w = on_run (with_router (fresh_router c)) w
+by_read (some_cycles n) block w = cycles_from block 0 n w
+by_read the_end block w = w
+by_read no_more block w = ended_by (finish w.run.router.cycle w.run.flits) w
 
-abbrev pub byOutcome : Option Read → trace.BlockOutcome → List ℕ → Writing → Writing
-byOutcome none o block w = endedBy (refusal o.number w.run.router.cycle o.field) w
-byOutcome (some r) o block w = byRead r block (onRun (withPlace o.place) w)
+abbrev pub by_outcome : Option Read → trace.BlockOutcome → List ℕ → Writing → Writing
+by_outcome none o block w = ended_by (refusal o.number w.run.router.cycle o.field) w
+by_outcome (some r) o block w = by_read r block (on_run (with_place o.place) w)
 
-abbrev pub byJudgement : trace.BlockOutcome → List ℕ → Writing → Writing
-byJudgement o block w = byOutcome o.read o block w
+abbrev pub by_judgement : trace.BlockOutcome → List ℕ → Writing → Writing
+by_judgement o block w = by_outcome o.read o block w
 
-unfoldable pub blockTaken : List ℕ → Writing → Writing
-blockTaken block w = byJudgement (judged w.run.place w.run.router.cycle block) block w
+unfoldable pub block_taken : List ℕ → Writing → Writing
+block_taken block w = by_judgement (judged w.run.place w.run.router.cycle block) block w
 
 -- The blocks of a part handed over: 512 bytes each, the last perhaps shorter; an empty part is one empty block, the end of the input.
-abbrev pub blocksIn : List ℕ → ℕ
-blocksIn part = 1 + (length part - 1) / blockLength
+abbrev pub blocks_in : List ℕ → ℕ
+blocks_in part = 1 + (length part - 1) / block_length
 
 abbrev pub block_at : List ℕ → ℕ → List ℕ
-block_at part used = take blockLength (drop used part)
+block_at part used = take block_length (drop used part)
 
 -- a block holds at most 7 cycles, each with its lines, and a cycle that is refused has one more: "asks for 376 bytes" each
-abbrev pub blockRoom : ℕ
-blockRoom = 8 * room
+abbrev pub room_of_block : ℕ
+room_of_block = 8 * room
 
-unfoldable pub lacksBlockRoom : List ℕ → ℕ → Bool
-lacksBlockRoom = lacks blockRoom
+unfoldable pub lacks_block_room : List ℕ → ℕ → Bool
+lacks_block_room = lacks room_of_block
 
 -- how far a call has come: the bytes used, and the room that the next block asks for where it stopped for want of it, else 0
 pub record Call : Type 0 where
@@ -118,18 +118,18 @@ takes part c =
     record {
       used = c.used + length (block_at part c.used);
       asks = 0;
-      writing = blockTaken (block_at part c.used) c.writing;
+      writing = block_taken (block_at part c.used) c.writing;
     }
 
 abbrev pub stops : Call → Call
-stops c = record { used = c.used; asks = blockRoom; writing = c.writing }
+stops c = record { used = c.used; asks = room_of_block; writing = c.writing }
 
 -- at most n blocks more: until the run is over or the room is too little for a block
-unfoldable pub goesOn : List ℕ → ℕ → Call → Call
-goesOn part zero c = c
-goesOn part (suc n) c =
+unfoldable pub going_on : List ℕ → ℕ → Call → Call
+going_on part zero c = c
+going_on part (suc n) c =
     cond c.writing.run.over c
-    (cond (lacksBlockRoom c.writing.buffer c.writing.at) (stops c) (goesOn part n (takes part c)))
+    (cond (lacks_block_room c.writing.buffer c.writing.at) (stops c) (going_on part n (takes part c)))
 
 -- what a call answers, and the buffer after it
 pub record CallOutcome : Type 0 where
@@ -137,8 +137,8 @@ pub record CallOutcome : Type 0 where
   pub buffer : List ℕ
 
 -- a call that is refused leaves run and buffer
-abbrev pub refusedWith : ℕ → Run → List ℕ → CallOutcome
-refusedWith number n buffer = record { ran = record { number = number; run = n; used = 0; written = 0; asks = 0 }; buffer = buffer }
+abbrev pub refused_with : ℕ → Run → List ℕ → CallOutcome
+refused_with number n buffer = record { ran = record { number = number; run = n; used = 0; written = 0; asks = 0 }; buffer = buffer }
 
 abbrev pub answered : ℕ → Call → CallOutcome
 answered at c =
@@ -148,8 +148,8 @@ answered at c =
     }
 
 -- 2, then 11 ("fewer than 376 bytes from the named place, or place past the end"), then the blocks of the part
-unfoldable pub ranOf : Run → List ℕ → List ℕ → ℕ → CallOutcome
-ranOf n part buffer at =
-    cond (not (runSound n)) (refusedWith notSound n buffer)
-    (cond (lacksRoom buffer at) (refusedWith noRoom n buffer)
-    (answered at (goesOn part (blocksIn part) (begins (record { run = n; at = at; buffer = buffer })))))
+unfoldable pub ran_of : Run → List ℕ → List ℕ → ℕ → CallOutcome
+ran_of n part buffer at =
+    cond (not (run_sound n)) (refused_with not_sound n buffer)
+    (cond (lacks_room buffer at) (refused_with no_room n buffer)
+    (answered at (going_on part (blocks_in part) (begins (record { run = n; at = at; buffer = buffer })))))

@@ -3,7 +3,7 @@
 use Rattle.std.specs.Prelude.{List, ℕ}
 use Rattle.base.specs.declared.config.Config.{Config}
 use Rattle.state.specs.declared.Router.{Router}
-use Rattle.rules.specs.Intake.{advanced, creditsReturned, landed, offersTaken}
+use Rattle.rules.specs.Intake.{advanced, credits_returned, landed, offers_taken}
 use Rattle.rules.specs.Allocation.{allocated}
 use Rattle.router.specs.declared.parts.Parts.{Parts}
 
@@ -11,8 +11,8 @@ abbrev pub parts_of : Router → Parts
 parts_of s =
     record { inputs = s.inputs; outputs = s.outputs; vcs = s.arbiters.vcs; ins = s.arbiters.inputs; outs = s.arbiters.outputs }
 
-abbrev pub routerOf : Config → ℕ → Parts → List ℕ → List ℕ → List ℕ → Router
-routerOf c cycle p store wire home =
+abbrev pub router_of : Config → ℕ → Parts → List ℕ → List ℕ → List ℕ → Router
+router_of c cycle p store wire home =
     record {
       config = c;
       cycle = cycle;
@@ -25,6 +25,6 @@ routerOf c cycle p store wire home =
     }
 
 -- a router with its senders paid, the home line not yet moved on, after phase 5
-abbrev pub boundOf : Config → ℕ → Parts → List ℕ → List ℕ → List ℕ → List ℕ → Router
-boundOf c cycle p store wire home part =
-    allocated (offersTaken part (landed (creditsReturned part (routerOf c cycle p store wire (advanced home)))))
+abbrev pub bound_of : Config → ℕ → Parts → List ℕ → List ℕ → List ℕ → List ℕ → Router
+bound_of c cycle p store wire home part =
+    allocated (offers_taken part (landed (credits_returned part (router_of c cycle p store wire (advanced home)))))

@@ -3,10 +3,10 @@
 ghost use Rattle.std.specs.Prelude.{◌≡◌, ℕ, ◌+◌, ◌≤◌, length};
 ghost use Rattle.base.specs.Sizes.{Bounds};
 ghost use Rattle.rules.specs.Intake.{reported};
-ghost use Rattle.rules.specs.Departures.{leavingOf};
-ghost use Rattle.rules.specs.Step.{sentOut};
+ghost use Rattle.rules.specs.Departures.{leaving_of};
+ghost use Rattle.rules.specs.Step.{sent_out};
 ghost use Rattle.router.specs.Fitting.{QueuesFit, OutputCreditsFit};
-ghost use Rattle.router.specs.Whole.{routerOf, boundOf};
+ghost use Rattle.router.specs.Whole.{router_of, bound_of};
 
 use crate::allocation::Vcs;
 use crate::parts::Parts;
@@ -30,12 +30,12 @@ pub(crate) fn act(
 ) -> PartsAndReply
     requires { Bounds 1 config × (length part.now ≡ 64) × QueuesFit 16 parts.inputs × OutputCreditsFit 16 parts.outputs
         × (length store.old ≡ 512) × (length wire.old ≡ 64) × (length home.old ≡ 64) }
-    ensures after { (n : ℕ) → routerOf config (n + 1) result.parts store.new wire.new home.new
-        ≡ sentOut (boundOf config n parts store.old wire.old home.old part.now) }
+    ensures after { (n : ℕ) → router_of config (n + 1) result.parts store.new wire.new home.new
+        ≡ sent_out (bound_of config n parts store.old wire.old home.old part.now) }
     ensures said { (n : ℕ) → result.reply ≡ record {
       senders = reported config home.old;
-      outputs = (leavingOf
-          (boundOf config n parts store.old wire.old home.old part.now)).left;
+      outputs = (leaving_of
+          (bound_of config n parts store.old wire.old home.old part.now)).left;
     } }
 {
     let inputs1 = parts.inputs;

@@ -1,13 +1,13 @@
 // Phase 5: VC allocation.
 ghost use Rattle.std.specs.Prelude.{◌≡◌, List, ℕ, ◌*◌, ◌/◌, ◌%◌, ◌≤◌, ◌<◌, ◌&&◌, eqb, length, get_or};
 ghost use Rattle.base.specs.Bits.{bit, word_of};
-ghost use Rattle.arbiter.specs.Arbiter.{ofWide, choice};
-ghost use Rattle.state.specs.Fresh.{pastWide};
-ghost use Rattle.state.specs.Sound.{isFree, isUnbound, frontIsFor};
+ghost use Rattle.arbiter.specs.Arbiter.{of_wide, choice};
+ghost use Rattle.state.specs.Fresh.{past_wide};
+ghost use Rattle.state.specs.Sound.{is_vc_free, is_unbound, front_is_for};
 ghost use Rattle.store.specs.Store.{first_slot};
-ghost use Rattle.state.specs.Views.{places, queueAt};
-ghost use Rattle.rules.specs.Allocation.{asks, freeVc, granted, Grant, bindTo, heldBy, Vcs as BoundVcs, bindings, requesterOf, wideMoved};
-ghost use Rattle.router.specs.Grants.{grantIn, grantAt, inputsBound, outputsHeld};
+ghost use Rattle.state.specs.Views.{places, queue_at};
+ghost use Rattle.rules.specs.Allocation.{asks, lowest_free_vc, granted, Grant, bind_to, held_by, Vcs as BoundVcs, bindings, requester_of, wide_moved};
+ghost use Rattle.router.specs.Grants.{grant_in, grant_at, inputs_bound, outputs_held};
 ghost use Rattle.router.specs.Picks.{below};
 
 use crate::{channel, counts};
@@ -32,8 +32,8 @@ pub struct Vcs {
 // The output at which an input VC asks; 8 where it asks at none.
 fn asked_by(input: InputVc, x: usize, store: &[u64; 512]) -> usize
     requires { (x < 32) × (length store.now ≡ 512) }
-    ensures { (o : ℕ) → o < 8 → eqb result o ≡ (isUnbound input.binding
-        && frontIsFor o (queueAt store.now (first_slot x) input.queued)) }
+    ensures { (o : ℕ) → o < 8 → eqb result o ≡ (is_unbound input.binding
+        && front_is_for o (queue_at store.now (first_slot x) input.queued)) }
 {
     let binding = input.binding;
     let Binding::Unbound = binding else {
@@ -72,7 +72,7 @@ pub(crate) fn asking(config: Config, inputs: [InputVc; 32], store: &[u64; 512]) 
 }
 
 fn is_free(output: OutputVc) -> bool
-    ensures { result ≡ isFree output.holder }
+    ensures { result ≡ is_vc_free output.holder }
 {
     let holder = output.holder;
     let Holder::Nobody = holder else {
@@ -84,7 +84,7 @@ fn is_free(output: OutputVc) -> bool
 // The lowest-numbered free VC of an output; V where none is free.
 fn free_vc(config: Config, outputs: [OutputVc; 32], o: usize) -> u8
     requires { (o < config.ports) × (config.ports ≤ 8) × (config.vcs ≤ 4) }
-    ensures { below config.vcs result ≡ freeVc config outputs o }
+    ensures { below config.vcs result ≡ lowest_free_vc config outputs o }
 {
     let mut w: u8 = 0;
     while w < config.vcs {
@@ -97,11 +97,11 @@ fn free_vc(config: Config, outputs: [OutputVc; 32], o: usize) -> u8
     w
 }
 
-// "One arbiter per output, P·V wide, .. picks one; it is bound to the lowest-numbered free VC."
+// "One arbiter per output, p_V wide, .. picks one; it is bound to the lowest-numbered free VC."
 fn grant(config: Config, outputs: [OutputVc; 32], arbiter: Wide, o: usize, set: u32) -> Granted
     requires { (o < config.ports) × (config.ports ≤ 8) × (config.vcs ≤ 4) }
-    ensures { grantIn result ≡ granted (freeVc config outputs o)
-        (choice 32 config.arbiter (config.ports * config.vcs) (bit set) (ofWide arbiter)) }
+    ensures { grant_in result ≡ granted (lowest_free_vc config outputs o)
+        (choice 32 config.arbiter (config.ports * config.vcs) (bit set) (of_wide arbiter)) }
 {
     let vc = free_vc(config, outputs, o);
     if config.vcs <= vc {
@@ -141,9 +141,9 @@ pub(crate) fn grants(
     sets: [u32; 8],
 ) -> [Granted; 8]
     requires { (config.ports ≤ 8) × (config.vcs ≤ 4) }
-    ensures { (o : ℕ) → o < config.ports → grantAt result o
-        ≡ granted (freeVc config outputs o) (choice 32 config.arbiter (config.ports * config.vcs) (bit (get_or sets o 0))
-        (ofWide (get_or vcs o pastWide))) }
+    ensures { (o : ℕ) → o < config.ports → grant_at result o
+        ≡ granted (lowest_free_vc config outputs o) (choice 32 config.arbiter (config.ports * config.vcs) (bit (get_or sets o 0))
+        (of_wide (get_or vcs o past_wide))) }
 {
     let mut made = [Granted {
         requester: 0,
@@ -176,13 +176,13 @@ fn requester(config: Config, x: u8) -> InVc
 }
 
 fn bound(input: InputVc, output: u8, vc: u8) -> InputVc
-    ensures { result ≡ bindTo output vc input }
+    ensures { result ≡ bind_to output vc input }
 {
     input.with_binding(Binding::Bound(OutVc { output, vc }))
 }
 
 fn held(output: OutputVc, by: InVc) -> OutputVc
-    ensures { result ≡ heldBy by.input by.vc output }
+    ensures { result ≡ held_by by.input by.vc output }
 {
     output.with_holder(Holder::Held(by))
 }
@@ -190,7 +190,7 @@ fn held(output: OutputVc, by: InVc) -> OutputVc
 // Each input VC that is bound names its output VC.
 fn bind_inputs(config: Config, before: [InputVc; 32], made: [Granted; 8]) -> [InputVc; 32]
     requires { config.ports ≤ 8 }
-    ensures { result ≡ inputsBound config (grantAt made) before }
+    ensures { result ≡ inputs_bound config (grant_at made) before }
 {
     let mut inputs = before;
     let mut next: usize = 0;
@@ -214,7 +214,7 @@ fn bind_inputs(config: Config, before: [InputVc; 32], made: [Granted; 8]) -> [In
 // Each output VC that is held names its input VC.
 fn bind_outputs(config: Config, before: [OutputVc; 32], made: [Granted; 8]) -> [OutputVc; 32]
     requires { (config.ports ≤ 8) × (1 ≤ config.vcs) × (config.vcs ≤ 4) }
-    ensures { result ≡ outputsHeld config (grantAt made) before }
+    ensures { result ≡ outputs_held config (grant_at made) before }
 {
     let mut outputs = before;
     let mut next: usize = 0;
@@ -239,7 +239,7 @@ fn bind_outputs(config: Config, before: [OutputVc; 32], made: [Granted; 8]) -> [
 pub(crate) fn bind(config: Config, before: Vcs, made: [Granted; 8]) -> Vcs
     requires { (config.ports ≤ 8) × (1 ≤ config.vcs) × (config.vcs ≤ 4) }
     ensures { ◌≡◌ {A = BoundVcs} (record { inputs = result.inputs; outputs = result.outputs })
-        (bindings config (grantAt made) (record { inputs = before.inputs; outputs = before.outputs })) }
+        (bindings config (grant_at made) (record { inputs = before.inputs; outputs = before.outputs })) }
 {
     let was_inputs = before.inputs;
     let was_outputs = before.outputs;
@@ -251,7 +251,7 @@ pub(crate) fn bind(config: Config, before: Vcs, made: [Granted; 8]) -> Vcs
 // Each output's VC arbiter after its own pick.
 pub(crate) fn move_on(config: Config, before: [Wide; 8], made: [Granted; 8]) -> [Wide; 8]
     requires { (config.ports ≤ 8) × (config.vcs ≤ 4) }
-    ensures { result ≡ wideMoved config (config.ports * config.vcs) (λ (o : ℕ). requesterOf (grantAt made o)) before }
+    ensures { result ≡ wide_moved config (config.ports * config.vcs) (λ (o : ℕ). requester_of (grant_at made o)) before }
 {
     let n = (config.ports as u32) * (config.vcs as u32);
     let mut vcs = before;

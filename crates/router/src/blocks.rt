@@ -1,7 +1,7 @@
 // The blocks of a part of a trace, one after another, as long as there is room for their lines.
 ghost use Rattle.std.specs.Prelude.{◌≡◌, ◌+◌, ◌-◌, ◌/◌, ◌≤◌, ◌<◌, length};
-ghost use Rattle.router.specs.Running.{block_at, Call, goesOn};
-ghost use Rattle.router.specs.Inside.{Ongoing, writingOf};
+ghost use Rattle.router.specs.Running.{block_at, Call, going_on};
+ghost use Rattle.router.specs.Inside.{Ongoing, writing_of};
 
 use crate::running;
 use crate::running::RunParts;
@@ -54,16 +54,16 @@ pub(crate) fn blocks(
     home: &mut [u8; 64],
     out: &mut [u8],
 ) -> RunAndUsed
-    requires { Ongoing (writingOf config before store.old wire.old home.old out.old) × (first ≤ length part.now) }
+    requires { Ongoing (writing_of config before store.old wire.old home.old out.old) × (first ≤ length part.now) }
     ensures { ◌≡◌ {A = Call} (record {
       used = result.used;
       asks = result.asks;
-      writing = writingOf config result.run store.new wire.new home.new out.new;
+      writing = writing_of config result.run store.new wire.new home.new out.new;
     })
-        (goesOn part.now count (record {
+        (going_on part.now count (record {
           used = first;
           asks = 0;
-          writing = writingOf config before store.old wire.old home.old out.old;
+          writing = writing_of config before store.old wire.old home.old out.old;
         })) }
 {
     let mut run = before;

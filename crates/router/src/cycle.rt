@@ -3,7 +3,7 @@ ghost use Rattle.std.specs.Prelude.{◌≡◌};
 ghost use Rattle.rules.specs.declared.Stepped.{Stepped as Answer};
 ghost use Rattle.rules.specs.Step.{step_of};
 ghost use Rattle.state.specs.Sound.{Sound};
-ghost use Rattle.router.specs.Whole.{routerOf};
+ghost use Rattle.router.specs.Whole.{router_of};
 
 use crate::parts::Parts;
 use crate::{acting, intake, judge, parts};
@@ -30,13 +30,13 @@ pub(crate) fn inner_step(
     wire: &mut [u64; 64],
     home: &mut [u8; 64],
 ) -> SteppedParts
-    requires { Sound (routerOf config cycle before store.old wire.old home.old) }
+    requires { Sound (router_of config cycle before store.old wire.old home.old) }
     ensures { ◌≡◌ {A = Answer} (record {
       verdict = result.verdict;
-      router = routerOf config result.cycle result.parts store.new wire.new home.new;
+      router = router_of config result.cycle result.parts store.new wire.new home.new;
       reply = result.reply;
     })
-        (step_of (routerOf config cycle before store.old wire.old home.old) part.now) }
+        (step_of (router_of config cycle before store.old wire.old home.old) part.now) }
 {
     let inputs = before.inputs;
     let outputs = before.outputs;

@@ -1,6 +1,6 @@
 // The run entry: the blocks of a part of a trace, their lines into the caller's buffer. The run handed in is tested once a call.
 ghost use Rattle.std.specs.Prelude.{◌≡◌, false, ◌≤◌, length};
-ghost use Rattle.router.specs.Running.{Writing, blockTaken, goesOn, CallOutcome, answered, ranOf};
+ghost use Rattle.router.specs.Running.{Writing, block_taken, going_on, CallOutcome, answered, ran_of};
 ghost use Rattle.router.specs.Inside.{Within, Ongoing};
 
 use crate::blocks::BLOCK_ROOM;
@@ -41,7 +41,7 @@ fn go(
 ) -> Ran
     requires { Ongoing (record { run = run; at = at; buffer = buf.old }) × (first ≤ length part.now) × (start ≤ at) }
     ensures { ◌≡◌ {A = CallOutcome} (record { ran = result; buffer = buf.new })
-        (answered start (goesOn part.now count (record
+        (answered start (going_on part.now count (record
         { used = first; asks = 0; writing = record { run = run; at = at; buffer = buf.old } }))) }
 {
     let router = run.router;
@@ -89,7 +89,7 @@ fn go(
 fn begin(run: Run, block: &[u8], buf: &mut [u8], at: usize) -> RunAndAt
     requires { (run.place.configured ≡ false) × (run.over ≡ false) × (run.router.cycle ≡ 0) × Within at buf.old }
     ensures { ◌≡◌ {A = Writing} (record { run = result.run; at = result.at; buffer = buf.new })
-        (blockTaken block.now (record { run = run; at = at; buffer = buf.old })) }
+        (block_taken block.now (record { run = run; at = at; buffer = buf.old })) }
 {
     let answer = trace::judge(run.place, 0, block);
     let found = answer.found;
@@ -141,7 +141,7 @@ fn unmoved(number: u8, run: Run, asks: usize) -> Ran
 // 2 where the run handed in is not sound, 11 where the buffer has no room for a line from `at` on; such a call changes nothing.
 pub fn run(run: Run, part: &[u8], buf: &mut [u8], at: usize) -> Ran
     ensures { ◌≡◌ {A = CallOutcome} (record { ran = result; buffer = buf.new })
-        (ranOf run part.now buf.old at) }
+        (ran_of run part.now buf.old at) }
 {
     if !runs::is_sound(run) {
         return unmoved(NOT_SOUND, run, 0);

@@ -1,9 +1,9 @@
 // Phases 1 to 4: what comes in.
 ghost use Rattle.std.specs.Prelude.{◌≡◌, ◌-◌, ◌≤◌, ◌<◌, length};
-ghost use Rattle.state.specs.Views.{wireVc};
+ghost use Rattle.state.specs.Views.{wire_vc};
 ghost use Rattle.rules.specs.Ports.{named};
-ghost use Rattle.rules.specs.Intake.{advanced, senderPaid, sendersPaid, reaching, reported, outputPaid, outputsPaid, oneMoreQueued};
-ghost use Rattle.rules.specs.Intake.{Queues, landings, Senders, offerTaken, offers};
+ghost use Rattle.rules.specs.Intake.{advanced, sender_paid, senders_paid, reaching, reported, output_paid, outputs_paid, one_more_queued};
+ghost use Rattle.rules.specs.Intake.{Queues, landings, Senders, offer_taken, offers};
 ghost use Rattle.router.specs.Fitting.{CreditsFit, QueuesFit, OutputCreditsFit};
 
 use crate::rows::Row;
@@ -13,7 +13,7 @@ use state::{InputVc, OutputVc};
 
 fn with_one_credit_more(input: InputVc) -> InputVc
     requires { input.credit < 255 }
-    ensures { result ≡ senderPaid input }
+    ensures { result ≡ sender_paid input }
 {
     let mut paid = input;
     paid.credit = input.credit + 1;
@@ -23,7 +23,7 @@ fn with_one_credit_more(input: InputVc) -> InputVc
 // Phase 1: "Credits that left an input B cycles ago reach its sender; each raises that VC's sender credit by one".
 pub(crate) fn pay_senders(config: Config, before: [InputVc; 32], home: &[u8; 64]) -> [InputVc; 32]
     requires { (config.ports ≤ 8) × CreditsFit 16 before }
-    ensures { result ≡ sendersPaid config home.now before }
+    ensures { result ≡ senders_paid config home.now before }
 {
     let mut inputs = before;
     let mut i: usize = 0;
@@ -75,7 +75,7 @@ pub(crate) fn report(config: Config, home: &[u8; 64]) -> [Sender; 8]
 
 fn with_one_more_back(output: OutputVc) -> OutputVc
     requires { output.credit < 255 }
-    ensures { result ≡ outputPaid output }
+    ensures { result ≡ output_paid output }
 {
     let mut paid = output;
     paid.credit = output.credit + 1;
@@ -85,7 +85,7 @@ fn with_one_more_back(output: OutputVc) -> OutputVc
 // Phase 2: "Each credit from downstream raises the named output VC's credit by one."
 pub(crate) fn pay_outputs(config: Config, before: [OutputVc; 32], part: &[u8]) -> [OutputVc; 32]
     requires { (config.ports ≤ 8) × (length part.now ≡ 64) × OutputCreditsFit 16 before }
-    ensures { result ≡ outputsPaid config part.now before }
+    ensures { result ≡ outputs_paid config part.now before }
 {
     let mut outputs = before;
     let mut o: usize = 0;
@@ -108,7 +108,7 @@ pub(crate) fn pay_outputs(config: Config, before: [OutputVc; 32], part: &[u8]) -
 
 fn with_one_more_queued(input: InputVc) -> InputVc
     requires { input.queued < 255 }
-    ensures { result ≡ oneMoreQueued input }
+    ensures { result ≡ one_more_queued input }
 {
     let mut joined = input;
     joined.queued = input.queued + 1;
@@ -151,7 +151,7 @@ pub(crate) fn land(
 
 // The VC above a flit on the wire.
 fn vc_on_wire(place: u64) -> usize
-    ensures value { result ≡ wireVc place }
+    ensures value { result ≡ wire_vc place }
     ensures small { result < 4294967296 }
 {
     (place / 274877906944) as usize
@@ -191,7 +191,7 @@ pub(crate) fn advance_home(home: &mut [u8; 64])
 
 // An input VC after its sender has sent a flit of this kind.
 fn after_offer(input: InputVc, kind: u8) -> InputVc
-    ensures { result ≡ offerTaken kind input }
+    ensures { result ≡ offer_taken kind input }
 {
     let mut sent = input;
     let credit = counts::less_one(input.credit);

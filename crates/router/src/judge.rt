@@ -1,8 +1,8 @@
 // A cycle judged before anything moves: "10, then 3, 6, 4, 5, each over all ports in rising order before the next number", and of 3 the
 // part's length first.
 ghost use Rattle.std.specs.Prelude.{◌≡◌, ℕ, ◌≤◌, ◌<◌, length};
-ghost use Rattle.base.specs.Search.{firstFrom, every};
-ghost use Rattle.rules.specs.Numbers.{rowWrong, creditPastRoom, outOfTurn, noSenderCredit, first_of, rulesFor};
+ghost use Rattle.base.specs.Search.{first_from, every};
+ghost use Rattle.rules.specs.Numbers.{row_wrong, credit_past_room, out_of_turn, no_sender_credit, first_of, rules_for};
 ghost use Rattle.rules.specs.Numbers as numbers;
 ghost use Rattle.router.specs.Picks.{below};
 
@@ -20,7 +20,7 @@ use state::{InputVc, OutputVc};
 // 3: "row breaks the byte rules above, or VC, destination or credit too large"
 fn first_wrong_row(config: Config, part: &[u8]) -> usize
     requires { length part.now ≡ 64 }
-    ensures { below 8 result ≡ firstFrom (rowWrong config part.now) 8 0 }
+    ensures { below 8 result ≡ first_from (row_wrong config part.now) 8 0 }
 {
     let mut i: usize = 0;
     while i < PORT_PLACES {
@@ -35,7 +35,7 @@ fn first_wrong_row(config: Config, part: &[u8]) -> usize
 // 6: "downstream credit where that output VC already has E"
 fn first_past_room(config: Config, outputs: [OutputVc; 32], part: &[u8]) -> usize
     requires { (config.ports ≤ 8) × (length part.now ≡ 64) }
-    ensures { below 8 result ≡ firstFrom (creditPastRoom config outputs part.now) config.ports 0 }
+    ensures { below 8 result ≡ first_from (credit_past_room config outputs part.now) config.ports 0 }
 {
     let mut next: usize = 0;
     while next < config.ports as usize {
@@ -65,7 +65,7 @@ fn first_past_room(config: Config, outputs: [OutputVc; 32], part: &[u8]) -> usiz
 // 4: "B or T with no packet open at that sender VC, or H or S with one open"
 fn first_out_of_turn(config: Config, inputs: [InputVc; 32], part: &[u8]) -> usize
     requires { (config.ports ≤ 8) × (length part.now ≡ 64) }
-    ensures { below 8 result ≡ firstFrom (outOfTurn config inputs part.now) config.ports 0 }
+    ensures { below 8 result ≡ first_from (out_of_turn config inputs part.now) config.ports 0 }
 {
     let mut next: usize = 0;
     while next < config.ports as usize {
@@ -95,7 +95,7 @@ fn first_out_of_turn(config: Config, inputs: [InputVc; 32], part: &[u8]) -> usiz
 // 5: "no sender credit, after phase 1"
 fn first_without_credit(config: Config, paid: [InputVc; 32], part: &[u8]) -> usize
     requires { (config.ports ≤ 8) × (length part.now ≡ 64) }
-    ensures { below 8 result ≡ firstFrom (noSenderCredit config paid part.now) config.ports 0 }
+    ensures { below 8 result ≡ first_from (no_sender_credit config paid part.now) config.ports 0 }
 {
     let mut next: usize = 0;
     while next < config.ports as usize {
@@ -137,7 +137,7 @@ pub(crate) fn judge(
     part: &[u8],
 ) -> Verdict
     requires { config.ports ≤ 8 }
-    ensures { result ≡ first_of (rulesFor config cycle inputs paid outputs part.now) }
+    ensures { result ≡ first_of (rules_for config cycle inputs paid outputs part.now) }
 {
     if CYCLE_LIMIT <= cycle {
         return refusing(RUN_FULL, 0);

@@ -1,13 +1,13 @@
 // Phase 7: the winners leave.
 ghost use Rattle.std.specs.Prelude.{◌≡◌, cond, ℕ, ◌-◌, ◌≤◌, ◌<◌, eqb, get_or, set, replicate};
-ghost use Rattle.base.specs.Flit.{kind_of, endsKind};
-ghost use Rattle.store.specs.Store.{frontOf, popped};
-ghost use Rattle.state.specs.Views.{channelNumber};
+ghost use Rattle.base.specs.Flit.{kind_of, ends_kind};
+ghost use Rattle.store.specs.Store.{front_of, popped};
+ghost use Rattle.state.specs.Views.{channel_number};
 ghost use Rattle.rules.specs.Intake.{newest};
 ghost use Rattle.base.specs.declared.reply.Left.TheVariants as left;
-ghost use Rattle.rules.specs.Allocation.{vcOf};
-ghost use Rattle.rules.specs.Departures.{inputLeft, outputLeft, departure, Leaving, departures};
-ghost use Rattle.router.specs.Picks.{pickIn};
+ghost use Rattle.rules.specs.Allocation.{vc_of};
+ghost use Rattle.rules.specs.Departures.{input_left, output_left, departure, Leaving, departures};
+ghost use Rattle.router.specs.Picks.{pick_in};
 
 use crate::{channel, counts};
 use base::{CHANNEL_PLACES, Config, Departure, Flit, Left, Output, PORT_PLACES, ends};
@@ -23,7 +23,7 @@ pub struct VcsAndLeft {
 
 // "leaves its queue", "T or S unbinds"
 fn after_leaving(input: InputVc, ends: bool) -> InputVc
-    ensures { result ≡ inputLeft ends input }
+    ensures { result ≡ input_left ends input }
 {
     let queued = counts::less_one(input.queued);
     let mut left = input;
@@ -36,7 +36,7 @@ fn after_leaving(input: InputVc, ends: bool) -> InputVc
 
 // "costs one output credit", "and frees the output VC"
 fn after_taking(output: OutputVc, ends: bool) -> OutputVc
-    ensures { result ≡ outputLeft ends output }
+    ensures { result ≡ output_left ends output }
 {
     let credit = counts::less_one(output.credit);
     let mut taken = output;
@@ -66,7 +66,7 @@ fn departed(out_vc: u8, input: u8, vc: u8, flit: Flit) -> Output
 fn winning(config: Config, rows: [u8; 8], picks: [u8; 8], o: usize) -> usize
     requires { o < 8 }
     ensures { result ≡ cond (eqb (get_or rows o 0) 0) 32 (cond (eqb (get_or picks (get_or rows o 0 - 1) 0) 0) 32
-        (channelNumber config (get_or rows o 0 - 1) (get_or picks (get_or rows o 0 - 1) 0 - 1))) }
+        (channel_number config (get_or rows o 0 - 1) (get_or picks (get_or rows o 0 - 1) 0 - 1))) }
 {
     let row = rows[o];
     if row == 0 {
@@ -85,7 +85,7 @@ fn winning(config: Config, rows: [u8; 8], picks: [u8; 8], o: usize) -> usize
 
 // Whether the front flit of channel x is the last of its packet.
 fn ends_packet(x: usize, store: &[u64; 512]) -> bool
-    ensures { result ≡ endsKind (kind_of (frontOf store.now x)) }
+    ensures { result ≡ ends_kind (kind_of (front_of store.now x)) }
 {
     let flit = store::front(x, store);
     ends(flit.kind())
@@ -103,7 +103,7 @@ fn let_go(
     home: &mut [u8; 64],
 ) -> Output
     requires { (1 ≤ config.back) × (config.back ≤ 8) × (o < 8) × (get_or rows o 0 - 1 < 8) }
-    ensures { (result ≡ departure out_vc (get_or rows o 0 - 1) (get_or picks (get_or rows o 0 - 1) 0 - 1) (frontOf store.old x))
+    ensures { (result ≡ departure out_vc (get_or rows o 0 - 1) (get_or picks (get_or rows o 0 - 1) 0 - 1) (front_of store.old x))
         × (store.new ≡ popped store.old x)
         × (home.new ≡ set home.old (newest config.back (get_or rows o 0 - 1)) (get_or picks (get_or rows o 0 - 1) 0)) }
 {
@@ -134,7 +134,7 @@ pub(crate) fn leave(
       home = home.new;
       left = result.left;
     })
-        (departures config (λ (o : ℕ). vcOf (pickIn picks) (pickIn rows o))
+        (departures config (λ (o : ℕ). vc_of (pick_in picks) (pick_in rows o))
         (record {
           inputs = before;
           outputs = earlier;

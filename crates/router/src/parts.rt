@@ -1,6 +1,6 @@
 // What travels by value through a cycle, out of a router and back into one. Only this file takes a router apart.
 ghost use Rattle.std.specs.Prelude.{◌≡◌};
-ghost use Rattle.router.specs.Whole.{parts_of, routerOf};
+ghost use Rattle.router.specs.Whole.{parts_of, router_of};
 
 use arbiter::{Narrow, Wide};
 use base::Config;
@@ -42,7 +42,7 @@ pub(crate) fn pack(
     wire: [u64; 64],
     home: [u8; 64],
 ) -> Router
-    ensures { result ≡ routerOf config cycle parts store wire home }
+    ensures { result ≡ router_of config cycle parts store wire home }
 {
     let inputs = parts.inputs;
     let outputs = parts.outputs;

@@ -1,8 +1,8 @@
 // One row of a cycle: the 8 bytes of a port in the 64-byte part.
 ghost use Rattle.std.specs.Prelude.{◌≡◌, ◌<◌, length};
-ghost use Rattle.rules.specs.Numbers.{rowWrong};
-ghost use Rattle.rules.specs.Rows.{kind_at, vcAt, credit_at, payloadAt, noOffer, rowZero, legalOffer, rowLegal};
-ghost use Rattle.router.specs.Rows.{offerOf, offerAt};
+ghost use Rattle.rules.specs.Numbers.{row_wrong};
+ghost use Rattle.rules.specs.Rows.{kind_at, vc_at, credit_at, payload_at, no_offer, row_zero, legal_offer, row_legal};
+ghost use Rattle.router.specs.Rows.{offer_of, offer_at};
 
 use base::{Config, Flit, SINGLE, starts};
 
@@ -23,7 +23,7 @@ pub enum Row {
 // "payload big-endian"
 fn payload(part: &[u8], i: usize) -> u32
     requires { (length part.now ≡ 64) × (i < 8) }
-    ensures { result ≡ payloadAt part.now i }
+    ensures { result ≡ payload_at part.now i }
 {
     let at = 8 * i;
     16777216 * (part[at + 4] as u32)
@@ -34,7 +34,7 @@ fn payload(part: &[u8], i: usize) -> u32
 
 pub(crate) fn row_of(part: &[u8], i: usize) -> Row
     requires { (length part.now ≡ 64) × (i < 8) }
-    ensures { offerOf result ≡ offerAt part.now i }
+    ensures { offer_of result ≡ offer_at part.now i }
 {
     let at = 8 * i;
     let kind = part[at];
@@ -57,7 +57,7 @@ pub(crate) fn kind_of(part: &[u8], i: usize) -> u8
 
 pub(crate) fn vc_of(part: &[u8], i: usize) -> u8
     requires { (length part.now ≡ 64) × (i < 8) }
-    ensures { result ≡ vcAt part.now i }
+    ensures { result ≡ vc_at part.now i }
 {
     part[8 * i + 1]
 }
@@ -73,7 +73,7 @@ pub(crate) fn credit_of(part: &[u8], i: usize) -> u8
 // "With kind 0, VC, destination and payload are 0."
 fn is_no_offer(part: &[u8], i: usize) -> bool
     requires { (length part.now ≡ 64) × (i < 8) }
-    ensures { result ≡ noOffer part.now i }
+    ensures { result ≡ no_offer part.now i }
 {
     let at = 8 * i;
     if part[at + 1] != 0 {
@@ -88,7 +88,7 @@ fn is_no_offer(part: &[u8], i: usize) -> bool
 // "Ports at or beyond P are all zero."
 fn is_zero(part: &[u8], i: usize) -> bool
     requires { (length part.now ≡ 64) × (i < 8) }
-    ensures { result ≡ rowZero part.now i }
+    ensures { result ≡ row_zero part.now i }
 {
     let at = 8 * i;
     let mut k: usize = 0;
@@ -104,7 +104,7 @@ fn is_zero(part: &[u8], i: usize) -> bool
 // "kind (1 head H, 2 body B, 3 tail T, 4 single S)", "Destination is 0 on B and T.", no "VC, destination .. too large"
 fn is_legal_offer(config: Config, part: &[u8], i: usize) -> bool
     requires { (length part.now ≡ 64) × (i < 8) }
-    ensures { result ≡ legalOffer config part.now i }
+    ensures { result ≡ legal_offer config part.now i }
 {
     let at = 8 * i;
     let kind = part[at];
@@ -122,7 +122,7 @@ fn is_legal_offer(config: Config, part: &[u8], i: usize) -> bool
 
 fn is_row_legal(config: Config, part: &[u8], i: usize) -> bool
     requires { (length part.now ≡ 64) × (i < 8) }
-    ensures { result ≡ rowLegal config part.now i }
+    ensures { result ≡ row_legal config part.now i }
 {
     if config.vcs < part[8 * i + 3] {
         return false;
@@ -136,7 +136,7 @@ fn is_row_legal(config: Config, part: &[u8], i: usize) -> bool
 // 3: "row breaks the byte rules above, or VC, destination or credit too large"
 pub(crate) fn breaks(config: Config, part: &[u8], i: usize) -> bool
     requires { (length part.now ≡ 64) × (i < 8) }
-    ensures { result ≡ rowWrong config part.now i }
+    ensures { result ≡ row_wrong config part.now i }
 {
     if i < config.ports as usize {
         return !is_row_legal(config, part, i);

@@ -1,10 +1,10 @@
 // The cycles of a block, stepped and listed one after another, up to the first refusal.
 ghost use Rattle.std.specs.Prelude.{◌≡◌, true, List, ℕ, ◌+◌, ◌*◌, ◌≤◌, ◌<◌, length};
 ghost use Rattle.trace.specs.Blocks.{held_of};
-ghost use Rattle.listing.specs.Lines.{refusal, finish as Line·finish, cycleLines, flitLines};
-ghost use Rattle.listing.specs.Writing.{writeOutcome};
-ghost use Rattle.router.specs.Running.{endedBy, cycled, cyclesFrom, blockTaken};
-ghost use Rattle.router.specs.Inside.{Within, GoesOn, writingOf};
+ghost use Rattle.listing.specs.Lines.{refusal, finish as line_finish, cycle_lines, flit_lines};
+ghost use Rattle.listing.specs.Writing.{write_outcome};
+ghost use Rattle.router.specs.Running.{ended_by, cycled, cycles_from, block_taken};
+ghost use Rattle.router.specs.Inside.{Within, GoesOn, writing_of};
 
 use crate::cycle::inner_step;
 use crate::parts::Parts;
@@ -26,7 +26,7 @@ pub struct RunParts {
 
 // The bytes that a write took; a refused one took none.
 pub(crate) fn size(written: Written) -> usize
-    ensures { (buffer : List ℕ) → result ≡ (writeOutcome written buffer).bytes }
+    ensures { (buffer : List ℕ) → result ≡ (write_outcome written buffer).bytes }
 {
     match written {
         Written::Lines(bytes) => bytes,
@@ -37,7 +37,7 @@ pub(crate) fn size(written: Written) -> usize
 
 // The flits that leave in a cycle.
 fn flits_of(reply: Reply) -> u64
-    ensures lines { (cycle : ℕ) → result ≡ flitLines (cycleLines cycle reply) }
+    ensures lines { (cycle : ℕ) → result ≡ flit_lines (cycle_lines cycle reply) }
     ensures few { result ≤ 8 }
 {
     let outputs = reply.outputs;
@@ -58,8 +58,8 @@ fn flits_of(reply: Reply) -> u64
 // The run ends with an R line.
 fn refuse(before: RunParts, number: u8, place: u8, out: &mut [u8]) -> RunParts
     requires { Within before.at out.old }
-    ensures { (c : Config) (store wire home : List ℕ) → writingOf c result store wire home out.new
-        ≡ endedBy (refusal number before.cycle place) (writingOf c before store wire home out.old) }
+    ensures { (c : Config) (store wire home : List ℕ) → writing_of c result store wire home out.new
+        ≡ ended_by (refusal number before.cycle place) (writing_of c before store wire home out.old) }
 {
     let mut run = before;
     let bytes = size(listing::write_refusal(out, before.at, number, before.cycle, place));
@@ -78,9 +78,9 @@ fn cycle(
     home: &mut [u8; 64],
     out: &mut [u8],
 ) -> RunParts
-    requires { GoesOn (writingOf config before store.old wire.old home.old out.old) }
-    ensures { writingOf config result store.new wire.new home.new out.new
-        ≡ cycled part.now (writingOf config before store.old wire.old home.old
+    requires { GoesOn (writing_of config before store.old wire.old home.old out.old) }
+    ensures { writing_of config result store.new wire.new home.new out.new
+        ≡ cycled part.now (writing_of config before store.old wire.old home.old
         out.old) }
 {
     let parts = before.parts;
@@ -114,10 +114,10 @@ fn cycles(
     home: &mut [u8; 64],
     out: &mut [u8],
 ) -> RunParts
-    requires { GoesOn (writingOf config before store.old wire.old home.old out.old) × (512 ≤ length block.now)
+    requires { GoesOn (writing_of config before store.old wire.old home.old out.old) × (512 ≤ length block.now)
         × (held_of block.now ≤ 7) × (held ≡ held_of block.now) }
-    ensures { writingOf config result store.new wire.new home.new out.new
-        ≡ cyclesFrom block.now 0 held (writingOf config before store.old wire.old home.old
+    ensures { writing_of config result store.new wire.new home.new out.new
+        ≡ cycles_from block.now 0 held (writing_of config before store.old wire.old home.old
         out.old) }
 {
     let mut run = before;
@@ -136,8 +136,8 @@ fn cycles(
 // The list ends with the E line.
 fn finish(before: RunParts, out: &mut [u8]) -> RunParts
     requires { Within before.at out.old }
-    ensures { (c : Config) (store wire home : List ℕ) → writingOf c result store wire home out.new
-        ≡ endedBy (Line·finish before.cycle before.flits) (writingOf c before store wire home out.old) }
+    ensures { (c : Config) (store wire home : List ℕ) → writing_of c result store wire home out.new
+        ≡ ended_by (line_finish before.cycle before.flits) (writing_of c before store wire home out.old) }
 {
     let mut run = before;
     let bytes = size(listing::write_end(out, before.at, before.cycle, before.flits));
@@ -156,9 +156,9 @@ pub(crate) fn block(
     home: &mut [u8; 64],
     out: &mut [u8],
 ) -> RunParts
-    requires { (before.place.configured ≡ true) × GoesOn (writingOf config before store.old wire.old home.old out.old) }
-    ensures { writingOf config result store.new wire.new home.new out.new
-        ≡ blockTaken block.now (writingOf config before store.old wire.old home.old
+    requires { (before.place.configured ≡ true) × GoesOn (writing_of config before store.old wire.old home.old out.old) }
+    ensures { writing_of config result store.new wire.new home.new out.new
+        ≡ block_taken block.now (writing_of config before store.old wire.old home.old
         out.old) }
 {
     let answer = trace::judge(before.place, before.cycle, block);

@@ -1,11 +1,11 @@
 // Phase 6: switch allocation.
 ghost use Rattle.std.specs.Prelude.{◌≡◌, false, not, List, ℕ, ◌*◌, ◌/◌, ◌^◌, ◌≤◌, ◌<◌, eqb, length, get_or};
 ghost use Rattle.base.specs.Bits.{bit, word_of};
-ghost use Rattle.arbiter.specs.Arbiter.{ofNarrow, choice};
-ghost use Rattle.state.specs.Fresh.{freshInput, freshOutput, pastNarrow};
+ghost use Rattle.arbiter.specs.Arbiter.{of_narrow, choice};
+ghost use Rattle.state.specs.Fresh.{fresh_input, fresh_output, past_narrow};
 ghost use Rattle.rules.specs.Ports.{named};
-ghost use Rattle.rules.specs.Allocation.{isReady, isFor, picked, narrowMoved};
-ghost use Rattle.router.specs.Picks.{pickIn, asksIn};
+ghost use Rattle.rules.specs.Allocation.{is_ready, is_for, picked, narrow_moved};
+ghost use Rattle.router.specs.Picks.{pick_in, asks_in};
 
 use crate::{channel, counts};
 use arbiter::{Narrow, Pick, Requests};
@@ -15,8 +15,8 @@ use state::{Binding, InputVc, OutputVc};
 // "A bound input VC (also one bound just now) is ready when its queue is not empty and its output VC has credit.": the channel whose credit
 // decides; 32, where there is none, if it is not bound or its queue is empty.
 fn waits_for(config: Config, input: InputVc) -> usize
-    ensures { (outputs : List OutputVc) → length outputs ≡ 32 → isReady config outputs input
-        ≡ not (eqb (get_or outputs result (freshOutput 0)).credit 0) }
+    ensures { (outputs : List OutputVc) → length outputs ≡ 32 → is_ready config outputs input
+        ≡ not (eqb (get_or outputs result (fresh_output 0)).credit 0) }
 {
     if input.queued == 0 {
         return CHANNEL_PLACES;
@@ -31,7 +31,7 @@ fn waits_for(config: Config, input: InputVc) -> usize
 // Who is ready, as a set of channels.
 pub(crate) fn ready(config: Config, inputs: [InputVc; 32], outputs: [OutputVc; 32]) -> u32
     requires { config.ports * config.vcs ≤ 32 }
-    ensures { result ≡ word_of (λ (x : ℕ). isReady config outputs (get_or inputs x (freshInput 0))) (config.ports * config.vcs) }
+    ensures { result ≡ word_of (λ (x : ℕ). is_ready config outputs (get_or inputs x (fresh_input 0))) (config.ports * config.vcs) }
 {
     let mut set: u32 = 0;
     let mut next: usize = 0;
@@ -55,7 +55,7 @@ pub(crate) fn ready(config: Config, inputs: [InputVc; 32], outputs: [OutputVc; 3
 
 // A pick as a number: 0 for none, else 1 + the winner.
 fn pick(arbiter: Narrow, code: u8, n: u32, set: u32) -> u8
-    ensures { named result ≡ choice 8 code n (bit set) (ofNarrow arbiter) }
+    ensures { named result ≡ choice 8 code n (bit set) (of_narrow arbiter) }
 {
     let pick = arbiter.choose(code, n, Requests { set });
     let Pick::Winner(w) = pick else {
@@ -67,8 +67,8 @@ fn pick(arbiter: Narrow, code: u8, n: u32, set: u32) -> u8
 // "Each input's V-wide arbiter picks one ready VC."
 pub(crate) fn pick_inputs(config: Config, ready: u32, arbiters: [Narrow; 8]) -> [u8; 8]
     requires { (config.ports ≤ 8) × (config.vcs ≤ 4) }
-    ensures { (i : ℕ) → i < config.ports → pickIn result i
-        ≡ choice 8 config.arbiter config.vcs (bit (ready / 2 ^ (i * config.vcs))) (ofNarrow (get_or arbiters i pastNarrow)) }
+    ensures { (i : ℕ) → i < config.ports → pick_in result i
+        ≡ choice 8 config.arbiter config.vcs (bit (ready / 2 ^ (i * config.vcs))) (of_narrow (get_or arbiters i past_narrow)) }
 {
     let n = config.vcs as u32;
     let mut picks = [0u8; 8];
@@ -85,7 +85,7 @@ pub(crate) fn pick_inputs(config: Config, ready: u32, arbiters: [Narrow; 8]) -> 
 
 // The output that an input VC is bound to; 8 where it is not bound.
 fn output_of(input: InputVc) -> usize
-    ensures { (o : ℕ) → o < 8 → eqb result o ≡ isFor o input.binding }
+    ensures { (o : ℕ) → o < 8 → eqb result o ≡ is_for o input.binding }
 {
     let binding = input.binding;
     let Binding::Bound(to) = binding else {
@@ -97,8 +97,8 @@ fn output_of(input: InputVc) -> usize
 // "Switch requests form a table, one row for each input and one column for each output": the pick where the input asks.
 pub(crate) fn table_of(config: Config, inputs: [InputVc; 32], picks: [u8; 8]) -> [[u8; 8]; 8]
     requires { config.ports ≤ 8 }
-    ensures by_index { (i o : ℕ) → i < config.ports → o < 8 → asksIn result i o ≡ picked config inputs i o (pickIn picks i) }
-    ensures beyond { (i o : ℕ) → config.ports ≤ i → asksIn result i o ≡ false }
+    ensures by_index { (i o : ℕ) → i < config.ports → o < 8 → asks_in result i o ≡ picked config inputs i o (pick_in picks i) }
+    ensures beyond { (i o : ℕ) → config.ports ≤ i → asks_in result i o ≡ false }
 {
     let mut table = [[0u8; 8]; 8];
     let mut next: usize = 0;
@@ -126,7 +126,7 @@ pub(crate) fn table_of(config: Config, inputs: [InputVc; 32], picks: [u8; 8]) ->
 // The inputs that ask at an output: one column of the table.
 fn column(table: &[[u8; 8]; 8], o: usize) -> u32
     requires { o < 8 }
-    ensures { result ≡ word_of (λ (i : ℕ). asksIn table.now i o) 8 }
+    ensures { result ≡ word_of (λ (i : ℕ). asks_in table.now i o) 8 }
 {
     let mut set: u32 = 0;
     let mut i: usize = 0;
@@ -143,9 +143,9 @@ fn column(table: &[[u8; 8]; 8], o: usize) -> u32
 // "each output's P-wide arbiter picks one row."
 pub(crate) fn pick_outputs(config: Config, table: &[[u8; 8]; 8], arbiters: [Narrow; 8]) -> [u8; 8]
     requires { config.ports ≤ 8 }
-    ensures { (o : ℕ) → o < config.ports → pickIn result o
-        ≡ choice 8 config.arbiter config.ports (λ (i : ℕ). asksIn table.now i o)
-        (ofNarrow (get_or arbiters o pastNarrow)) }
+    ensures { (o : ℕ) → o < config.ports → pick_in result o
+        ≡ choice 8 config.arbiter config.ports (λ (i : ℕ). asks_in table.now i o)
+        (of_narrow (get_or arbiters o past_narrow)) }
 {
     let n = config.ports as u32;
     let mut picks = [0u8; 8];
@@ -161,7 +161,7 @@ pub(crate) fn pick_outputs(config: Config, table: &[[u8; 8]; 8], arbiters: [Narr
 // "Both arbiters move on after their own pick.": n wide, of the ports that there are.
 pub(crate) fn move_on(config: Config, n: u32, before: [Narrow; 8], picks: [u8; 8]) -> [Narrow; 8]
     requires { config.ports ≤ 8 }
-    ensures { result ≡ narrowMoved config n (pickIn picks) before }
+    ensures { result ≡ narrow_moved config n (pick_in picks) before }
 {
     let mut arbiters = before;
     let mut next: usize = 0;

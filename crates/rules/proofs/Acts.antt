@@ -12,8 +12,8 @@ use lib.Arith.{lt_of_le-ne}
 use lib.Dec.{eqb}
 use lib.ListN.{length, get_or, set}
 use borrow.Author.Tests.{eqb-true, eqb-false, eq-eqb}
-use Rattle.rules.specs.Ports.{overPorts}
-use Rattle.rules.proofs.Folds.{changed, changedAt, over-same, turns, turns-length, turns-elsewhere, turns_at}
+use Rattle.rules.specs.Ports.{over_ports}
+use Rattle.rules.proofs.Folds.{changed, changed_at, over_same, turns, turns-length, turns-elsewhere, turns_at}
 
 -- port i, of the first n, acts by e on place y
 pub record Actor {E : Type 0} (act : ℕ → Option E) (place : ℕ → E → ℕ) (n y : ℕ) : Type 0 where
@@ -28,9 +28,9 @@ abbrev pub Untouched : {E : Type 0} → (ℕ → Option E) → (ℕ → E → �
 Untouched {E} act place n y = (i : ℕ) (e : E) → i < n → act i ≡ some e → place i e ≢ y
 
 -- some port acts on a place, or none does
-pub touched-or-not : {E : Type 0} (act : ℕ → Option E) (place : ℕ → E → ℕ) (n y : ℕ) → Actor act place n y ⊎ Untouched act place n y
-touched-or-not act place zero y = inr (λ i e l. absurd (omega arith))
-touched-or-not {E} act place (suc n) y = go (act n) refl (touched-or-not act place n y)
+pub touched_or_not : {E : Type 0} (act : ℕ → Option E) (place : ℕ → E → ℕ) (n y : ℕ) → Actor act place n y ⊎ Untouched act place n y
+touched_or_not act place zero y = inr (λ i e l. absurd (omega arith))
+touched_or_not {E} act place (suc n) y = go (act n) refl (touched_or_not act place n y)
   where
     more : ((e : E) → act n ≡ some e → place n e ≢ y) → Untouched act place n y → Untouched act place (suc n) y
     more here below i e l q = last (eqb i n) refl
@@ -70,38 +70,38 @@ module _ {A E : Type 0} (d : A) (act : ℕ → Option E) (place : ℕ → E → 
   changing i none a = a
   changing i (some e) a = change i e a
 
-  as-turns : (n : ℕ) (xs : List A) → overPorts n deeds xs ≡ overPorts n
+  as_turns : (n : ℕ) (xs : List A) → over_ports n deeds xs ≡ over_ports n
       (turns d (λ (i : ℕ). placed i (act i)) (λ (i : ℕ). changing i (act i))) xs
-  as-turns n xs =
-      over-same n deeds (turns d (λ (i : ℕ). placed i (act i)) (λ (i : ℕ). changing i (act i))) xs (λ t i l. go t i (act i))
+  as_turns n xs =
+      over_same n deeds (turns d (λ (i : ℕ). placed i (act i)) (λ (i : ℕ). changing i (act i))) xs (λ t i l. go t i (act i))
     where
       go : (t : List A) (i : ℕ) (o : Option E)
           → acted d (place i) (change i) o t ≡ changed d (changing i o) (placed i o) t
       go t i none = refl
       go t i (some e) = refl
 
-  placed-acts : (i y : ℕ) (o : Option E) → placed i o ≡ some y → (e : E) × (o ≡ some e) × (place i e ≡ y)
-  placed-acts i y none q = absurd (none-ne-some y q)
-  placed-acts i y (some e) q = (e, refl, some-injective (place i e) y q)
+  placed_acts : (i y : ℕ) (o : Option E) → placed i o ≡ some y → (e : E) × (o ≡ some e) × (place i e ≡ y)
+  placed_acts i y none q = absurd (none-ne-some y q)
+  placed_acts i y (some e) q = (e, refl, some-injective (place i e) y q)
 
   -- the list keeps its length
-  pub deeds-length : (n : ℕ) (xs : List A) → length (overPorts n deeds xs) ≡ length xs
-  deeds-length n xs = ap length (as-turns n xs) ∙ turns-length d (λ (i : ℕ). placed i (act i)) (λ (i : ℕ). changing i (act i)) n xs
+  pub deeds_length : (n : ℕ) (xs : List A) → length (over_ports n deeds xs) ≡ length xs
+  deeds_length n xs = ap length (as_turns n xs) ∙ turns-length d (λ (i : ℕ). placed i (act i)) (λ (i : ℕ). changing i (act i)) n xs
 
   -- a place that no act is on stays
-  pub untouched-stays : (n : ℕ) (xs : List A) (y : ℕ) → Untouched act place n y → get_or (overPorts n deeds xs) y d ≡ get_or xs y d
-  untouched-stays n xs y off =
-      ap (λ (l : List A). get_or l y d) (as-turns n xs)
+  pub untouched_stays : (n : ℕ) (xs : List A) (y : ℕ) → Untouched act place n y → get_or (over_ports n deeds xs) y d ≡ get_or xs y d
+  untouched_stays n xs y off =
+      ap (λ (l : List A). get_or l y d) (as_turns n xs)
       ∙ turns-elsewhere d (λ (i : ℕ). placed i (act i)) (λ (i : ℕ). changing i (act i)) n xs y
-      (λ i l q. let r = placed-acts i y (act i) q in off i r.0 l r.1 r.2)
+      (λ i l q. let r = placed_acts i y (act i) q in off i r.0 l r.1 r.2)
 
   -- a place that one port alone acts on is changed by its act
-  pub touched-changes : (n : ℕ) (xs : List A) (i : ℕ) (e : E) → i < n → act i ≡ some e → place i e < length xs
+  pub touched_changes : (n : ℕ) (xs : List A) (i : ℕ) (e : E) → i < n → act i ≡ some e → place i e < length xs
       → ((j : ℕ) (f : E) → j < n → act j ≡ some f → place j f ≡ place i e → j ≡ i)
-      → get_or (overPorts n deeds xs) (place i e) d ≡ change i e (get_or xs (place i e) d)
-  touched-changes n xs i e l q m alone =
-      ap (λ (l : List A). get_or l (place i e) d) (as-turns n xs)
+      → get_or (over_ports n deeds xs) (place i e) d ≡ change i e (get_or xs (place i e) d)
+  touched_changes n xs i e l q m alone =
+      ap (λ (l : List A). get_or l (place i e) d) (as_turns n xs)
       ∙ turns_at d (λ (j : ℕ). placed j (act j)) (λ (j : ℕ). changing j (act j)) n xs (place i e) i l m
-      (λ j h n p. let r = placed-acts j (place i e) (act j) p in n (alone j r.0 h r.1 r.2))
-      ∙ ap (λ (o : Option E). changedAt (place i e) (changing i o) (placed i o) (get_or xs (place i e) d)) q
+      (λ j h n p. let r = placed_acts j (place i e) (act j) p in n (alone j r.0 h r.1 r.2))
+      ∙ ap (λ (o : Option E). changed_at (place i e) (changing i o) (placed i o) (get_or xs (place i e) d)) q
       ∙ ap (λ (b : Bool). cond b (change i e (get_or xs (place i e) d)) (get_or xs (place i e) d)) (eq-eqb (place i e) (place i e) refl)

@@ -11,56 +11,56 @@ use lib.Dec.{eqb, ltb}
 use lib.ListN.{replicate, replicate-append-replicate}
 use borrow.Author.Tests.{ne_eqb, ltb-true, lt-ltb}
 use Rattle.base.specs.declared.config.Config.{Config}
-use Rattle.model.specs.Channel.{afterCycle}
+use Rattle.model.specs.Channel.{after_cycle}
 use Rattle.model.specs.Line.{out, shift}
 use Rattle.model.specs.Phases as phases
-use Rattle.model.specs.Phases.{creditFor, onVc}
+use Rattle.model.specs.Phases.{credit_for, on_vc}
 use Rattle.state.specs.declared.Router.{Router}
-use Rattle.state.specs.Channels.{freshView, isThere}
+use Rattle.state.specs.Channels.{fresh_view, is_there}
 use Rattle.trace.specs.Bytes.{AreBytes}
 use Rattle.rules.specs.declared.Verdict.TheVariants.{Accepted}
-use Rattle.rules.specs.Free.{channelOf, eventOf}
+use Rattle.rules.specs.Free.{channel_of, event_of}
 use Rattle.rules.specs.Ports.{named}
-use Rattle.rules.specs.Rows.{credit_at, brings, vcAt, flitAt}
+use Rattle.rules.specs.Rows.{credit_at, brings, vc_at, flit_at}
 use Rattle.rules.specs.Step.{step_of}
-use Rattle.rules.proofs.Accepted.{accepted-none, accepted-before}
-use Rattle.rules.proofs.ChosenViews.{is-there, credit-named}
+use Rattle.rules.proofs.Accepted.{accepted_none, accepted_before}
+use Rattle.rules.proofs.ChosenViews.{is_there-law, credit_named}
 use Rattle.rules.proofs.IntakeSound.{permitted}
 use Rattle.rules.proofs.LeavingViews.{one}
 use Rattle.rules.proofs.Offers.{offered}
 
 -- a line with the same in each place
 module _ {A : Type 0} (z : A) where
-  fresh-out : (n : ℕ) → out z (replicate n z) ≡ z
-  fresh-out zero = refl
-  fresh-out (suc n) = refl
+  fresh_out : (n : ℕ) → out z (replicate n z) ≡ z
+  fresh_out zero = refl
+  fresh_out (suc n) = refl
 
-  fresh-shift : (n : ℕ) → 1 ≤ n → shift (replicate n z) z ≡ replicate n z
-  fresh-shift zero h = absurd (omega arith)
-  fresh-shift (suc n) h = replicate-append-replicate n 1 z ∙ ap (λ (m : ℕ). replicate m z) (add-one n)
+  fresh_shift : (n : ℕ) → 1 ≤ n → shift (replicate n z) z ≡ replicate n z
+  fresh_shift zero h = absurd (omega arith)
+  fresh_shift (suc n) h = replicate-append-replicate n 1 z ∙ ap (λ (m : ℕ). replicate m z) (add-one n)
 
 -- nothing comes to a fresh channel, and it stays
-pub fresh-stays : (c : Config) → 1 ≤ c.forward → 1 ≤ c.back → channelOf (freshView c) ≡ afterCycle (channelOf (freshView c)) [] 0
-fresh-stays c f b =
+pub fresh_stays : (c : Config) → 1 ≤ c.forward → 1 ≤ c.back → channel_of (fresh_view c) ≡ after_cycle (channel_of (fresh_view c)) [] 0
+fresh_stays c f b =
     let taken : 0 ≡ 0 - out 0 (replicate c.back 0) + 0 = omega arith in
     λ t.
     record {
       taken = taken t;
-      wire = sym (fresh-shift [] c.forward f) t;
-      queue = sym (fresh-out [] c.forward) t;
-      home = sym (fresh-shift 0 c.back b) t;
+      wire = sym (fresh_shift [] c.forward f) t;
+      queue = sym (fresh_out [] c.forward) t;
+      home = sym (fresh_shift 0 c.back b) t;
     }
 
 -- the flit that a port that there is brings on a VC
-pub offered-alike : (c : Config) (part : List ℕ) (i v : ℕ) → i < c.ports → phases.offered (eventOf c part) i v ≡ offered part i v
-unfolding eventOf
-offered-alike c part i v port =
-    ap (λ (b : Bool). onVc v (cond (b && brings part i) (some (record { vc = vcAt part i; flit = flitAt part i })) none))
+pub offered_alike : (c : Config) (part : List ℕ) (i v : ℕ) → i < c.ports → phases.offered (event_of c part) i v ≡ offered part i v
+unfolding event_of
+offered_alike c part i v port =
+    ap (λ (b : Bool). on_vc v (cond (b && brings part i) (some (record { vc = vc_at part i; flit = flit_at part i })) none))
     (lt-ltb i c.ports port)
     ∙ go (brings part i)
   where
-    go : (b : Bool) → onVc v (cond b (some (record { vc = vcAt part i; flit = flitAt part i })) none)
-        ≡ cond (b && eqb (vcAt part i) v) (flitAt part i ∷ []) []
+    go : (b : Bool) → on_vc v (cond b (some (record { vc = vc_at part i; flit = flit_at part i })) none)
+        ≡ cond (b && eqb (vc_at part i) v) (flit_at part i ∷ []) []
     go true = refl
     go false = refl
 
@@ -69,29 +69,29 @@ module _ (s : Router) (part : List ℕ) (bytes : AreBytes part) (accepted : (ste
   c = s.config
 
   -- no flit is brought on an input VC that there is not
-  pub offered-beyond : (i v : ℕ) → isThere c i v ≡ false → phases.offered (eventOf c part) i v ≡ []
-  unfolding eventOf
-  offered-beyond i v out = go (ltb i c.ports) refl (brings part i) refl
+  pub offered_beyond : (i v : ℕ) → is_there c i v ≡ false → phases.offered (event_of c part) i v ≡ []
+  unfolding event_of
+  offered_beyond i v out = go (ltb i c.ports) refl (brings part i) refl
     where
       go : (b : Bool) → ltb i c.ports ≡ b → (d : Bool) → brings part i ≡ d
-          → onVc v (cond (b && d) (some (record { vc = vcAt part i; flit = flitAt part i })) none) ≡ []
+          → on_vc v (cond (b && d) (some (record { vc = vc_at part i; flit = flit_at part i })) none) ≡ []
       go false p d q = refl
       go true p false q = refl
       go true p true q =
           let port = ltb-true i c.ports p in
-          let low = ((permitted s part (accepted-before s part bytes accepted) (accepted-none s part bytes accepted)).offers i port q).vc in
-          ap (λ (b : Bool). cond b (flitAt part i ∷ []) [])
-          (ne_eqb (vcAt part i) v (λ k. false≢true (sym out ∙ is-there c i v port (omega arith))))
+          let low = ((permitted s part (accepted_before s part bytes accepted) (accepted_none s part bytes accepted)).offers i port q).vc in
+          ap (λ (b : Bool). cond b (flit_at part i ∷ []) [])
+          (ne_eqb (vc_at part i) v (λ k. false≢true (sym out ∙ is_there-law c i v port (omega arith))))
 
   -- no credit comes to an output VC that there is not
-  pub credit-beyond : (o w : ℕ) → isThere c o w ≡ false → creditFor w ((eventOf c part).credit o) ≡ 0
-  unfolding eventOf
-  credit-beyond o w out = go (ltb o c.ports) refl
+  pub credit_beyond : (o w : ℕ) → is_there c o w ≡ false → credit_for w ((event_of c part).credit o) ≡ 0
+  unfolding event_of
+  credit_beyond o w out = go (ltb o c.ports) refl
     where
-      go : (b : Bool) → ltb o c.ports ≡ b → creditFor w (cond b (named (credit_at part o)) none) ≡ 0
+      go : (b : Bool) → ltb o c.ports ≡ b → credit_for w (cond b (named (credit_at part o)) none) ≡ 0
       go false p = refl
       go true p =
           let port = ltb-true o c.ports p in
-          let low = ((permitted s part (accepted-before s part bytes accepted) (accepted-none s part bytes accepted)).credits o port).there in
-          credit-named w (credit_at part o)
-          ∙ ap one (ne_eqb (credit_at part o) (w + 1) (λ k. false≢true (sym out ∙ is-there c o w port (omega arith))))
+          let low = ((permitted s part (accepted_before s part bytes accepted) (accepted_none s part bytes accepted)).credits o port).there in
+          credit_named w (credit_at part o)
+          ∙ ap one (ne_eqb (credit_at part o) (w + 1) (λ k. false≢true (sym out ∙ is_there-law c o w port (omega arith))))

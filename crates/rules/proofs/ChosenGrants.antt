@@ -12,143 +12,143 @@ use lib.ListN.{get_or}
 use borrow.Author.Tests.{eqb-true, eq-eqb, ne_eqb, ltb-true}
 use Rattle.base.specs.declared.config.Config.{Config}
 use Rattle.base.specs.declared.flit.Flit.{Flit}
-use Rattle.base.specs.Flit.{kind_of, destinationOf, startsKind, head, single}
-use Rattle.base.proofs.Search.{both, first-at}
-use Rattle.model.specs.Channel.{queueNow}
+use Rattle.base.specs.Flit.{kind_of, destination_of, starts_kind, head, single}
+use Rattle.base.proofs.Search.{both, first_at}
+use Rattle.model.specs.Channel.{queue_now}
 use Rattle.model.specs.Cycle.{Event}
 use Rattle.model.specs.Router as free
 use Rattle.state.specs.declared.Arbiters.{Arbiters}
 use Rattle.state.specs.declared.Router.{Router}
-use Rattle.state.specs.Channels.{isThere}
-use Rattle.state.specs.Fresh.{freshInput}
+use Rattle.state.specs.Channels.{is_there}
+use Rattle.state.specs.Fresh.{fresh_input}
 use Rattle.state.specs.Sound as sound
-use Rattle.state.specs.Sound.{all, legalFlit, queuesLegal, frontIsFor}
+use Rattle.state.specs.Sound.{all, legal_flit, queues_legal, front_is_for}
 use Rattle.store.specs.Store.{first_slot}
-use Rattle.state.specs.Views.{channelNumber, input_at, outputAt, queueAt, queueOf}
+use Rattle.state.specs.Views.{channel_number, input_at, output_at, queue_at, queue_of}
 use Rattle.trace.specs.Bytes.{AreBytes}
 use Rattle.rules.specs.declared.Verdict.TheVariants.{Accepted}
-use Rattle.rules.specs.Allocation.{Grant, freeVc, grantOf, requesterOf}
-use Rattle.rules.specs.Chosen.{names, leastFree, bindsAt, toVc, grantBy, grant}
-use Rattle.rules.specs.Free.{name_of, freeOf, eventOf}
-use Rattle.rules.specs.Intake.{creditsReached, creditsReturned, landed, offersTaken}
-use Rattle.rules.specs.Step.{takenIn, step_of}
-use Rattle.rules.proofs.Accepted.{accepted-before, taken-sound}
+use Rattle.rules.specs.Allocation.{Grant, lowest_free_vc, grant_of, requester_of}
+use Rattle.rules.specs.Chosen.{names, least_free, binds_at, to_vc, grant_by, grant}
+use Rattle.rules.specs.Free.{name_of, free_of, event_of}
+use Rattle.rules.specs.Intake.{credits_reached, credits_returned, landed, offers_taken}
+use Rattle.rules.specs.Step.{taken_in, step_of}
+use Rattle.rules.proofs.Accepted.{accepted_before, taken_sound}
 use Rattle.rules.proofs.Acts.{Actor, Untouched}
-use Rattle.rules.proofs.Bound.{asking, granted-or-not}
-use Rattle.rules.proofs.Channels.{channel-at}
-use Rattle.rules.proofs.Choices.{grantTo, grant-to, no-grant-to}
-use Rattle.rules.proofs.ChosenBinds.{least-alike, binds-alike}
-use Rattle.rules.proofs.ChosenViews.{is-there, queue-came}
-use Rattle.rules.proofs.Facts.{sound-legal}
-use Rattle.rules.proofs.Grants.{grant-is}
+use Rattle.rules.proofs.Bound.{asking, granted_or_not}
+use Rattle.rules.proofs.Channels.{channel_at}
+use Rattle.rules.proofs.Choices.{grant_to, grant_to-law, no_grant_to}
+use Rattle.rules.proofs.ChosenBinds.{least_alike, binds_alike}
+use Rattle.rules.proofs.ChosenViews.{is_there-law, queue_came}
+use Rattle.rules.proofs.Facts.{sound_legal}
+use Rattle.rules.proofs.Grants.{grant_is}
 
 -- a legal flit names a port that there is
-destination-there : (c : Config) (x : Flit) → 0 < c.ports → legalFlit c x ≡ true → destinationOf x < c.ports
-unfolding legalFlit
-destination-there c x pos e =
+destination_there : (c : Config) (x : Flit) → 0 < c.ports → legal_flit c x ≡ true → destination_of x < c.ports
+unfolding legal_flit
+destination_there c x pos e =
     let p = both _ (ltb x.word (2 ^ 38)) e in
     let q = both (leb head (kind_of x) && leb (kind_of x) single) _ p.0 in
-    go (startsKind (kind_of x)) q.1
+    go (starts_kind (kind_of x)) q.1
   where
-    go : (b : Bool) → cond b (ltb (destinationOf x) c.ports) (eqb (destinationOf x) 0) ≡ true → destinationOf x < c.ports
-    go true t = ltb-true (destinationOf x) c.ports t
-    go false t = let z = eqb-true (destinationOf x) 0 t in omega arith
+    go : (b : Bool) → cond b (ltb (destination_of x) c.ports) (eqb (destination_of x) 0) ≡ true → destination_of x < c.ports
+    go true t = ltb-true (destination_of x) c.ports t
+    go false t = let z = eqb-true (destination_of x) 0 t in omega arith
 
 module _ (s : Router) (part : List ℕ) (bytes : AreBytes part) (accepted : (step_of s part).verdict ≡ Accepted) where
   abbrev c : Config
   c = s.config
 
   abbrev came : Router
-  came = takenIn part s
+  came = taken_in part s
 
   abbrev a : Arbiters
   a = s.arbiters
 
   abbrev f : free.Router Flit
-  f = freeOf s
+  f = free_of s
 
   abbrev e : Event Flit
-  e = eventOf c part
+  e = event_of c part
 
   -- what an output grants is its lowest-numbered free VC
-  given-least : (o : ℕ) (g : Grant) → grantOf came o ≡ some g → freeVc c came.outputs o ≡ some g.vc
-  unfolding freeVc takenIn offersTaken landed creditsReturned creditsReached
-  given-least o g q =
-      let r = grant-is came o g q in
-      first-at (λ (w : ℕ). sound.isFree (outputAt c came.outputs o w).holder) c.vcs 0 g.vc
+  given_least : (o : ℕ) (g : Grant) → grant_of came o ≡ some g → lowest_free_vc c came.outputs o ≡ some g.vc
+  unfolding lowest_free_vc taken_in offers_taken landed credits_returned credits_reached
+  given_least o g q =
+      let r = grant_is came o g q in
+      first_at (λ (w : ℕ). sound.is_vc_free (output_at c came.outputs o w).holder) c.vcs 0 g.vc
       (record {
         from = omega arith;
-        below = let l = r.vc-below in omega arith;
-        passes = ap sound.isFree r.free;
+        below = let l = r.vc_below in omega arith;
+        passes = ap sound.is_vc_free r.free;
         before = λ w h l. r.lowest w l;
       })
 
   module _ (i v : ℕ) (port : i < c.ports) (vc : v < c.vcs) where
     abbrev x : ℕ
-    x = channelNumber c i v
+    x = channel_number c i v
 
     abbrev queue : List Flit
-    queue = queueOf c came.store i v (input_at c came.inputs i v).queued
+    queue = queue_of c came.store i v (input_at c came.inputs i v).queued
 
-    legal : all (legalFlit c) queue ≡ true
-    unfolding queuesLegal takenIn offersTaken landed creditsReturned creditsReached
+    legal : all (legal_flit c) queue ≡ true
+    unfolding queues_legal taken_in offers_taken landed credits_returned credits_reached
     legal =
-        channel-at c (λ i v. all (legalFlit c) (queueOf c came.store i v (input_at c came.inputs i v).queued))
-        (taken-sound s part bytes accepted).flow.queues i v port vc
+        channel_at c (λ i v. all (legal_flit c) (queue_of c came.store i v (input_at c came.inputs i v).queued))
+        (taken_sound s part bytes accepted).flow.queues i v port vc
 
-    front-there : (y : Flit) (q : List Flit) → queue ≡ y ∷ q → destinationOf y < c.ports
+    front_there : (y : Flit) (q : List Flit) → queue ≡ y ∷ q → destination_of y < c.ports
     unfolding all
-    front-there y q r =
-        let pos = (sound-legal s (accepted-before s part bytes accepted)).ports.0 in
-        destination-there c y (omega arith) (both (legalFlit c y) (all (legalFlit c) q) (sym (ap (all (legalFlit c)) r) ∙ legal)).0
+    front_there y q r =
+        let pos = (sound_legal s (accepted_before s part bytes accepted)).ports.0 in
+        destination_there c y (omega arith) (both (legal_flit c y) (all (legal_flit c) q) (sym (ap (all (legal_flit c)) r) ∙ legal)).0
 
     -- an output grants it the VC
-    granted-at : (o : ℕ) (g : Grant) → o < c.ports → grantOf came o ≡ some g → g.requester ≡ x → (q : List Flit) → frontIsFor o q ≡ true
-        → grantBy c a f e i v q ≡ some (record { output = o; vc = g.vc })
+    granted-at : (o : ℕ) (g : Grant) → o < c.ports → grant_of came o ≡ some g → g.requester ≡ x → (q : List Flit) → front_is_for o q ≡ true
+        → grant_by c a f e i v q ≡ some (record { output = o; vc = g.vc })
     granted-at o g h r there [] front = absurd (false≢true front)
     granted-at o g h r there (y ∷ q) front =
-        let to : destinationOf y ≡ o = eqb-true (destinationOf y) o (both (startsKind (kind_of y)) (eqb (destinationOf y) o) front).1 in
-        ap (λ (o : ℕ). cond (names x (bindsAt c a f e o)) (toVc c a f e o (leastFree c a f e o)) none) to
-        ∙ ap₂ (λ (b w : Option ℕ). cond (names x b) (toVc c a f e o w) none) (binds-alike s part bytes accepted o h ∙ ap requesterOf r)
-        (least-alike s part bytes accepted o h ∙ given-least o g r)
+        let to : destination_of y ≡ o = eqb-true (destination_of y) o (both (starts_kind (kind_of y)) (eqb (destination_of y) o) front).1 in
+        ap (λ (o : ℕ). cond (names x (binds_at c a f e o)) (to_vc c a f e o (least_free c a f e o)) none) to
+        ∙ ap₂ (λ (b w : Option ℕ). cond (names x b) (to_vc c a f e o w) none) (binds_alike s part bytes accepted o h ∙ ap requester_of r)
+        (least_alike s part bytes accepted o h ∙ given_least o g r)
         ∙ ap (λ (b : Bool). cond b (some (record { output = o; vc = g.vc })) none) (eq-eqb g.requester x there)
 
     -- no output grants it one
-    ungranted-at : Untouched (grantOf came) (asking came) c.ports x → (q : List Flit) → queue ≡ q → grantBy c a f e i v q ≡ none
+    ungranted-at : Untouched (grant_of came) (asking came) c.ports x → (q : List Flit) → queue ≡ q → grant_by c a f e i v q ≡ none
     ungranted-at off [] r = refl
     ungranted-at off (y ∷ q) r =
-        ap (λ (b : Option ℕ). cond (names x b) (toVc c a f e (destinationOf y) (leastFree c a f e (destinationOf y))) none)
-        (binds-alike s part bytes accepted (destinationOf y) (front-there y q r))
-        ∙ ap (λ (b : Bool). cond b (toVc c a f e (destinationOf y) (leastFree c a f e (destinationOf y))) none)
-        (go (grantOf came (destinationOf y)) refl)
+        ap (λ (b : Option ℕ). cond (names x b) (to_vc c a f e (destination_of y) (least_free c a f e (destination_of y))) none)
+        (binds_alike s part bytes accepted (destination_of y) (front_there y q r))
+        ∙ ap (λ (b : Bool). cond b (to_vc c a f e (destination_of y) (least_free c a f e (destination_of y))) none)
+        (go (grant_of came (destination_of y)) refl)
       where
-        go : (m : Option Grant) → grantOf came (destinationOf y) ≡ m → names x (requesterOf m) ≡ false
+        go : (m : Option Grant) → grant_of came (destination_of y) ≡ m → names x (requester_of m) ≡ false
         go none k = refl
-        go (some g) k = ne_eqb g.requester x (off (destinationOf y) g (front-there y q r) k)
+        go (some g) k = ne_eqb g.requester x (off (destination_of y) g (front_there y q r) k)
 
-    by_alike : grantBy c a f e i v queue ≡ name_of (grantTo came x)
-    unfolding takenIn offersTaken landed creditsReturned creditsReached
-    by_alike = go (granted-or-not came x)
+    by_alike : grant_by c a f e i v queue ≡ name_of (grant_to came x)
+    unfolding taken_in offers_taken landed credits_returned credits_reached
+    by_alike = go (granted_or_not came x)
       where
-        go : Actor (grantOf came) (asking came) c.ports x ⊎ Untouched (grantOf came) (asking came) c.ports x
-            → grantBy c a f e i v queue ≡ name_of (grantTo came x)
+        go : Actor (grant_of came) (asking came) c.ports x ⊎ Untouched (grant_of came) (asking came) c.ports x
+            → grant_by c a f e i v queue ≡ name_of (grant_to came x)
         go (inl d) =
             granted-at d.port d.deed d.below d.acts d.there queue
-            (ap (λ (x : ℕ). frontIsFor d.port (queueAt came.store (first_slot x) (get_or came.inputs x (freshInput 0)).queued))
+            (ap (λ (x : ℕ). front_is_for d.port (queue_at came.store (first_slot x) (get_or came.inputs x (fresh_input 0)).queued))
             (sym d.there)
-            ∙ (grant-is came d.port d.deed d.acts).front)
-            ∙ ap name_of (sym (grant-to came x d))
-        go (inr off) = ungranted-at off queue refl ∙ ap name_of (sym (no-grant-to came x off))
+            ∙ (grant_is came d.port d.deed d.acts).front)
+            ∙ ap name_of (sym (grant_to-law came x d))
+        go (inr off) = ungranted-at off queue refl ∙ ap name_of (sym (no_grant_to came x off))
 
     -- the output VC that it is granted
-    pub grant-alike : grant c a f e i v ≡ name_of (grantTo came x)
+    pub grant-alike : grant c a f e i v ≡ name_of (grant_to came x)
     unfolding grant
     grant-alike =
-        ap₂ (λ (b : Bool) (q : List Flit). cond b (grantBy c a f e i v q) none) (is-there c i v port vc)
-        (queue-came s part bytes accepted i v port vc)
+        ap₂ (λ (b : Bool) (q : List Flit). cond b (grant_by c a f e i v q) none) (is_there-law c i v port vc)
+        (queue_came s part bytes accepted i v port vc)
         ∙ by_alike
 
   -- none is granted to an input VC that there is not
-  pub grant-beyond : (i v : ℕ) → isThere c i v ≡ false → grant c a f e i v ≡ none
+  pub grant_beyond : (i v : ℕ) → is_there c i v ≡ false → grant c a f e i v ≡ none
   unfolding grant
-  grant-beyond i v out = ap (λ (b : Bool). cond b (grantBy c a f e i v (queueNow (f.channel i v))) none) out
+  grant_beyond i v out = ap (λ (b : Bool). cond b (grant_by c a f e i v (queue_now (f.channel i v))) none) out

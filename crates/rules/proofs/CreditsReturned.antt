@@ -14,19 +14,19 @@ use borrow.Author.Tests.{eqb-true, le-leb, leb-true}
 use Rattle.base.specs.declared.config.Config.{Config}
 use Rattle.state.specs.declared.OutputVc.{OutputVc}
 use Rattle.state.specs.declared.Router.{Router}
-use Rattle.state.specs.Fresh.{freshOutput}
-use Rattle.state.specs.Sound.{Sound, outputCreditsFit}
-use Rattle.state.specs.Views.{outputAt, toVc}
+use Rattle.state.specs.Fresh.{fresh_output}
+use Rattle.state.specs.Sound.{Sound, output_credits_fit}
+use Rattle.state.specs.Views.{output_at, to_vc}
 use Rattle.state.proofs.Exact.{shape_is}
 use Rattle.rules.specs.Ports.{named}
 use Rattle.rules.specs.Rows.{credit_at}
-use Rattle.rules.specs.Intake.{outputPaid, creditFrom, outputsPaid, creditsReturned}
-use Rattle.rules.proofs.Channels.{channel-at, all-channels}
-use Rattle.rules.proofs.Folds.{changed, over-same}
-use Rattle.rules.proofs.Named.{named-there, named-raises}
-use Rattle.rules.proofs.Turns.{onChannel, Made, made-length, made-keeps, made_at, made-past}
-use Rattle.rules.proofs.Facts.{sound-lengths, outputs-room}
-use Rattle.rules.proofs.Kept.{holderOf, names-kept, unused-kept}
+use Rattle.rules.specs.Intake.{output_paid, credit_from, outputs_paid, credits_returned}
+use Rattle.rules.proofs.Channels.{channel_at, all_channels}
+use Rattle.rules.proofs.Folds.{changed, over_same}
+use Rattle.rules.proofs.Named.{named_there, named_raises}
+use Rattle.rules.proofs.Turns.{on_channel, Made, made_length, made_keeps, made_at, made-past}
+use Rattle.rules.proofs.Facts.{sound_lengths, outputs_room}
+use Rattle.rules.proofs.Kept.{holder_of, names_kept, unused_kept}
 use Rattle.rules.proofs.Permitted.{CreditFits}
 
 module _ (c : Config) (part : List ℕ) (outputs : List OutputVc) where
@@ -34,37 +34,37 @@ module _ (c : Config) (part : List ℕ) (outputs : List OutputVc) where
   abbrev returning : ℕ → Option ℕ
   returning o = named (credit_at part o)
 
-  returned : Made c (freshOutput 0) returning (λ (o : ℕ). outputPaid) outputs (outputsPaid c part outputs)
-  unfolding outputsPaid
+  returned : Made c (fresh_output 0) returning (λ (o : ℕ). output_paid) outputs (outputs_paid c part outputs)
+  unfolding outputs_paid
   returned = record {
-    is = over-same c.ports (λ outputs o. creditFrom c o (returning o) outputs) _ outputs (λ t o l. go t o (returning o));
+    is = over_same c.ports (λ outputs o. credit_from c o (returning o) outputs) _ outputs (λ t o l. go t o (returning o));
   }
     where
-      go : (t : List OutputVc) (o : ℕ) (n : Option ℕ) → creditFrom c o n t ≡ changed (freshOutput 0) outputPaid (onChannel c o n) t
+      go : (t : List OutputVc) (o : ℕ) (n : Option ℕ) → credit_from c o n t ≡ changed (fresh_output 0) output_paid (on_channel c o n) t
       go t o none = refl
       go t o (some w) = refl
 
-  pub returned-length : length (outputsPaid c part outputs) ≡ length outputs
-  returned-length = made-length returned
+  pub returned_length : length (outputs_paid c part outputs) ≡ length outputs
+  returned_length = made_length returned
 
   -- the holder stays
-  pub returned-keeps : (x : ℕ) → holderOf (get_or (outputsPaid c part outputs) x (freshOutput 0)) ≡ holderOf (get_or outputs x (freshOutput 0))
-  returned-keeps = made-keeps returned holderOf (λ o y. refl)
+  pub returned_keeps : (x : ℕ) → holder_of (get_or (outputs_paid c part outputs) x (fresh_output 0)) ≡ holder_of (get_or outputs x (fresh_output 0))
+  returned_keeps = made_keeps returned holder_of (λ o y. refl)
 
   module _ (near : (o : ℕ) → o < c.ports → credit_at part o ≤ c.vcs) where
     there : (o w : ℕ) → o < c.ports → returning o ≡ some w → w < c.vcs
-    there o w h e = named-there (credit_at part o) c.vcs w (near o h) e
+    there o w h e = named_there (credit_at part o) c.vcs w (near o h) e
 
     -- the row's credit raises the credit of the VC that it names
     pub credit-returns : (o w : ℕ) → o < c.ports → w < c.vcs → c.ports * c.vcs ≤ length outputs
-        → (outputAt c (outputsPaid c part outputs) o w).credit ≡ (outputAt c outputs o w).credit + toVc w (credit_at part o)
+        → (output_at c (outputs_paid c part outputs) o w).credit ≡ (output_at c outputs o w).credit + to_vc w (credit_at part o)
     credit-returns o w h g room =
         ap (λ (y : OutputVc). y.credit) (made_at returned there o w h g room)
-        ∙ named-raises (λ (y : OutputVc). y.credit) outputPaid (λ y. refl) w (credit_at part o) (outputAt c outputs o w)
+        ∙ named_raises (λ (y : OutputVc). y.credit) output_paid (λ y. refl) w (credit_at part o) (output_at c outputs o w)
 
     -- what is no channel's stays
-    pub returned-past : (x : ℕ) → c.ports * c.vcs ≤ x → get_or (outputsPaid c part outputs) x (freshOutput 0)
-        ≡ get_or outputs x (freshOutput 0)
+    pub returned-past : (x : ℕ) → c.ports * c.vcs ≤ x → get_or (outputs_paid c part outputs) x (fresh_output 0)
+        ≡ get_or outputs x (fresh_output 0)
     returned-past = made-past returned there
 
 module _ (s : Router) (part : List ℕ) (sound : Sound s)
@@ -76,18 +76,18 @@ module _ (s : Router) (part : List ℕ) (sound : Sound s)
   near o h = (fits o h).there
 
   -- "output credits are at most E": there is room for the one that comes
-  output-credits : outputCreditsFit c (outputsPaid c part s.outputs) ≡ true
-  unfolding outputCreditsFit
-  output-credits =
-      all-channels c (λ o w. leb (outputAt c (outputsPaid c part s.outputs) o w).credit c.downstream) (λ o w h g.
-      let before = leb-true (outputAt c s.outputs o w).credit c.downstream
-      (channel-at c (λ o w. leb (outputAt c s.outputs o w).credit c.downstream) sound.flow.outputCredits o w h g) in
-      let raised = credit-returns c part s.outputs near o w h g (outputs-room s sound) in
-      le-leb _ c.downstream (go o w h (eqb (credit_at part o) (w + 1)) refl (outputAt c s.outputs o w).credit refl before raised))
+  output_credits-law : output_credits_fit c (outputs_paid c part s.outputs) ≡ true
+  unfolding output_credits_fit
+  output_credits-law =
+      all_channels c (λ o w. leb (output_at c (outputs_paid c part s.outputs) o w).credit c.downstream) (λ o w h g.
+      let before = leb-true (output_at c s.outputs o w).credit c.downstream
+      (channel_at c (λ o w. leb (output_at c s.outputs o w).credit c.downstream) sound.flow.output_credits o w h g) in
+      let raised = credit-returns c part s.outputs near o w h g (outputs_room s sound) in
+      le-leb _ c.downstream (go o w h (eqb (credit_at part o) (w + 1)) refl (output_at c s.outputs o w).credit refl before raised))
     where
-      go : (o w : ℕ) → o < c.ports → (b : Bool) → eqb (credit_at part o) (w + 1) ≡ b → (n : ℕ) → (outputAt c s.outputs o w).credit ≡ n
-          → n ≤ c.downstream → (outputAt c (outputsPaid c part s.outputs) o w).credit ≡ n + cond b 1 0
-          → (outputAt c (outputsPaid c part s.outputs) o w).credit ≤ c.downstream
+      go : (o w : ℕ) → o < c.ports → (b : Bool) → eqb (credit_at part o) (w + 1) ≡ b → (n : ℕ) → (output_at c s.outputs o w).credit ≡ n
+          → n ≤ c.downstream → (output_at c (outputs_paid c part s.outputs) o w).credit ≡ n + cond b 1 0
+          → (output_at c (outputs_paid c part s.outputs) o w).credit ≤ c.downstream
       go o w h true e n q l r =
           let k = eqb-true (credit_at part o) (w + 1) e in
           let m : credit_at part o ≡ suc w = omega arith in
@@ -95,11 +95,11 @@ module _ (s : Router) (part : List ℕ) (sound : Sound s)
           omega arith
       go o w h false e n q l r = omega arith
 
-  pub creditsReturned-sound : Sound (creditsReturned part s)
-  unfolding creditsReturned
-  creditsReturned-sound =
-      let paid = outputsPaid c part s.outputs in
-      let l = sound-lengths s sound in
+  pub credits_returned_sound : Sound (credits_returned part s)
+  unfolding credits_returned
+  credits_returned_sound =
+      let paid = outputs_paid c part s.outputs in
+      let l = sound_lengths s sound in
       record {
         sizes =
             record {
@@ -107,23 +107,23 @@ module _ (s : Router) (part : List ℕ) (sound : Sound s)
               cycles = sound.sizes.cycles;
               wire = sound.sizes.wire;
               home = sound.sizes.home;
-              wireRest = sound.sizes.wireRest;
-              homeRest = sound.sizes.homeRest;
-              shape = shape_is _ l.inputs (returned-length c part s.outputs ∙ l.outputs) l.store l.wire l.home;
+              wire_rest = sound.sizes.wire_rest;
+              home_rest = sound.sizes.home_rest;
+              shape = shape_is _ l.inputs (returned_length c part s.outputs ∙ l.outputs) l.store l.wire l.home;
             };
         flow =
             record {
               credits = sound.flow.credits;
               queues = sound.flow.queues;
-              outputCredits = output-credits;
+              output_credits = output_credits-law;
               channels =
-                  unused-kept c s.inputs s.inputs paid s.outputs (λ x h. refl) (returned-past c part s.outputs near)
+                  unused_kept c s.inputs s.inputs paid s.outputs (λ x h. refl) (returned-past c part s.outputs near)
                   ∙ sound.flow.channels;
               slots = sound.flow.slots;
             };
         naming =
             record {
-              names = names-kept c s.inputs s.inputs paid s.outputs (λ x. refl) (returned-keeps c part s.outputs)
+              names = names_kept c s.inputs s.inputs paid s.outputs (λ x. refl) (returned_keeps c part s.outputs)
                   ∙ sound.naming.names;
               packets = sound.naming.packets;
             };

@@ -8,11 +8,11 @@ use Prim.Native.Nat.{ℕ, ◌<◌}
 use lib.Dec.{eqb}
 use borrow.Author.Tests.{eq-eqb, eqb-false}
 use native.Mathlib.Omega.{arith}
-use Rattle.base.specs.Search.{firstFrom}
+use Rattle.base.specs.Search.{first_from}
 use Rattle.base.proofs.Search as search
 use Rattle.rules.specs.declared.Verdict.{Verdict}
 use Rattle.rules.specs.declared.Verdict.TheVariants.{Accepted}
-use Rattle.rules.specs.Numbers.{Rule, refusing, refusedAt, first_of}
+use Rattle.rules.specs.Numbers.{Rule, refusing, refused_at, first_of}
 
 -- the rule holds at port p and at no lower one
 pub record FirstAt (r : Rule) (p : ℕ) : Type 0 where
@@ -35,21 +35,21 @@ pub data None : List Rule → Type 0 where
   also : {r : Rule} {rs : List Rule} → Nowhere r → None rs → None (r ∷ rs)
 
 -- what the search for a rule's first port finds, and the other way round
-pub found : (r : Rule) (p : ℕ) → firstFrom r.holds r.ports 0 ≡ some p → FirstAt r p
+pub found : (r : Rule) (p : ℕ) → first_from r.holds r.ports 0 ≡ some p → FirstAt r p
 found r p e =
     let f = search.first_found r.holds r.ports 0 p e in
     record { inside = let b = f.below in omega arith; here = f.passes; lower = λ i h. f.before i (omega arith) h }
 
-finds : (r : Rule) (p : ℕ) → FirstAt r p → firstFrom r.holds r.ports 0 ≡ some p
+finds : (r : Rule) (p : ℕ) → FirstAt r p → first_from r.holds r.ports 0 ≡ some p
 finds r p f =
-    search.first-at r.holds r.ports 0 p
+    search.first_at r.holds r.ports 0 p
     (record { from = omega arith; below = let b = f.inside in omega arith; passes = f.here; before = λ j l h. f.lower j h })
 
-missed : (r : Rule) → firstFrom r.holds r.ports 0 ≡ none → Nowhere r
-missed r e i h = search.first-missing r.holds r.ports 0 e i (omega arith) (omega arith)
+missed : (r : Rule) → first_from r.holds r.ports 0 ≡ none → Nowhere r
+missed r e i h = search.first_missing r.holds r.ports 0 e i (omega arith) (omega arith)
 
-misses : (r : Rule) → Nowhere r → firstFrom r.holds r.ports 0 ≡ none
-misses r f = search.first-none r.holds r.ports 0 (λ j l h. f j (omega arith))
+misses : (r : Rule) → Nowhere r → first_from r.holds r.ports 0 ≡ none
+misses r f = search.first_none r.holds r.ports 0 (λ j l h. f j (omega arith))
 
 -- the verdict, and why it is so
 pub data Why (rs : List Rule) : Verdict → Type 0 where
@@ -59,25 +59,25 @@ pub data Why (rs : List Rule) : Verdict → Type 0 where
 pub why : (rs : List Rule) → Why rs (first_of rs)
 unfolding first_of
 why [] = accepts done
-why (r ∷ rs) = go (firstFrom r.holds r.ports 0) refl (first_of rs) (why rs)
+why (r ∷ rs) = go (first_from r.holds r.ports 0) refl (first_of rs) (why rs)
   where
     on : (v : Verdict) → Nowhere r → Why rs v → Why (r ∷ rs) v
     on _ f (refuses n p g) = refuses n p (later f g)
     on _ f (accepts g) = accepts (also f g)
 
-    go : (o : Option ℕ) → firstFrom r.holds r.ports 0 ≡ o → (v : Verdict) → Why rs v → Why (r ∷ rs) (refusedAt r.number o v)
+    go : (o : Option ℕ) → first_from r.holds r.ports 0 ≡ o → (v : Verdict) → Why rs v → Why (r ∷ rs) (refused_at r.number o v)
     go (some p) e v w = refuses r.number p (this (found r p e))
     go none e v w = on v (missed r e) w
 
-pub first-refuses : (rs : List Rule) (n p : ℕ) → First rs n p → first_of rs ≡ refusing n p
+pub first_refuses : (rs : List Rule) (n p : ℕ) → First rs n p → first_of rs ≡ refusing n p
 unfolding first_of
-first-refuses (r ∷ rs) _ p (this f) = rw (finds r p f)
-first-refuses (r ∷ rs) n p (later f g) = rw (misses r f) (first-refuses rs n p g)
+first_refuses (r ∷ rs) _ p (this f) = rw (finds r p f)
+first_refuses (r ∷ rs) n p (later f g) = rw (misses r f) (first_refuses rs n p g)
 
-pub none-accepts : (rs : List Rule) → None rs → first_of rs ≡ Accepted
+pub none_accepts : (rs : List Rule) → None rs → first_of rs ≡ Accepted
 unfolding first_of
-none-accepts [] done = refl
-none-accepts (r ∷ rs) (also f g) = rw (misses r f) (none-accepts rs g)
+none_accepts [] done = refl
+none_accepts (r ∷ rs) (also f g) = rw (misses r f) (none_accepts rs g)
 
 -- the rules before the first of number n, and those from it on
 abbrev pub before : ℕ → List Rule → List Rule
@@ -134,11 +134,11 @@ abbrev pub numbered : ℕ → List Rule → Bool
 numbered n [] = false
 numbered n (r ∷ rs) = eqb n r.number || numbered n rs
 
-first-numbered : (rs : List Rule) (n p : ℕ) → First rs n p → numbered n rs ≡ true
-first-numbered (r ∷ rs) _ p (this f) = rw (eq-eqb r.number r.number refl)
-first-numbered (r ∷ rs) n p (later f g) = rw (first-numbered rs n p g) (or-true (eqb n r.number))
+first_numbered : (rs : List Rule) (n p : ℕ) → First rs n p → numbered n rs ≡ true
+first_numbered (r ∷ rs) _ p (this f) = rw (eq-eqb r.number r.number refl)
+first_numbered (r ∷ rs) n p (later f g) = rw (first_numbered rs n p g) (or-true (eqb n r.number))
 
 -- a rule whose number no later rule has
 pub alone : (r : Rule) (rs : List Rule) (p : ℕ) → numbered r.number rs ≡ false → First (r ∷ rs) r.number p → FirstAt r p
 alone r rs p e (this f) = f
-alone r rs p e (later _ f) = absurd (true≢false (sym (first-numbered rs r.number p f) ∙ e))
+alone r rs p e (later _ f) = absurd (true≢false (sym (first_numbered rs r.number p f) ∙ e))

@@ -10,128 +10,128 @@ use native.Mathlib.Omega.{arith}
 use lib.ListN.{drop}
 use Rattle.base.specs.declared.config.Config.{Config}
 use Rattle.base.specs.declared.flit.Flit.{Flit}
-use Rattle.base.specs.Flit.{kind_of, endsKind}
+use Rattle.base.specs.Flit.{kind_of, ends_kind}
 use Rattle.state.specs.declared.OutVc.{OutVc}
 use Rattle.state.specs.declared.Binding.{Binding}
 use Rattle.state.specs.declared.Binding.TheVariants.{Unbound}
 use Rattle.state.specs.declared.InputVc.{InputVc}
 use Rattle.state.specs.declared.OutputVc.{OutputVc}
 use Rattle.state.specs.declared.Router.{Router}
-use Rattle.state.specs.Channels.{boundTo}
+use Rattle.state.specs.Channels.{bound_to}
 use Rattle.state.specs.Sound.{Sound}
-use Rattle.state.specs.Views.{channelNumber, input_at, outputAt, queueOf, homePlace, home_of, places, toVc}
-use Rattle.state.specs.Setters.{withBinding, withQueued}
-use Rattle.rules.specs.Allocation.{grantOf, allocated}
-use Rattle.rules.specs.Departures.{leavingOf}
-use Rattle.rules.proofs.Acts.{Actor, Untouched, touched-or-not}
+use Rattle.state.specs.Views.{channel_number, input_at, output_at, queue_of, home_place, home_of, places, to_vc}
+use Rattle.state.specs.Setters.{set_binding, with_queued}
+use Rattle.rules.specs.Allocation.{grant_of, allocated}
+use Rattle.rules.specs.Departures.{leaving_of}
+use Rattle.rules.proofs.Acts.{Actor, Untouched, touched_or_not}
 use Rattle.rules.proofs.AllocatedNames.{bound_at}
-use Rattle.rules.proofs.Bound.{asking, ungranted-stays, granted-or-not}
-use Rattle.rules.proofs.Choices.{grantTo, leavesFrom, grant-to, no-grant-to, leaves-from, none-leaves, passesBy, passes-by}
+use Rattle.rules.proofs.Bound.{asking, ungranted_stays, granted_or_not}
+use Rattle.rules.proofs.Choices.{grant_to, leaves_from, grant_to-law, no_grant_to, leaves_from-law, none_leaves, passes_by, passes_by-law}
 use Rattle.rules.proofs.Choices.{none_passes}
 use Rattle.rules.proofs.Exits.{exit}
-use Rattle.rules.proofs.Facts.{sound-legal}
-use Rattle.rules.proofs.Left.{ends, fromPlace, byPlace, others-stay, unused-outputs-stay}
-use Rattle.rules.proofs.LeftHome.{older-stays, sent-counts, unsent-counts}
-use Rattle.rules.proofs.LeftNames.{Leaves, Passes, left_at, passed-at}
-use Rattle.rules.proofs.LeftPackets.{exit-front, queue-stays}
-use Rattle.rules.proofs.Lines.{places-ext}
+use Rattle.rules.proofs.Facts.{sound_legal}
+use Rattle.rules.proofs.Left.{ends, from_place, by_place, others_stay, unused_outputs_stay}
+use Rattle.rules.proofs.LeftHome.{older_stays, sent_counts, unsent-counts}
+use Rattle.rules.proofs.LeftNames.{Leaves, Passes, left_at, passed_at}
+use Rattle.rules.proofs.LeftPackets.{exit_front, queue_stays}
+use Rattle.rules.proofs.Lines.{places_ext}
 
 -- what an input VC is bound to after phase 5: what it is granted, or what it was bound to
-abbrev pub nowBound : Option OutVc → Option OutVc → Option OutVc
-nowBound none before = before
-nowBound (some b) before = some b
+abbrev pub now_bound : Option OutVc → Option OutVc → Option OutVc
+now_bound none before = before
+now_bound (some b) before = some b
 
 -- one, if it leaves
 abbrev pub one : Bool → ℕ
 one b = cond b 1 0
 
 -- whether a queue's front ends a packet
-abbrev pub frontEnds : List Flit → Bool
-frontEnds [] = false
-frontEnds (f ∷ fs) = endsKind (kind_of f)
+abbrev pub front_ends : List Flit → Bool
+front_ends [] = false
+front_ends (f ∷ fs) = ends_kind (kind_of f)
 
 module _ (s : Router) (sound : Sound s) (i v : ℕ) (port : i < s.config.ports) (vc : v < s.config.vcs) where
   abbrev c : Config
   c = s.config
 
   abbrev x : ℕ
-  x = channelNumber c i v
+  x = channel_number c i v
 
   abbrev queue : List Flit
-  queue = queueOf c s.store i v (input_at c s.inputs i v).queued
+  queue = queue_of c s.store i v (input_at c s.inputs i v).queued
 
   -- phase 5
-  pub bound-now : boundTo (input_at c (allocated s).inputs i v).binding
-      ≡ nowBound (grantTo s x) (boundTo (input_at c s.inputs i v).binding)
-  bound-now = go (granted-or-not s x)
+  pub bound_now-law : bound_to (input_at c (allocated s).inputs i v).binding
+      ≡ now_bound (grant_to s x) (bound_to (input_at c s.inputs i v).binding)
+  bound_now-law = go (granted_or_not s x)
     where
-      go : Actor (grantOf s) (asking s) c.ports x ⊎ Untouched (grantOf s) (asking s) c.ports x
-          → boundTo (input_at c (allocated s).inputs i v).binding ≡ nowBound (grantTo s x) (boundTo (input_at c s.inputs i v).binding)
+      go : Actor (grant_of s) (asking s) c.ports x ⊎ Untouched (grant_of s) (asking s) c.ports x
+          → bound_to (input_at c (allocated s).inputs i v).binding ≡ now_bound (grant_to s x) (bound_to (input_at c s.inputs i v).binding)
       go (inl a) =
-          ap (λ (y : InputVc). boundTo y.binding) (bound_at s sound x a)
-          ∙ ap (λ (b : Option OutVc). nowBound b (boundTo (input_at c s.inputs i v).binding)) (sym (grant-to s x a))
+          ap (λ (y : InputVc). bound_to y.binding) (bound_at s sound x a)
+          ∙ ap (λ (b : Option OutVc). now_bound b (bound_to (input_at c s.inputs i v).binding)) (sym (grant_to-law s x a))
       go (inr off) =
-          ap (λ (y : InputVc). boundTo y.binding) (ungranted-stays s x off)
-          ∙ ap (λ (b : Option OutVc). nowBound b (boundTo (input_at c s.inputs i v).binding)) (sym (no-grant-to s x off))
+          ap (λ (y : InputVc). bound_to y.binding) (ungranted_stays s x off)
+          ∙ ap (λ (b : Option OutVc). now_bound b (bound_to (input_at c s.inputs i v).binding)) (sym (no_grant_to s x off))
 
   -- phases 6 and 7: a flit that leaves is gone from its queue
-  pub queue-left : queueOf c (leavingOf s).store i v (input_at c (leavingOf s).inputs i v).queued ≡ drop (one (leavesFrom s x)) queue
-  queue-left = go (touched-or-not (exit s) (fromPlace s) c.ports x)
+  pub queue_left : queue_of c (leaving_of s).store i v (input_at c (leaving_of s).inputs i v).queued ≡ drop (one (leaves_from s x)) queue
+  queue_left = go (touched_or_not (exit s) (from_place s) c.ports x)
     where
-      go : Leaves s sound x ⊎ Untouched (exit s) (fromPlace s) c.ports x
-          → queueOf c (leavingOf s).store i v (input_at c (leavingOf s).inputs i v).queued ≡ drop (one (leavesFrom s x)) queue
+      go : Leaves s sound x ⊎ Untouched (exit s) (from_place s) c.ports x
+          → queue_of c (leaving_of s).store i v (input_at c (leaving_of s).inputs i v).queued ≡ drop (one (leaves_from s x)) queue
       go (inl a) =
-          ap (drop 1) (sym (exit-front s sound i v port vc a)) ∙ ap (λ (b : Bool). drop (one b) queue) (sym (leaves-from s x a))
-      go (inr off) = queue-stays s sound i v port vc off ∙ ap (λ (b : Bool). drop (one b) queue) (sym (none-leaves s x off))
+          ap (drop 1) (sym (exit_front s sound i v port vc a)) ∙ ap (λ (b : Bool). drop (one b) queue) (sym (leaves_from-law s x a))
+      go (inr off) = queue_stays s sound i v port vc off ∙ ap (λ (b : Bool). drop (one b) queue) (sym (none_leaves s x off))
 
   -- its VC is unbound, if it ends a packet
-  pub bound-left : boundTo (input_at c (leavingOf s).inputs i v).binding
-      ≡ cond (leavesFrom s x && frontEnds queue) none (boundTo (input_at c s.inputs i v).binding)
-  bound-left = go (touched-or-not (exit s) (fromPlace s) c.ports x)
+  pub bound_left : bound_to (input_at c (leaving_of s).inputs i v).binding
+      ≡ cond (leaves_from s x && front_ends queue) none (bound_to (input_at c s.inputs i v).binding)
+  bound_left = go (touched_or_not (exit s) (from_place s) c.ports x)
     where
-      unbound : (b : Bool) (y : Binding) → boundTo (cond b Unbound y) ≡ cond b none (boundTo y)
+      unbound : (b : Bool) (y : Binding) → bound_to (cond b Unbound y) ≡ cond b none (bound_to y)
       unbound true y = refl
       unbound false y = refl
 
-      go : Leaves s sound x ⊎ Untouched (exit s) (fromPlace s) c.ports x
-          → boundTo (input_at c (leavingOf s).inputs i v).binding
-          ≡ cond (leavesFrom s x && frontEnds queue) none (boundTo (input_at c s.inputs i v).binding)
+      go : Leaves s sound x ⊎ Untouched (exit s) (from_place s) c.ports x
+          → bound_to (input_at c (leaving_of s).inputs i v).binding
+          ≡ cond (leaves_from s x && front_ends queue) none (bound_to (input_at c s.inputs i v).binding)
       go (inl a) =
-          ap (λ (y : InputVc). boundTo y.binding) (left_at s sound x a)
+          ap (λ (y : InputVc). bound_to y.binding) (left_at s sound x a)
           ∙ unbound (ends a.deed) (input_at c s.inputs i v).binding
-          ∙ ap₂ (λ (l : Bool) (q : List Flit). cond (l && frontEnds q) none (boundTo (input_at c s.inputs i v).binding))
-          (sym (leaves-from s x a))
-          (sym (exit-front s sound i v port vc a))
+          ∙ ap₂ (λ (l : Bool) (q : List Flit). cond (l && front_ends q) none (bound_to (input_at c s.inputs i v).binding))
+          (sym (leaves_from-law s x a))
+          (sym (exit_front s sound i v port vc a))
       go (inr off) =
-          ap (λ (y : InputVc). boundTo y.binding) (others-stay s x off)
-          ∙ ap (λ (l : Bool). cond (l && frontEnds queue) none (boundTo (input_at c s.inputs i v).binding)) (sym (none-leaves s x off))
+          ap (λ (y : InputVc). bound_to y.binding) (others_stay s x off)
+          ∙ ap (λ (l : Bool). cond (l && front_ends queue) none (bound_to (input_at c s.inputs i v).binding)) (sym (none_leaves s x off))
 
   -- nothing else of it changes
-  pub input-left : {B : Type 0} (see : InputVc → B) → ((b : Binding) (q : ℕ) (y : InputVc)
-      → see (withBinding b (withQueued q y)) ≡ see y)
-      → see (input_at c (leavingOf s).inputs i v) ≡ see (input_at c s.inputs i v)
-  input-left {B} see same = go (touched-or-not (exit s) (fromPlace s) c.ports x)
+  pub input_left : {B : Type 0} (see : InputVc → B) → ((b : Binding) (q : ℕ) (y : InputVc)
+      → see (set_binding b (with_queued q y)) ≡ see y)
+      → see (input_at c (leaving_of s).inputs i v) ≡ see (input_at c s.inputs i v)
+  input_left {B} see same = go (touched_or_not (exit s) (from_place s) c.ports x)
     where
-      go : Leaves s sound x ⊎ Untouched (exit s) (fromPlace s) c.ports x
-          → see (input_at c (leavingOf s).inputs i v) ≡ see (input_at c s.inputs i v)
+      go : Leaves s sound x ⊎ Untouched (exit s) (from_place s) c.ports x
+          → see (input_at c (leaving_of s).inputs i v) ≡ see (input_at c s.inputs i v)
       go (inl a) = ap see (left_at s sound x a) ∙ same _ _ (input_at c s.inputs i v)
-      go (inr off) = ap see (others-stay s x off)
+      go (inr off) = ap see (others_stay s x off)
 
   -- and a credit for it is in the newest place of the line home
-  pub home-left : ((i : ℕ) → i < c.ports → homePlace s.home (c.back - 1) i ≡ 0) → (older : List ℕ)
-      → home_of c s.home i v ≡ older ++ (0 ∷ []) → home_of c (leavingOf s).home i v ≡ older ++ (one (leavesFrom s x) ∷ [])
+  pub home_left : ((i : ℕ) → i < c.ports → home_place s.home (c.back - 1) i ≡ 0) → (older : List ℕ)
+      → home_of c s.home i v ≡ older ++ (0 ∷ []) → home_of c (leaving_of s).home i v ≡ older ++ (one (leaves_from s x) ∷ [])
   unfolding home_of places
-  home-left empty older e =
-      newest c.back (sound-legal s sound).back.0 (λ (k : ℕ). toVc v (homePlace s.home k i))
-      (λ (k : ℕ). toVc v (homePlace (leavingOf s).home k i))
-      (λ k l. let few = (sound-legal s sound).ports.1 in ap (toVc v) (older-stays s sound k i (omega arith) (λ q. omega arith)))
+  home_left empty older e =
+      newest c.back (sound_legal s sound).back.0 (λ (k : ℕ). to_vc v (home_place s.home k i))
+      (λ (k : ℕ). to_vc v (home_place (leaving_of s).home k i))
+      (λ k l. let few = (sound_legal s sound).ports.1 in ap (to_vc v) (older_stays s sound k i (omega arith) (λ q. omega arith)))
       (λ k q. let last : k ≡ c.back - 1 = omega arith in
-      ap (λ (k : ℕ). toVc v (homePlace (leavingOf s).home k i)) last ∙ go (touched-or-not (exit s) (fromPlace s) c.ports x)) e
+      ap (λ (k : ℕ). to_vc v (home_place (leaving_of s).home k i)) last ∙ go (touched_or_not (exit s) (from_place s) c.ports x)) e
     where
-      go : Leaves s sound x ⊎ Untouched (exit s) (fromPlace s) c.ports x
-          → toVc v (homePlace (leavingOf s).home (c.back - 1) i) ≡ one (leavesFrom s x)
-      go (inl a) = sent-counts s sound i v port vc a ∙ ap one (sym (leaves-from s x a))
-      go (inr off) = unsent-counts s sound empty i v port vc off ∙ ap one (sym (none-leaves s x off))
+      go : Leaves s sound x ⊎ Untouched (exit s) (from_place s) c.ports x
+          → to_vc v (home_place (leaving_of s).home (c.back - 1) i) ≡ one (leaves_from s x)
+      go (inl a) = sent_counts s sound i v port vc a ∙ ap one (sym (leaves_from-law s x a))
+      go (inr off) = unsent-counts s sound empty i v port vc off ∙ ap one (sym (none_leaves s x off))
 
       before_last : List ℕ → List ℕ
       before_last [] = []
@@ -143,29 +143,29 @@ module _ (s : Router) (sound : Sound s) (i v : ℕ) (port : i < s.config.ports) 
       less (z ∷ []) y = refl
       less (z ∷ w ∷ ws) y = ap (λ (l : List ℕ). z ∷ l) (less (w ∷ ws) y)
 
-      newest : (n : ℕ) → 1 ≤ n → (f g : ℕ → ℕ) → ((k : ℕ) → suc k < n → g k ≡ f k) → ((k : ℕ) → suc k ≡ n → g k ≡ one (leavesFrom s x))
-          → places n f ≡ older ++ (0 ∷ []) → places n g ≡ older ++ (one (leavesFrom s x) ∷ [])
+      newest : (n : ℕ) → 1 ≤ n → (f g : ℕ → ℕ) → ((k : ℕ) → suc k < n → g k ≡ f k) → ((k : ℕ) → suc k ≡ n → g k ≡ one (leaves_from s x))
+          → places n f ≡ older ++ (0 ∷ []) → places n g ≡ older ++ (one (leaves_from s x) ∷ [])
       newest zero h f g same last e = absurd (omega arith)
       newest (suc n) h f g same last e =
           ap₂ (λ (l : List ℕ) (z : ℕ). l ++ (z ∷ []))
-          (places-ext n g f (λ k l. same k (omega arith)) ∙ sym (less (places n f) (f n)) ∙ ap before_last e ∙ less older 0) (last n refl)
+          (places_ext n g f (λ k l. same k (omega arith)) ∙ sym (less (places n f) (f n)) ∙ ap before_last e ∙ less older 0) (last n refl)
 
 -- the output VC that it leaves by has one credit less
-pub output-credit-left : (s : Router) → Sound s → (o w : ℕ)
-    → (outputAt s.config (leavingOf s).outputs o w).credit
-    ≡ (outputAt s.config s.outputs o w).credit - one (passesBy s (channelNumber s.config o w))
-output-credit-left s sound o w = go (touched-or-not (exit s) (byPlace s) s.config.ports (channelNumber s.config o w))
+pub output_credit_left : (s : Router) → Sound s → (o w : ℕ)
+    → (output_at s.config (leaving_of s).outputs o w).credit
+    ≡ (output_at s.config s.outputs o w).credit - one (passes_by s (channel_number s.config o w))
+output_credit_left s sound o w = go (touched_or_not (exit s) (by_place s) s.config.ports (channel_number s.config o w))
   where
     all_of : (n : ℕ) → n ≡ n - 0
     all_of n = omega arith
 
-    go : Passes s sound (channelNumber s.config o w) ⊎ Untouched (exit s) (byPlace s) s.config.ports (channelNumber s.config o w)
-        → (outputAt s.config (leavingOf s).outputs o w).credit
-        ≡ (outputAt s.config s.outputs o w).credit - one (passesBy s (channelNumber s.config o w))
+    go : Passes s sound (channel_number s.config o w) ⊎ Untouched (exit s) (by_place s) s.config.ports (channel_number s.config o w)
+        → (output_at s.config (leaving_of s).outputs o w).credit
+        ≡ (output_at s.config s.outputs o w).credit - one (passes_by s (channel_number s.config o w))
     go (inl a) =
-        ap (λ (y : OutputVc). y.credit) (passed-at s sound (channelNumber s.config o w) a)
-        ∙ ap (λ (b : Bool). (outputAt s.config s.outputs o w).credit - one b) (sym (passes-by s (channelNumber s.config o w) a))
+        ap (λ (y : OutputVc). y.credit) (passed_at s sound (channel_number s.config o w) a)
+        ∙ ap (λ (b : Bool). (output_at s.config s.outputs o w).credit - one b) (sym (passes_by-law s (channel_number s.config o w) a))
     go (inr off) =
-        ap (λ (y : OutputVc). y.credit) (unused-outputs-stay s (channelNumber s.config o w) off)
-        ∙ all_of (outputAt s.config s.outputs o w).credit
-        ∙ ap (λ (b : Bool). (outputAt s.config s.outputs o w).credit - one b) (sym (none_passes s (channelNumber s.config o w) off))
+        ap (λ (y : OutputVc). y.credit) (unused_outputs_stay s (channel_number s.config o w) off)
+        ∙ all_of (output_at s.config s.outputs o w).credit
+        ∙ ap (λ (b : Bool). (output_at s.config s.outputs o w).credit - one b) (sym (none_passes s (channel_number s.config o w) off))

@@ -9,35 +9,35 @@ use native.Mathlib.Omega.{arith}
 use lib.ListN.{length, get_or, replicate}
 use Rattle.base.specs.declared.reply.Left.TheVariants as left
 use Rattle.base.specs.declared.reply.Output.{Output}
-use Rattle.base.specs.Flit.{kind_of, endsKind}
+use Rattle.base.specs.Flit.{kind_of, ends_kind}
 use Rattle.state.specs.declared.InputVc.{InputVc}
 use Rattle.state.specs.declared.OutputVc.{OutputVc}
 use Rattle.state.specs.declared.Router.{Router}
-use Rattle.state.specs.Fresh.{freshInput, freshOutput}
-use Rattle.state.specs.Views.{channelNumber, input_at, outputAt, homePlace}
-use Rattle.rules.specs.Ports.{overPorts}
+use Rattle.state.specs.Fresh.{fresh_input, fresh_output}
+use Rattle.state.specs.Views.{channel_number, input_at, output_at, home_place}
+use Rattle.rules.specs.Ports.{over_ports}
 use Rattle.rules.specs.Intake.{newest}
-use Rattle.rules.specs.Departures.{Leaving, inputLeft, outputLeft, departure, leavingOf}
-use Rattle.rules.proofs.Turns.{over-seen}
-use Rattle.rules.proofs.Acts.{Untouched, acted, deeds, deeds-length, untouched-stays, touched-changes}
-use Rattle.rules.proofs.Channels.{channel-apart}
-use Rattle.rules.proofs.Exits.{Exit, exit, exits-differ, exits-apart, exits, atFirst, leaving-exits}
+use Rattle.rules.specs.Departures.{Leaving, input_left, output_left, departure, leaving_of}
+use Rattle.rules.proofs.Turns.{over_seen}
+use Rattle.rules.proofs.Acts.{Untouched, acted, deeds, deeds_length, untouched_stays, touched_changes}
+use Rattle.rules.proofs.Channels.{channel_apart}
+use Rattle.rules.proofs.Exits.{Exit, exit, exits_differ, exits_apart, exits, at_first, leaving_exits}
 
 -- "T or S" ends a packet
 abbrev pub ends : Exit → Bool
-ends e = endsKind (kind_of e.flit)
+ends e = ends_kind (kind_of e.flit)
 
 -- a reply's place that reports nothing
-abbrev pub noOutput : Output
-noOutput = record { left = left.Nothing }
+abbrev pub no_output : Output
+no_output = record { left = left.Nothing }
 
 module _ (s : Router) where
   -- where a flit that leaves by output o acts: its input VC, its output VC, the home line's newest place of its input, the reply's place
-  abbrev pub fromPlace : ℕ → Exit → ℕ
-  fromPlace o e = channelNumber s.config e.input e.vc
+  abbrev pub from_place : ℕ → Exit → ℕ
+  from_place o e = channel_number s.config e.input e.vc
 
-  abbrev pub byPlace : ℕ → Exit → ℕ
-  byPlace o e = channelNumber s.config o e.by
+  abbrev pub by_place : ℕ → Exit → ℕ
+  by_place o e = channel_number s.config o e.by
 
   abbrev pub homeward : ℕ → Exit → ℕ
   homeward o e = newest s.config.back e.input
@@ -47,117 +47,117 @@ module _ (s : Router) where
 
   -- and what it does there
   abbrev out_of : ℕ → Exit → InputVc → InputVc
-  out_of o e x = inputLeft (ends e) x
+  out_of o e x = input_left (ends e) x
 
   abbrev through : ℕ → Exit → OutputVc → OutputVc
-  through o e y = outputLeft (ends e) y
+  through o e y = output_left (ends e) y
 
-  abbrev sendHome : ℕ → Exit → ℕ → ℕ
-  sendHome o e place = e.vc + 1
+  abbrev send_home : ℕ → Exit → ℕ → ℕ
+  send_home o e place = e.vc + 1
 
-  abbrev reportOf : ℕ → Exit → Output → Output
-  reportOf o e before = departure e.by e.input e.vc e.flit
+  abbrev report_of : ℕ → Exit → Output → Output
+  report_of o e before = departure e.by e.input e.vc e.flit
 
   -- a part of what phase 7 changes that each exit changes in one place
-  part-fold : {A : Type 0} (part : Leaving → List A) (d : A) (place : ℕ → Exit → ℕ) (change : ℕ → Exit → A → A)
+  part_fold : {A : Type 0} (part : Leaving → List A) (d : A) (place : ℕ → Exit → ℕ) (change : ℕ → Exit → A → A)
       → ((l : Leaving) (o : ℕ) (m : Option Exit) → part (exits s o m l) ≡ acted d (place o) (change o) m (part l))
-      → part (leavingOf s) ≡ overPorts s.config.ports (deeds d (exit s) place change) (part (atFirst s))
-  part-fold part d place change same =
-      ap part (leaving-exits s)
-      ∙ over-seen part s.config.ports (λ l o. exits s o (exit s o) l) (deeds d (exit s) place change) (atFirst s)
+      → part (leaving_of s) ≡ over_ports s.config.ports (deeds d (exit s) place change) (part (at_first s))
+  part_fold part d place change same =
+      ap part (leaving_exits s)
+      ∙ over_seen part s.config.ports (λ l o. exits s o (exit s o) l) (deeds d (exit s) place change) (at_first s)
       (λ l o h. same l o (exit s o))
 
-  inputs-fold : (leavingOf s).inputs ≡ overPorts s.config.ports (deeds (freshInput 0) (exit s) fromPlace out_of) s.inputs
-  inputs-fold = part-fold (λ (l : Leaving). l.inputs) (freshInput 0) fromPlace out_of same
+  inputs_fold : (leaving_of s).inputs ≡ over_ports s.config.ports (deeds (fresh_input 0) (exit s) from_place out_of) s.inputs
+  inputs_fold = part_fold (λ (l : Leaving). l.inputs) (fresh_input 0) from_place out_of same
     where
-      same : (l : Leaving) (o : ℕ) (m : Option Exit) → (exits s o m l).inputs ≡ acted (freshInput 0) (fromPlace o) (out_of o) m l.inputs
+      same : (l : Leaving) (o : ℕ) (m : Option Exit) → (exits s o m l).inputs ≡ acted (fresh_input 0) (from_place o) (out_of o) m l.inputs
       same l o none = refl
       same l o (some e) = refl
 
-  outputs-fold : (leavingOf s).outputs ≡ overPorts s.config.ports (deeds (freshOutput 0) (exit s) byPlace through) s.outputs
-  outputs-fold = part-fold (λ (l : Leaving). l.outputs) (freshOutput 0) byPlace through same
+  outputs_fold : (leaving_of s).outputs ≡ over_ports s.config.ports (deeds (fresh_output 0) (exit s) by_place through) s.outputs
+  outputs_fold = part_fold (λ (l : Leaving). l.outputs) (fresh_output 0) by_place through same
     where
-      same : (l : Leaving) (o : ℕ) (m : Option Exit) → (exits s o m l).outputs ≡ acted (freshOutput 0) (byPlace o) (through o) m l.outputs
+      same : (l : Leaving) (o : ℕ) (m : Option Exit) → (exits s o m l).outputs ≡ acted (fresh_output 0) (by_place o) (through o) m l.outputs
       same l o none = refl
       same l o (some e) = refl
 
-  home-fold : (leavingOf s).home ≡ overPorts s.config.ports (deeds 0 (exit s) homeward sendHome) s.home
-  home-fold = part-fold (λ (l : Leaving). l.home) 0 homeward sendHome same
+  home_fold : (leaving_of s).home ≡ over_ports s.config.ports (deeds 0 (exit s) homeward send_home) s.home
+  home_fold = part_fold (λ (l : Leaving). l.home) 0 homeward send_home same
     where
-      same : (l : Leaving) (o : ℕ) (m : Option Exit) → (exits s o m l).home ≡ acted 0 (homeward o) (sendHome o) m l.home
+      same : (l : Leaving) (o : ℕ) (m : Option Exit) → (exits s o m l).home ≡ acted 0 (homeward o) (send_home o) m l.home
       same l o none = refl
       same l o (some e) = refl
 
-  left-fold : (leavingOf s).left ≡ overPorts s.config.ports (deeds noOutput (exit s) replied reportOf) (replicate 8 noOutput)
-  left-fold = part-fold (λ (l : Leaving). l.left) noOutput replied reportOf same
+  left_fold : (leaving_of s).left ≡ over_ports s.config.ports (deeds no_output (exit s) replied report_of) (replicate 8 no_output)
+  left_fold = part_fold (λ (l : Leaving). l.left) no_output replied report_of same
     where
-      same : (l : Leaving) (o : ℕ) (m : Option Exit) → (exits s o m l).left ≡ acted noOutput (replied o) (reportOf o) m l.left
+      same : (l : Leaving) (o : ℕ) (m : Option Exit) → (exits s o m l).left ≡ acted no_output (replied o) (report_of o) m l.left
       same l o none = refl
       same l o (some e) = refl
 
   -- the lists keep their lengths
-  pub left-inputs-length : length (leavingOf s).inputs ≡ length s.inputs
-  left-inputs-length = ap length inputs-fold ∙ deeds-length (freshInput 0) (exit s) fromPlace out_of s.config.ports s.inputs
+  pub left_inputs_length : length (leaving_of s).inputs ≡ length s.inputs
+  left_inputs_length = ap length inputs_fold ∙ deeds_length (fresh_input 0) (exit s) from_place out_of s.config.ports s.inputs
 
-  pub left-outputs-length : length (leavingOf s).outputs ≡ length s.outputs
-  left-outputs-length = ap length outputs-fold ∙ deeds-length (freshOutput 0) (exit s) byPlace through s.config.ports s.outputs
+  pub left_outputs_length : length (leaving_of s).outputs ≡ length s.outputs
+  left_outputs_length = ap length outputs_fold ∙ deeds_length (fresh_output 0) (exit s) by_place through s.config.ports s.outputs
 
-  pub left-home-length : length (leavingOf s).home ≡ length s.home
-  left-home-length = ap length home-fold ∙ deeds-length 0 (exit s) homeward sendHome s.config.ports s.home
+  pub left_home_length : length (leaving_of s).home ≡ length s.home
+  left_home_length = ap length home_fold ∙ deeds_length 0 (exit s) homeward send_home s.config.ports s.home
 
   -- the input VC that a flit leaves: one less is queued, and it is unbound if that ends a packet
-  pub exit-unqueues : (o : ℕ) (e : Exit) → o < s.config.ports → exit s o ≡ some e
-      → channelNumber s.config e.input e.vc < length s.inputs
-      → input_at s.config (leavingOf s).inputs e.input e.vc
-      ≡ inputLeft (ends e) (input_at s.config s.inputs e.input e.vc)
-  exit-unqueues o e l q m =
-      ap (λ (xs : List InputVc). get_or xs (fromPlace o e) (freshInput 0)) inputs-fold
-      ∙ touched-changes (freshInput 0) (exit s) fromPlace out_of s.config.ports s.inputs o e l q m
-      (λ p f h r same. exits-apart s p o f e r q same)
+  pub exit_unqueues : (o : ℕ) (e : Exit) → o < s.config.ports → exit s o ≡ some e
+      → channel_number s.config e.input e.vc < length s.inputs
+      → input_at s.config (leaving_of s).inputs e.input e.vc
+      ≡ input_left (ends e) (input_at s.config s.inputs e.input e.vc)
+  exit_unqueues o e l q m =
+      ap (λ (xs : List InputVc). get_or xs (from_place o e) (fresh_input 0)) inputs_fold
+      ∙ touched_changes (fresh_input 0) (exit s) from_place out_of s.config.ports s.inputs o e l q m
+      (λ p f h r same. exits_apart s p o f e r q same)
 
-  pub others-stay : (x : ℕ) → Untouched (exit s) fromPlace s.config.ports x
-      → get_or (leavingOf s).inputs x (freshInput 0) ≡ get_or s.inputs x (freshInput 0)
-  others-stay x off =
-      ap (λ (xs : List InputVc). get_or xs x (freshInput 0)) inputs-fold
-      ∙ untouched-stays (freshInput 0) (exit s) fromPlace out_of s.config.ports s.inputs x off
+  pub others_stay : (x : ℕ) → Untouched (exit s) from_place s.config.ports x
+      → get_or (leaving_of s).inputs x (fresh_input 0) ≡ get_or s.inputs x (fresh_input 0)
+  others_stay x off =
+      ap (λ (xs : List InputVc). get_or xs x (fresh_input 0)) inputs_fold
+      ∙ untouched_stays (fresh_input 0) (exit s) from_place out_of s.config.ports s.inputs x off
 
   -- the output VC that it leaves by: one credit less, and it is free if that ends a packet
-  pub exit-pays : ((o : ℕ) (e : Exit) → exit s o ≡ some e → e.by < s.config.vcs)
-      → (o : ℕ) (e : Exit) → o < s.config.ports → exit s o ≡ some e → channelNumber s.config o e.by < length s.outputs
-      → outputAt s.config (leavingOf s).outputs o e.by ≡ outputLeft (ends e) (outputAt s.config s.outputs o e.by)
-  exit-pays near o e l q m =
-      ap (λ (ys : List OutputVc). get_or ys (byPlace o e) (freshOutput 0)) outputs-fold
-      ∙ touched-changes (freshOutput 0) (exit s) byPlace through s.config.ports s.outputs o e l q m
-      (λ p f h r same. (channel-apart s.config p f.by o e.by (near p f r) (near o e q) same).0)
+  pub exit_pays : ((o : ℕ) (e : Exit) → exit s o ≡ some e → e.by < s.config.vcs)
+      → (o : ℕ) (e : Exit) → o < s.config.ports → exit s o ≡ some e → channel_number s.config o e.by < length s.outputs
+      → output_at s.config (leaving_of s).outputs o e.by ≡ output_left (ends e) (output_at s.config s.outputs o e.by)
+  exit_pays near o e l q m =
+      ap (λ (ys : List OutputVc). get_or ys (by_place o e) (fresh_output 0)) outputs_fold
+      ∙ touched_changes (fresh_output 0) (exit s) by_place through s.config.ports s.outputs o e l q m
+      (λ p f h r same. (channel_apart s.config p f.by o e.by (near p f r) (near o e q) same).0)
 
-  pub unused-outputs-stay : (x : ℕ) → Untouched (exit s) byPlace s.config.ports x
-      → get_or (leavingOf s).outputs x (freshOutput 0) ≡ get_or s.outputs x (freshOutput 0)
-  unused-outputs-stay x off =
-      ap (λ (ys : List OutputVc). get_or ys x (freshOutput 0)) outputs-fold
-      ∙ untouched-stays (freshOutput 0) (exit s) byPlace through s.config.ports s.outputs x off
+  pub unused_outputs_stay : (x : ℕ) → Untouched (exit s) by_place s.config.ports x
+      → get_or (leaving_of s).outputs x (fresh_output 0) ≡ get_or s.outputs x (fresh_output 0)
+  unused_outputs_stay x off =
+      ap (λ (ys : List OutputVc). get_or ys x (fresh_output 0)) outputs_fold
+      ∙ untouched_stays (fresh_output 0) (exit s) by_place through s.config.ports s.outputs x off
 
   -- the home line's newest place of its input: 1 + VC
-  pub exit-sends-home : (o : ℕ) (e : Exit) → o < s.config.ports → exit s o ≡ some e
+  pub exit_sends_home : (o : ℕ) (e : Exit) → o < s.config.ports → exit s o ≡ some e
       → newest s.config.back e.input < length s.home
-      → homePlace (leavingOf s).home (s.config.back - 1) e.input ≡ e.vc + 1
-  exit-sends-home o e l q m =
-      ap (λ (ps : List ℕ). get_or ps (homeward o e) 0) home-fold
-      ∙ touched-changes 0 (exit s) homeward sendHome s.config.ports s.home o e l q m
-      (λ p f h r same. exits-differ s p o f e r q (omega arith))
+      → home_place (leaving_of s).home (s.config.back - 1) e.input ≡ e.vc + 1
+  exit_sends_home o e l q m =
+      ap (λ (ps : List ℕ). get_or ps (homeward o e) 0) home_fold
+      ∙ touched_changes 0 (exit s) homeward send_home s.config.ports s.home o e l q m
+      (λ p f h r same. exits_differ s p o f e r q (omega arith))
 
-  pub home_stays : (x : ℕ) → Untouched (exit s) homeward s.config.ports x → get_or (leavingOf s).home x 0 ≡ get_or s.home x 0
+  pub home_stays : (x : ℕ) → Untouched (exit s) homeward s.config.ports x → get_or (leaving_of s).home x 0 ≡ get_or s.home x 0
   home_stays x off =
-      ap (λ (ps : List ℕ). get_or ps x 0) home-fold ∙ untouched-stays 0 (exit s) homeward sendHome s.config.ports s.home x off
+      ap (λ (ps : List ℕ). get_or ps x 0) home_fold ∙ untouched_stays 0 (exit s) homeward send_home s.config.ports s.home x off
 
   -- the reply's place of its output
-  pub exit-reported : (o : ℕ) (e : Exit) → o < s.config.ports → o < 8 → exit s o ≡ some e
-      → get_or (leavingOf s).left o noOutput ≡ departure e.by e.input e.vc e.flit
-  exit-reported o e l m q =
-      ap (λ (rs : List Output). get_or rs o noOutput) left-fold
-      ∙ touched-changes noOutput (exit s) replied reportOf s.config.ports (replicate 8 noOutput) o e l q m (λ p f h r same. same)
+  pub exit_reported : (o : ℕ) (e : Exit) → o < s.config.ports → o < 8 → exit s o ≡ some e
+      → get_or (leaving_of s).left o no_output ≡ departure e.by e.input e.vc e.flit
+  exit_reported o e l m q =
+      ap (λ (rs : List Output). get_or rs o no_output) left_fold
+      ∙ touched_changes no_output (exit s) replied report_of s.config.ports (replicate 8 no_output) o e l q m (λ p f h r same. same)
 
-  pub unreported : (o : ℕ) → Untouched (exit s) replied s.config.ports o → get_or (leavingOf s).left o noOutput
-      ≡ get_or (replicate 8 noOutput) o noOutput
+  pub unreported : (o : ℕ) → Untouched (exit s) replied s.config.ports o → get_or (leaving_of s).left o no_output
+      ≡ get_or (replicate 8 no_output) o no_output
   unreported o off =
-      ap (λ (rs : List Output). get_or rs o noOutput) left-fold
-      ∙ untouched-stays noOutput (exit s) replied reportOf s.config.ports (replicate 8 noOutput) o off
+      ap (λ (rs : List Output). get_or rs o no_output) left_fold
+      ∙ untouched_stays no_output (exit s) replied report_of s.config.ports (replicate 8 no_output) o off

@@ -8,9 +8,9 @@ use native.Mathlib.Nat.{add-zero}
 use native.Mathlib.Omega.{arith}
 use lib.Dec.{eqb}
 use borrow.Author.Tests.{eqb-true, eqb-false, eq-eqb, ne_eqb}
-use Rattle.state.specs.Views.{toVc}
+use Rattle.state.specs.Views.{to_vc}
 use Rattle.rules.specs.Ports.{named}
-use Rattle.rules.proofs.Folds.{changedAt}
+use Rattle.rules.proofs.Folds.{changed_at}
 
 -- a number that is not 0 names the VC below it
 pub named_some : (p : ℕ) → (p ≡ 0 → ⊥) → named p ≡ some (p - 1)
@@ -18,18 +18,18 @@ named_some zero n = absurd (n refl)
 named_some (suc p) n = let e : suc p - 1 ≡ p = omega arith in rw e
 
 -- a number of at most V names a VC that there is
-pub named-there : (place n v : ℕ) → place ≤ n → named place ≡ some v → v < n
-named-there zero n v h e = absurd (none-ne-some v e)
-named-there (suc u) n v h e = let q = some-injective u v e in omega arith
+pub named_there : (place n v : ℕ) → place ≤ n → named place ≡ some v → v < n
+named_there zero n v h e = absurd (none-ne-some v e)
+named_there (suc u) n v h e = let q = some-injective u v e in omega arith
 
 -- of all VCs, the named one gets one more
-pub named-raises : {A : Type 0} (credit : A → ℕ) (paid : A → A) → ((x : A) → credit (paid x) ≡ credit x + 1) → (v place : ℕ) (x : A)
-    → credit (changedAt v paid (named place) x) ≡ credit x + toVc v place
-named-raises credit paid more v zero x =
+pub named_raises : {A : Type 0} (credit : A → ℕ) (paid : A → A) → ((x : A) → credit (paid x) ≡ credit x + 1) → (v place : ℕ) (x : A)
+    → credit (changed_at v paid (named place) x) ≡ credit x + to_vc v place
+named_raises credit paid more v zero x =
     sym (add-zero (credit x)) ∙ ap (λ (b : Bool). credit x + cond b 1 0) (sym (ne_eqb 0 (v + 1) (λ q. omega arith)))
-named-raises {A} credit paid more v (suc u) x = at (eqb u v) refl
+named_raises {A} credit paid more v (suc u) x = at (eqb u v) refl
   where
-    at : (b : Bool) → eqb u v ≡ b → credit (cond b (paid x) x) ≡ credit x + toVc v (suc u)
+    at : (b : Bool) → eqb u v ≡ b → credit (cond b (paid x) x) ≡ credit x + to_vc v (suc u)
     at true e =
         let q = eqb-true u v e in
         more x ∙ ap (λ (b : Bool). credit x + cond b 1 0) (sym (eq-eqb (suc u) (v + 1) (omega arith)))

@@ -13,115 +13,115 @@ use borrow.Author.Tests.{eq-eqb}
 use Rattle.base.specs.declared.config.Config.{Config}
 use Rattle.base.specs.declared.flit.Flit.{Flit}
 use Rattle.state.specs.declared.InputVc.{InputVc}
-use Rattle.state.specs.Fresh.{freshInput}
-use Rattle.state.specs.Views.{channelNumber, input_at, wirePlace}
-use Rattle.rules.specs.Ports.{overPorts}
-use Rattle.rules.specs.Rows.{brings, kind_at, vcAt, flitAt}
-use Rattle.rules.specs.Intake.{Senders, offerTaken, newest, onWire, takenAt, offers}
-use Rattle.rules.proofs.Folds.{changed, changedAt, turns, turns_at, turns-elsewhere, turns-length}
-use Rattle.rules.proofs.Turns.{onChannel, Made, made-length, made-keeps, made_at, made-past, over-seen}
+use Rattle.state.specs.Fresh.{fresh_input}
+use Rattle.state.specs.Views.{channel_number, input_at, wire_place}
+use Rattle.rules.specs.Ports.{over_ports}
+use Rattle.rules.specs.Rows.{brings, kind_at, vc_at, flit_at}
+use Rattle.rules.specs.Intake.{Senders, offer_taken, newest, on_wire, taken_at, offers}
+use Rattle.rules.proofs.Folds.{changed, changed_at, turns, turns_at, turns-elsewhere, turns-length}
+use Rattle.rules.proofs.Turns.{on_channel, Made, made_length, made_keeps, made_at, made-past, over_seen}
 use Rattle.rules.proofs.Permitted.{Offered}
 
 -- whether port i brings a flit on VC v, and that flit
-abbrev pub bringsOn : List ℕ → ℕ → ℕ → Bool
-bringsOn part i v = brings part i && eqb (vcAt part i) v
+abbrev pub brings_on : List ℕ → ℕ → ℕ → Bool
+brings_on part i v = brings part i && eqb (vc_at part i) v
 
 abbrev pub offered : List ℕ → ℕ → ℕ → List Flit
-offered part i v = cond (bringsOn part i v) (flitAt part i ∷ []) []
+offered part i v = cond (brings_on part i v) (flit_at part i ∷ []) []
 
 module _ (c : Config) (part : List ℕ) (s : Senders) where
   -- the VC on which port i brings a flit, and the place that it enters
   abbrev offering : ℕ → Option ℕ
-  offering i = cond (brings part i) (some (vcAt part i)) none
+  offering i = cond (brings part i) (some (vc_at part i)) none
 
   abbrev entering : ℕ → Option ℕ
   entering i = cond (brings part i) (some (newest c.forward i)) none
 
   abbrev placed : ℕ → ℕ → ℕ
-  placed i place = onWire (vcAt part i) (flitAt part i)
+  placed i place = on_wire (vc_at part i) (flit_at part i)
 
-  taken : Made c (freshInput 0) offering (λ (i : ℕ). offerTaken (kind_at part i)) s.inputs (offers c part s).inputs
+  taken : Made c (fresh_input 0) offering (λ (i : ℕ). offer_taken (kind_at part i)) s.inputs (offers c part s).inputs
   unfolding offers
-  taken = record { is = over-seen (λ (t : Senders). t.inputs) c.ports (takenAt c part) _ s (λ t i l. go t i (brings part i)) }
+  taken = record { is = over_seen (λ (t : Senders). t.inputs) c.ports (taken_at c part) _ s (λ t i l. go t i (brings part i)) }
     where
       go : (t : Senders) (i : ℕ) (b : Bool)
           → (cond b
           (record {
-            inputs = set t.inputs (channelNumber c i (vcAt part i)) (offerTaken (kind_at part i) (input_at c t.inputs i (vcAt part i)));
-            wire = set t.wire (newest c.forward i) (onWire (vcAt part i) (flitAt part i));
+            inputs = set t.inputs (channel_number c i (vc_at part i)) (offer_taken (kind_at part i) (input_at c t.inputs i (vc_at part i)));
+            wire = set t.wire (newest c.forward i) (on_wire (vc_at part i) (flit_at part i));
           }) t).inputs
-          ≡ changed (freshInput 0) (offerTaken (kind_at part i)) (onChannel c i (cond b (some (vcAt part i)) none)) t.inputs
+          ≡ changed (fresh_input 0) (offer_taken (kind_at part i)) (on_channel c i (cond b (some (vc_at part i)) none)) t.inputs
       go t i true = refl
       go t i false = refl
 
-  wire-is : (offers c part s).wire ≡ overPorts c.ports (turns 0 entering placed) s.wire
+  wire_is : (offers c part s).wire ≡ over_ports c.ports (turns 0 entering placed) s.wire
   unfolding offers
-  wire-is = over-seen (λ (t : Senders). t.wire) c.ports (takenAt c part) (turns 0 entering placed) s (λ t i l. go t i (brings part i))
+  wire_is = over_seen (λ (t : Senders). t.wire) c.ports (taken_at c part) (turns 0 entering placed) s (λ t i l. go t i (brings part i))
     where
       go : (t : Senders) (i : ℕ) (b : Bool)
           → (cond b
           (record {
-            inputs = set t.inputs (channelNumber c i (vcAt part i)) (offerTaken (kind_at part i) (input_at c t.inputs i (vcAt part i)));
-            wire = set t.wire (newest c.forward i) (onWire (vcAt part i) (flitAt part i));
+            inputs = set t.inputs (channel_number c i (vc_at part i)) (offer_taken (kind_at part i) (input_at c t.inputs i (vc_at part i)));
+            wire = set t.wire (newest c.forward i) (on_wire (vc_at part i) (flit_at part i));
           }) t).wire
           ≡ changed 0 (placed i) (cond b (some (newest c.forward i)) none) t.wire
       go t i true = refl
       go t i false = refl
 
-  pub offers-length : (length (offers c part s).inputs ≡ length s.inputs) × (length (offers c part s).wire ≡ length s.wire)
-  offers-length = (made-length taken, ap length wire-is ∙ turns-length 0 entering placed c.ports s.wire)
+  pub offers_length : (length (offers c part s).inputs ≡ length s.inputs) × (length (offers c part s).wire ≡ length s.wire)
+  offers_length = (made_length taken, ap length wire_is ∙ turns-length 0 entering placed c.ports s.wire)
 
   -- all but the credit and whether a packet is open stays
-  pub offers-keep : {B : Type 0} (see : InputVc → B) → ((kind : ℕ) (x : InputVc) → see (offerTaken kind x) ≡ see x) → (x : ℕ)
-      → see (get_or (offers c part s).inputs x (freshInput 0)) ≡ see (get_or s.inputs x (freshInput 0))
-  offers-keep see same = made-keeps taken see (λ i. same (kind_at part i))
+  pub offers_keep : {B : Type 0} (see : InputVc → B) → ((kind : ℕ) (x : InputVc) → see (offer_taken kind x) ≡ see x) → (x : ℕ)
+      → see (get_or (offers c part s).inputs x (fresh_input 0)) ≡ see (get_or s.inputs x (fresh_input 0))
+  offers_keep see same = made_keeps taken see (λ i. same (kind_at part i))
 
   module _ (near : (i : ℕ) → i < c.ports → brings part i ≡ true → Offered c part i) where
     there : (i v : ℕ) → i < c.ports → offering i ≡ some v → v < c.vcs
     there i v h e = go (brings part i) refl e
       where
-        go : (b : Bool) → brings part i ≡ b → cond b (some (vcAt part i)) none ≡ some v → v < c.vcs
-        go true p q = let l = (near i h p).vc in let r = some-injective (vcAt part i) v q in omega arith
+        go : (b : Bool) → brings part i ≡ b → cond b (some (vc_at part i)) none ≡ some v → v < c.vcs
+        go true p q = let l = (near i h p).vc in let r = some-injective (vc_at part i) v q in omega arith
         go false p q = absurd (none-ne-some v q)
 
     -- the input VC on which a flit is brought pays for it, and no other
     pub offer-costs : (i v : ℕ) → i < c.ports → v < c.vcs → c.ports * c.vcs ≤ length s.inputs
         → input_at c (offers c part s).inputs i v
-        ≡ cond (bringsOn part i v) (offerTaken (kind_at part i) (input_at c s.inputs i v)) (input_at c s.inputs i v)
+        ≡ cond (brings_on part i v) (offer_taken (kind_at part i) (input_at c s.inputs i v)) (input_at c s.inputs i v)
     offer-costs i v h g room = made_at taken there i v h g room ∙ go (brings part i)
       where
-        go : (b : Bool) → changedAt v (offerTaken (kind_at part i)) (cond b (some (vcAt part i)) none) (input_at c s.inputs i v)
-            ≡ cond (b && eqb (vcAt part i) v) (offerTaken (kind_at part i) (input_at c s.inputs i v)) (input_at c s.inputs i v)
+        go : (b : Bool) → changed_at v (offer_taken (kind_at part i)) (cond b (some (vc_at part i)) none) (input_at c s.inputs i v)
+            ≡ cond (b && eqb (vc_at part i) v) (offer_taken (kind_at part i) (input_at c s.inputs i v)) (input_at c s.inputs i v)
         go true = refl
         go false = refl
 
     -- what is no channel's stays
-    pub offers-past : (x : ℕ) → c.ports * c.vcs ≤ x → get_or (offers c part s).inputs x (freshInput 0) ≡ get_or s.inputs x (freshInput 0)
+    pub offers-past : (x : ℕ) → c.ports * c.vcs ≤ x → get_or (offers c part s).inputs x (fresh_input 0) ≡ get_or s.inputs x (fresh_input 0)
     offers-past = made-past taken there
 
   -- the wire's newest place of a port that brings a flit holds it
-  enters-at : (j y : ℕ) → newest c.forward j ≢ y → entering j ≢ some y
-  enters-at j y n e = go (brings part j) e
+  enters_at : (j y : ℕ) → newest c.forward j ≢ y → entering j ≢ some y
+  enters_at j y n e = go (brings part j) e
     where
       go : (b : Bool) → cond b (some (newest c.forward j)) none ≡ some y → ⊥
       go true q = n (some-injective (newest c.forward j) y q)
       go false q = none-ne-some y q
 
-  pub newest-place : (i k : ℕ) → i < c.ports → suc k ≡ c.forward → 8 * k + i < length s.wire
-      → wirePlace (offers c part s).wire k i ≡ cond (brings part i) (onWire (vcAt part i) (flitAt part i)) (wirePlace s.wire k i)
-  newest-place i k h e room =
-      ap (λ (l : List ℕ). wirePlace l k i) wire-is
-      ∙ turns_at 0 entering placed c.ports s.wire (8 * k + i) i h room (λ j l n. enters-at j (8 * k + i) (λ q. n (omega arith)))
+  pub newest_place : (i k : ℕ) → i < c.ports → suc k ≡ c.forward → 8 * k + i < length s.wire
+      → wire_place (offers c part s).wire k i ≡ cond (brings part i) (on_wire (vc_at part i) (flit_at part i)) (wire_place s.wire k i)
+  newest_place i k h e room =
+      ap (λ (l : List ℕ). wire_place l k i) wire_is
+      ∙ turns_at 0 entering placed c.ports s.wire (8 * k + i) i h room (λ j l n. enters_at j (8 * k + i) (λ q. n (omega arith)))
       ∙ go (brings part i)
     where
-      go : (b : Bool) → changedAt (8 * k + i) (placed i) (cond b (some (newest c.forward i)) none) (wirePlace s.wire k i)
-          ≡ cond b (onWire (vcAt part i) (flitAt part i)) (wirePlace s.wire k i)
+      go : (b : Bool) → changed_at (8 * k + i) (placed i) (cond b (some (newest c.forward i)) none) (wire_place s.wire k i)
+          ≡ cond b (on_wire (vc_at part i) (flit_at part i)) (wire_place s.wire k i)
       go true =
-          ap (λ (b : Bool). cond b (onWire (vcAt part i) (flitAt part i)) (wirePlace s.wire k i))
+          ap (λ (b : Bool). cond b (on_wire (vc_at part i) (flit_at part i)) (wire_place s.wire k i))
           (eq-eqb (newest c.forward i) (8 * k + i) (omega arith))
       go false = refl
 
   -- every other place stays
   pub other_place : (m : ℕ) → ((i : ℕ) → i < c.ports → newest c.forward i ≢ m) → get_or (offers c part s).wire m 0 ≡ get_or s.wire m 0
   other_place m n =
-      ap (λ (l : List ℕ). get_or l m 0) wire-is ∙ turns-elsewhere 0 entering placed c.ports s.wire m (λ i h. enters-at i m (n i h))
+      ap (λ (l : List ℕ). get_or l m 0) wire_is ∙ turns-elsewhere 0 entering placed c.ports s.wire m (λ i h. enters_at i m (n i h))

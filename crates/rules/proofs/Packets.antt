@@ -6,11 +6,11 @@ use mathlib.Core.List.{List, [], ◌∷◌, ◌++◌, append_assoc}
 use mathlib.Core.Option.{some, none}
 use lib.Dec.{eqb}
 use Rattle.base.specs.declared.flit.Flit.{Flit}
-use Rattle.base.specs.Flit.{kind_of, destinationOf, startsKind, endsKind}
+use Rattle.base.specs.Flit.{kind_of, destination_of, starts_kind, ends_kind}
 use Rattle.base.proofs.Search.{both, beq_same}
 use Rattle.state.specs.declared.Binding.{Binding}
 use Rattle.state.specs.declared.Binding.TheVariants.{Unbound, Bound}
-use Rattle.state.specs.Sound.{all, reading, endsAs, startsInside, reads}
+use Rattle.state.specs.Sound.{all, reading, ends_as, begins_inside, reads}
 
 -- what passes for both parts passes for the whole
 pub all_append : {A : Type 0} (test : A → Bool) (xs ys : List A) → all test xs ≡ true → all test ys ≡ true → all test (xs ++ ys) ≡ true
@@ -19,56 +19,56 @@ all_append test [] ys e f = f
 all_append test (x ∷ xs) ys e f = let p = both (test x) (all test xs) e in ap₂ ◌&&◌ p.0 (all_append test xs ys p.1 f)
 
 -- the next flit decides where a reading starts only where the queue is empty; there it comes inside a packet
-start-stays : (queue more rest : List Flit) (b : Binding) (inside : Bool) → reads queue (more ++ rest) b inside ≡ true
-    → startsInside (queue ++ more) b ≡ startsInside queue b
+start_stays : (queue more rest : List Flit) (b : Binding) (inside : Bool) → reads queue (more ++ rest) b inside ≡ true
+    → begins_inside (queue ++ more) b ≡ begins_inside queue b
 unfolding reads reading xor
-start-stays (f ∷ queue) more rest Unbound inside e = refl
-start-stays (f ∷ queue) more rest (Bound b) inside e = refl
-start-stays [] more rest Unbound inside e = refl
-start-stays [] [] rest (Bound b) inside e = refl
-start-stays [] (f ∷ more) rest (Bound b) inside e = go (startsKind (kind_of f)) e
+start_stays (f ∷ queue) more rest Unbound inside e = refl
+start_stays (f ∷ queue) more rest (Bound b) inside e = refl
+start_stays [] more rest Unbound inside e = refl
+start_stays [] [] rest (Bound b) inside e = refl
+start_stays [] (f ∷ more) rest (Bound b) inside e = go (starts_kind (kind_of f)) e
   where
-    go : (starts : Bool) → endsAs inside (cond (xor true starts) (reading (not (endsKind (kind_of f))) (more ++ rest)) none) ≡ true
-        → not (starts && eqb (destinationOf f) b.output) ≡ true
+    go : (starts : Bool) → ends_as inside (cond (xor true starts) (reading (not (ends_kind (kind_of f))) (more ++ rest)) none) ≡ true
+        → not (starts && eqb (destination_of f) b.output) ≡ true
     go true q = absurd (false≢true q)
     go false q = refl
 
 -- flits that go from the front of the wire to the end of the queue
-pub reads-lands : (queue more rest : List Flit) (b : Binding) (inside : Bool) → reads queue (more ++ rest) b inside ≡ true
+pub reads_lands : (queue more rest : List Flit) (b : Binding) (inside : Bool) → reads queue (more ++ rest) b inside ≡ true
     → reads (queue ++ more) rest b inside ≡ true
 unfolding reads
-reads-lands queue more rest b inside e =
-    ap₂ (λ (start : Bool) (fs : List Flit). endsAs inside (reading start fs)) (start-stays queue more rest b inside e)
+reads_lands queue more rest b inside e =
+    ap₂ (λ (start : Bool) (fs : List Flit). ends_as inside (reading start fs)) (start_stays queue more rest b inside e)
     (append_assoc queue more rest)
     ∙ e
 
-same-beq : (a : Bool) → beq a a ≡ true
-same-beq true = refl
-same-beq false = refl
+same_beq : (a : Bool) → beq a a ≡ true
+same_beq true = refl
+same_beq false = refl
 
 -- a reading goes on with one flit more
-reading-on : (start inside : Bool) (fs : List Flit) (f : Flit) → endsAs inside (reading start fs) ≡ true
-    → xor inside (startsKind (kind_of f)) ≡ true
-    → reading start (fs ++ (f ∷ [])) ≡ some (not (endsKind (kind_of f)))
+reading_on : (start inside : Bool) (fs : List Flit) (f : Flit) → ends_as inside (reading start fs) ≡ true
+    → xor inside (starts_kind (kind_of f)) ≡ true
+    → reading start (fs ++ (f ∷ [])) ≡ some (not (ends_kind (kind_of f)))
 unfolding reading
-reading-on start inside [] f e turn =
-    ap (λ (b : Bool). cond (xor b (startsKind (kind_of f))) (some (not (endsKind (kind_of f)))) none) (beq_same start inside e)
-    ∙ ap (λ (b : Bool). cond b (some (not (endsKind (kind_of f)))) none) turn
-reading-on start inside (g ∷ fs) f e turn = go (xor start (startsKind (kind_of g))) e
-    (λ q. reading-on (not (endsKind (kind_of g))) inside fs f q turn)
+reading_on start inside [] f e turn =
+    ap (λ (b : Bool). cond (xor b (starts_kind (kind_of f))) (some (not (ends_kind (kind_of f)))) none) (beq_same start inside e)
+    ∙ ap (λ (b : Bool). cond b (some (not (ends_kind (kind_of f)))) none) turn
+reading_on start inside (g ∷ fs) f e turn = go (xor start (starts_kind (kind_of g))) e
+    (λ q. reading_on (not (ends_kind (kind_of g))) inside fs f q turn)
   where
-    go : (b : Bool) → endsAs inside (cond b (reading (not (endsKind (kind_of g))) fs) none) ≡ true
-        → (endsAs inside (reading (not (endsKind (kind_of g))) fs) ≡ true
-        → reading (not (endsKind (kind_of g))) (fs ++ (f ∷ [])) ≡ some (not (endsKind (kind_of f))))
-        → cond b (reading (not (endsKind (kind_of g))) (fs ++ (f ∷ []))) none ≡ some (not (endsKind (kind_of f)))
+    go : (b : Bool) → ends_as inside (cond b (reading (not (ends_kind (kind_of g))) fs) none) ≡ true
+        → (ends_as inside (reading (not (ends_kind (kind_of g))) fs) ≡ true
+        → reading (not (ends_kind (kind_of g))) (fs ++ (f ∷ [])) ≡ some (not (ends_kind (kind_of f))))
+        → cond b (reading (not (ends_kind (kind_of g))) (fs ++ (f ∷ []))) none ≡ some (not (ends_kind (kind_of f)))
     go true q rest = rest q
     go false q rest = absurd (false≢true q)
 
 -- a flit that may come next joins the wire's end; the sender has a packet open after it, unless it ends one
 pub reads_on : (queue wire : List Flit) (b : Binding) (inside : Bool) (f : Flit) → reads queue wire b inside ≡ true
-    → xor inside (startsKind (kind_of f)) ≡ true → reads queue (wire ++ (f ∷ [])) b (not (endsKind (kind_of f))) ≡ true
+    → xor inside (starts_kind (kind_of f)) ≡ true → reads queue (wire ++ (f ∷ [])) b (not (ends_kind (kind_of f))) ≡ true
 unfolding reads
 reads_on queue wire b inside f e turn =
-    ap (λ (fs : List Flit). endsAs (not (endsKind (kind_of f))) (reading (startsInside queue b) fs)) (sym (append_assoc queue wire (f ∷ [])))
-    ∙ ap (endsAs (not (endsKind (kind_of f)))) (reading-on (startsInside queue b) inside (queue ++ wire) f e turn)
-    ∙ same-beq (not (endsKind (kind_of f)))
+    ap (λ (fs : List Flit). ends_as (not (ends_kind (kind_of f))) (reading (begins_inside queue b) fs)) (sym (append_assoc queue wire (f ∷ [])))
+    ∙ ap (ends_as (not (ends_kind (kind_of f)))) (reading_on (begins_inside queue b) inside (queue ++ wire) f e turn)
+    ∙ same_beq (not (ends_kind (kind_of f)))

@@ -9,43 +9,43 @@ use native.Mathlib.Omega.{arith}
 use lib.Dec.{eqb, leb, ltb}
 use borrow.Author.Tests.{not-true, not-false, lt-ltb, ltb-true, leb-true, eqb-false, ne_eqb}
 use Rattle.base.specs.declared.config.Config.{Config}
-use Rattle.base.specs.Flit.{startsKind, single}
+use Rattle.base.specs.Flit.{starts_kind, single}
 use Rattle.base.specs.Numbers as numbers
 use Rattle.base.proofs.Configurations.{Legal}
 use Rattle.base.proofs.Search.{both, some_number}
 use Rattle.state.specs.declared.InputVc.{InputVc}
 use Rattle.state.specs.declared.OutputVc.{OutputVc}
 use Rattle.state.specs.declared.Router.{Router}
-use Rattle.state.specs.Views.{input_at, outputAt}
+use Rattle.state.specs.Views.{input_at, output_at}
 use Rattle.rules.specs.Ports.{named}
-use Rattle.rules.specs.Intake.{sendersPaid}
-use Rattle.rules.specs.Rows.{kind_at, vcAt, destinationAt, credit_at, brings, rowZero, noOffer, legalOffer, rowLegal}
-use Rattle.rules.specs.Numbers.{rowWrong, creditPastRoom, outOfTurn, noSenderCredit, rulesOf}
+use Rattle.rules.specs.Intake.{senders_paid}
+use Rattle.rules.specs.Rows.{kind_at, vc_at, destination_at, credit_at, brings, row_zero, no_offer, legal_offer, row_legal}
+use Rattle.rules.specs.Numbers.{row_wrong, credit_past_room, out_of_turn, no_sender_credit, rules_of}
 use Rattle.rules.proofs.FirstRule.{None, none_from, none_first, none_rest}
 
 -- the second of two tests, where the first holds and both do not
-second-fails : (a b : Bool) → (a && b) ≡ false → a ≡ true → b ≡ false
-second-fails a b e h = sym (ap (λ (t : Bool). t && b) h) ∙ e
+second_fails : (a b : Bool) → (a && b) ≡ false → a ≡ true → b ≡ false
+second_fails a b e h = sym (ap (λ (t : Bool). t && b) h) ∙ e
 
 -- the row of a port that brings a flit
 pub record Offered (c : Config) (part : List ℕ) (i : ℕ) : Type 0 where
   pub some : 1 ≤ kind_at part i
   pub kind : kind_at part i ≤ 4
-  pub vc : vcAt part i < c.vcs
-  pub destination : cond (startsKind (kind_at part i)) (ltb (destinationAt part i) c.ports) (eqb (destinationAt part i) 0) ≡ true
+  pub vc : vc_at part i < c.vcs
+  pub destination : cond (starts_kind (kind_at part i)) (ltb (destination_at part i) c.ports) (eqb (destination_at part i) 0) ≡ true
 
 -- a downstream credit names a VC that there is, which has room for it
 pub record CreditFits (c : Config) (outputs : List OutputVc) (part : List ℕ) (o : ℕ) : Type 0 where
   pub there : credit_at part o ≤ c.vcs
-  pub room : (w : ℕ) → named (credit_at part o) ≡ some w → (outputAt c outputs o w).credit ≡ c.downstream → ⊥
+  pub room : (w : ℕ) → named (credit_at part o) ≡ some w → (output_at c outputs o w).credit ≡ c.downstream → ⊥
 
 -- the flit may come next at its sender VC
 abbrev pub InTurn : Config → List InputVc → List ℕ → ℕ → Type 0
-InTurn c inputs part i = xor (input_at c inputs i (vcAt part i)).opened (startsKind (kind_at part i)) ≡ true
+InTurn c inputs part i = xor (input_at c inputs i (vc_at part i)).opened (starts_kind (kind_at part i)) ≡ true
 
 -- its sender VC has a credit for it
 abbrev pub PaidFor : Config → List InputVc → List ℕ → ℕ → Type 0
-PaidFor c inputs part i = 1 ≤ (input_at c inputs i (vcAt part i)).credit
+PaidFor c inputs part i = 1 ≤ (input_at c inputs i (vc_at part i)).credit
 
 -- the whole of it, port by port
 pub record Permitted (s : Router) (part : List ℕ) : Type 0 where
@@ -53,54 +53,54 @@ pub record Permitted (s : Router) (part : List ℕ) : Type 0 where
   pub offers : (i : ℕ) → i < s.config.ports → brings part i ≡ true → Offered s.config part i
   pub turns : (i : ℕ) → i < s.config.ports → brings part i ≡ true → InTurn s.config s.inputs part i
   pub paid : (i : ℕ) → i < s.config.ports → brings part i ≡ true
-      → PaidFor s.config (sendersPaid s.config s.home s.inputs) part i
+      → PaidFor s.config (senders_paid s.config s.home s.inputs) part i
 
 module _ (s : Router) (part : List ℕ) where
   abbrev c : Config
   c = s.config
 
-  row-legal : Legal c → ((i : ℕ) → i < 8 → rowWrong c part i ≡ false) → (i : ℕ) → i < c.ports → rowLegal c part i ≡ true
-  unfolding rowWrong
-  row-legal legal wrong i h =
+  row_legal-law : Legal c → ((i : ℕ) → i < 8 → row_wrong c part i ≡ false) → (i : ℕ) → i < c.ports → row_legal c part i ≡ true
+  unfolding row_wrong
+  row_legal-law legal wrong i h =
       let few = legal.ports.1 in
-      sym (ap (λ (b : Bool). cond b (rowLegal c part i) (rowZero part i)) (lt-ltb i c.ports h)) ∙ not-false _ (wrong i (omega arith))
+      sym (ap (λ (b : Bool). cond b (row_legal c part i) (row_zero part i)) (lt-ltb i c.ports h)) ∙ not-false _ (wrong i (omega arith))
 
-  row-offered : (i : ℕ) → rowLegal c part i ≡ true → brings part i ≡ true → Offered c part i
-  unfolding rowLegal legalOffer
-  row-offered i e b =
+  row_offered : (i : ℕ) → row_legal c part i ≡ true → brings part i ≡ true → Offered c part i
+  unfolding row_legal legal_offer
+  row_offered i e b =
       let p = both (leb (credit_at part i) c.vcs) _ e in
-      let q = sym (ap (λ (t : Bool). cond t (legalOffer c part i) (noOffer part i)) b) ∙ p.1 in
-      let r = both _ (cond (startsKind (kind_at part i)) (ltb (destinationAt part i) c.ports) (eqb (destinationAt part i) 0)) q in
-      let t = both (leb (kind_at part i) single) (ltb (vcAt part i) c.vcs) r.0 in
+      let q = sym (ap (λ (t : Bool). cond t (legal_offer c part i) (no_offer part i)) b) ∙ p.1 in
+      let r = both _ (cond (starts_kind (kind_at part i)) (ltb (destination_at part i) c.ports) (eqb (destination_at part i) 0)) q in
+      let t = both (leb (kind_at part i) single) (ltb (vc_at part i) c.vcs) r.0 in
       record {
         some = some_number (kind_at part i) (eqb-false (kind_at part i) 0 (not-true (eqb (kind_at part i) 0) b));
         kind = leb-true (kind_at part i) single t.0;
-        vc = ltb-true (vcAt part i) c.vcs t.1;
+        vc = ltb-true (vc_at part i) c.vcs t.1;
         destination = r.1;
       }
 
-  row-credit : (o : ℕ) → rowLegal c part o ≡ true → creditPastRoom c s.outputs part o ≡ false → CreditFits c s.outputs part o
-  unfolding rowLegal creditPastRoom
-  row-credit o e f =
+  row_credit : (o : ℕ) → row_legal c part o ≡ true → credit_past_room c s.outputs part o ≡ false → CreditFits c s.outputs part o
+  unfolding row_legal credit_past_room
+  row_credit o e f =
       let p = both (leb (credit_at part o) c.vcs) _ e in
       record { there = leb-true (credit_at part o) c.vcs p.0; room = λ w. go w (credit_at part o) refl f }
     where
-      go : (w k : ℕ) → credit_at part o ≡ k → (not (eqb k 0) && eqb (outputAt c s.outputs o (k - 1)).credit c.downstream) ≡ false
-          → named k ≡ some w → (outputAt c s.outputs o w).credit ≡ c.downstream → ⊥
+      go : (w k : ℕ) → credit_at part o ≡ k → (not (eqb k 0) && eqb (output_at c s.outputs o (k - 1)).credit c.downstream) ≡ false
+          → named k ≡ some w → (output_at c s.outputs o w).credit ≡ c.downstream → ⊥
       go w zero r q n full = none-ne-some w n
       go w (suc k) r q n full =
           let same = some-injective k w n in
           let here : w ≡ suc k - 1 = omega arith in
           let some = ap not (ne_eqb (suc k) 0 (λ z. omega arith)) in
-          eqb-false (outputAt c s.outputs o (suc k - 1)).credit c.downstream (second-fails (not (eqb (suc k) 0)) _ q some)
-          (ap (λ (u : ℕ). (outputAt c s.outputs o u).credit) (sym here) ∙ full)
+          eqb-false (output_at c s.outputs o (suc k - 1)).credit c.downstream (second_fails (not (eqb (suc k) 0)) _ q some)
+          (ap (λ (u : ℕ). (output_at c s.outputs o u).credit) (sym here) ∙ full)
 
-  turn-comes : (i : ℕ) → outOfTurn c s.inputs part i ≡ false → brings part i ≡ true
+  turn_comes : (i : ℕ) → out_of_turn c s.inputs part i ≡ false → brings part i ≡ true
       → InTurn c s.inputs part i
-  unfolding outOfTurn xor
-  turn-comes i e b =
-      go (startsKind (kind_at part i)) (input_at c s.inputs i (vcAt part i)).opened
-      (second-fails (brings part i) (beq (startsKind (kind_at part i)) (input_at c s.inputs i (vcAt part i)).opened) e b)
+  unfolding out_of_turn xor
+  turn_comes i e b =
+      go (starts_kind (kind_at part i)) (input_at c s.inputs i (vc_at part i)).opened
+      (second_fails (brings part i) (beq (starts_kind (kind_at part i)) (input_at c s.inputs i (vc_at part i)).opened) e b)
     where
       go : (starts inside : Bool) → beq starts inside ≡ false → xor inside starts ≡ true
       go true true q = sym q
@@ -108,24 +108,24 @@ module _ (s : Router) (part : List ℕ) where
       go false true q = refl
       go false false q = sym q
 
-  credit-there : (i : ℕ) → noSenderCredit c (sendersPaid c s.home s.inputs) part i ≡ false → brings part i ≡ true
-      → PaidFor c (sendersPaid c s.home s.inputs) part i
-  unfolding noSenderCredit
-  credit-there i e b =
-      go (input_at c (sendersPaid c s.home s.inputs) i (vcAt part i)).credit
-      (second-fails (brings part i) _ e b)
+  credit_there : (i : ℕ) → no_sender_credit c (senders_paid c s.home s.inputs) part i ≡ false → brings part i ≡ true
+      → PaidFor c (senders_paid c s.home s.inputs) part i
+  unfolding no_sender_credit
+  credit_there i e b =
+      go (input_at c (senders_paid c s.home s.inputs) i (vc_at part i)).credit
+      (second_fails (brings part i) _ e b)
     where
       go : (n : ℕ) → eqb n 0 ≡ false → 1 ≤ n
       go zero q = absurd (eqb-false 0 0 q refl)
       go (suc n) q = omega arith
 
   -- where no rule holds, the rows say so
-  pub none-permits : Legal c → None (rulesOf s part) → Permitted s part
-  none-permits legal none =
-      let three = row-legal legal (none_first (none_rest (none_from numbers.rowWrong (rulesOf s part) none))) in
+  pub none_permits : Legal c → None (rules_of s part) → Permitted s part
+  none_permits legal none =
+      let three = row_legal-law legal (none_first (none_rest (none_from numbers.row_wrong (rules_of s part) none))) in
       record {
-        credits = λ o h. row-credit o (three o h) (none_first (none_from numbers.creditPastRoom (rulesOf s part) none) o h);
-        offers = λ i h. row-offered i (three i h);
-        turns = λ i h. turn-comes i (none_first (none_from numbers.outOfTurn (rulesOf s part) none) i h);
-        paid = λ i h. credit-there i (none_first (none_from numbers.noSenderCredit (rulesOf s part) none) i h);
+        credits = λ o h. row_credit o (three o h) (none_first (none_from numbers.credit_past_room (rules_of s part) none) o h);
+        offers = λ i h. row_offered i (three i h);
+        turns = λ i h. turn_comes i (none_first (none_from numbers.out_of_turn (rules_of s part) none) i h);
+        paid = λ i h. credit_there i (none_first (none_from numbers.no_sender_credit (rules_of s part) none) i h);
       }

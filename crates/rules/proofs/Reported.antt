@@ -10,7 +10,7 @@ use lib.ListN.{length, get_or, replicate, length-replicate, get_or-replicate}
 use borrow.Author.Tests.{eq-eqb}
 use Rattle.base.specs.declared.config.Config.{Config}
 use Rattle.base.specs.declared.reply.Sender.{Sender}
-use Rattle.state.specs.Views.{homePlace}
+use Rattle.state.specs.Views.{home_place}
 use Rattle.rules.specs.Ports.{named}
 use Rattle.rules.specs.Intake.{reaching, reported}
 use Rattle.rules.proofs.Folds.{turns-length, turns_at, turns-elsewhere}
@@ -21,26 +21,26 @@ module _ (c : Config) (home : List ℕ) where
   here i = some i
 
   abbrev says : ℕ → Sender → Sender
-  says i sender = reaching (named (homePlace home 0 i))
+  says i sender = reaching (named (home_place home 0 i))
 
-  pub reported-length : length (reported c home) ≡ 8
+  pub reported_length : length (reported c home) ≡ 8
   unfolding reported
-  reported-length =
+  reported_length =
       turns-length (reaching none) here says c.ports (replicate 8 (reaching none)) ∙ length-replicate 8 (reaching none)
 
   -- a port reports the VC that the home line's oldest place names, if it names one
-  pub reported-at : (i : ℕ) → i < c.ports → c.ports ≤ 8 → get_or (reported c home) i (reaching none) ≡ reaching (named (homePlace home 0 i))
+  pub reported_at : (i : ℕ) → i < c.ports → c.ports ≤ 8 → get_or (reported c home) i (reaching none) ≡ reaching (named (home_place home 0 i))
   unfolding reported
-  reported-at i h few =
+  reported_at i h few =
       let l = length-replicate 8 (reaching none) in
       turns_at (reaching none) here says c.ports (replicate 8 (reaching none)) i i h (omega arith)
       (λ j k n e. n (some-injective j i e))
-      ∙ ap (λ b. cond b (reaching (named (homePlace home 0 i))) (get_or (replicate 8 (reaching none)) i (reaching none))) (eq-eqb i i refl)
+      ∙ ap (λ b. cond b (reaching (named (home_place home 0 i))) (get_or (replicate 8 (reaching none)) i (reaching none))) (eq-eqb i i refl)
 
   -- any other reports none
-  pub reported-past : (i : ℕ) → c.ports ≤ i → i < 8 → get_or (reported c home) i (reaching none) ≡ reaching none
+  pub reported_past : (i : ℕ) → c.ports ≤ i → i < 8 → get_or (reported c home) i (reaching none) ≡ reaching none
   unfolding reported
-  reported-past i h l =
+  reported_past i h l =
       turns-elsewhere (reaching none) here says c.ports (replicate 8 (reaching none)) i
       (λ j k e. let q = some-injective j i e in absurd (omega arith))
       ∙ get_or-replicate 8 i (reaching none) (reaching none) l

@@ -13,156 +13,156 @@ use borrow.Author.Tests.{eqb-false}
 use Rattle.base.specs.declared.config.Config.{Config}
 use Rattle.base.specs.declared.reply.Left.TheVariants as left
 use Rattle.base.specs.declared.reply.Departure.{Departure}
-use Rattle.base.specs.Flit.{flitOf, kind_of, destinationOf, payloadOf, startsKind, endsKind}
+use Rattle.base.specs.Flit.{flit_of, kind_of, destination_of, payload_of, starts_kind, ends_kind}
 use Rattle.base.specs.Numbers as numbers
-use Rattle.base.specs.Reply.{departureOf, emptyReply}
-use Rattle.base.specs.Search.{firstFrom, every, or_else}
-use Rattle.base.specs.Sizes.{in_range, firstIllegal, illegalField}
-use Rattle.arbiter.specs.RoundRobin.{nextInTurn, pointerAfter}
-use Rattle.arbiter.specs.Matrix.{blankFrom}
+use Rattle.base.specs.Reply.{departure_of, empty_reply}
+use Rattle.base.specs.Search.{first_from, every, or_else}
+use Rattle.base.specs.Sizes.{in_range, first_illegal, illegal_field}
+use Rattle.arbiter.specs.RoundRobin.{next_in_turn, pointer_after}
+use Rattle.arbiter.specs.Matrix.{blank_from}
 use Rattle.arbiter.specs.Arbiter as arbiter
-use Rattle.arbiter.specs.Arbiter.{ofNarrow, choice}
+use Rattle.arbiter.specs.Arbiter.{of_narrow, choice}
 use Rattle.state.specs.declared.InVc.{InVc}
 use Rattle.state.specs.declared.Binding.{Binding}
 use Rattle.state.specs.declared.Binding.TheVariants.{Unbound, Bound}
 use Rattle.state.specs.declared.InputVc.{InputVc}
 use Rattle.state.specs.declared.OutputVc.{OutputVc}
 use Rattle.state.specs.declared.Router.{Router}
-use Rattle.state.specs.Fresh.{freshRouter, freshOutput}
-use Rattle.state.specs.Setters.{withBinding, withQueued, withCycle, withInputs, withOutputs, withStore, withHome, withArbiters}
-use Rattle.state.specs.Sound.{is_none, isFree, all, configurationLegal, cyclesFit, creditsWhole, creditsAddUp, legalFlit, wirePlaceLegal}
-use Rattle.state.specs.Sound.{wireLegal, homeLegal, queuesLegal, outputCreditsFit, namesAgree, arbitersSound, reading, reads}
-use Rattle.state.specs.Sound.{packetsRead, channelsUnused, slotsEmpty, lineUnused, arbitersUnused, shaped, sound}
-use Rattle.state.specs.Views.{channelNumber, input_at, outputAt, outputArbiter, vcArbiter, homePlace, wirePlace, wireVc}
-use Rattle.state.specs.Views.{queueAt, places, wireOf, home_of, flat, total}
-use Rattle.state.proofs.SoundStates.{withInput, withOutput, withSlot, withWirePlace, withHomePlace, config, turns, unbound, bound}
+use Rattle.state.specs.Fresh.{fresh_router, fresh_output}
+use Rattle.state.specs.Setters.{set_binding, with_queued, with_cycle, with_inputs, with_outputs, with_store, with_home, with_arbiters}
+use Rattle.state.specs.Sound.{is_none, is_vc_free, all, configuration_legal, cycles_fit, credits_whole, credits_add_up, legal_flit, wire_place_legal}
+use Rattle.state.specs.Sound.{wire_legal, home_legal, queues_legal, output_credits_fit, names_agree, arbiters_sound, reading, reads}
+use Rattle.state.specs.Sound.{packets_read, channels_unused, slots_empty, line_unused, arbiters_unused, shaped, sound}
+use Rattle.state.specs.Views.{channel_number, input_at, output_at, output_arbiter, vc_arbiter, home_place, wire_place, wire_vc}
+use Rattle.state.specs.Views.{queue_at, places, wire_of, home_of, flat, total}
+use Rattle.state.proofs.SoundStates.{with_input, with_output, with_slot, with_wire_place, with_home_place, config, turns, unbound, bound}
 use Rattle.state.proofs.SoundStates.{held, single, body, on, stored, queue}
-use Rattle.store.specs.Store.{frontOf, pushed, movedUp, popped}
-use Rattle.trace.specs.Bytes.{bigEndian}
+use Rattle.store.specs.Store.{front_of, pushed, moved_up, popped}
+use Rattle.trace.specs.Bytes.{big_endian}
 use Rattle.rules.specs.declared.Verdict.{Verdict}
 use Rattle.rules.specs.declared.Verdict.TheVariants.{Accepted, Refused}
 use Rattle.rules.specs.declared.Stepped.{Stepped}
-use Rattle.rules.specs.Ports.{overPorts}
-use Rattle.rules.specs.Rows.{rowZero, noOffer, legalOffer, rowLegal}
-use Rattle.rules.specs.Intake.{newest, advanced, sendersPaid, creditsReached, outputsPaid, creditsReturned, landings, landed, offers}
-use Rattle.rules.specs.Intake.{offersTaken}
-use Rattle.rules.specs.Allocation.{asks, freeVc, grantOf, bindings, wideMoved, narrowMoved, allocated, isReady, ready, inputPick}
-use Rattle.rules.specs.Allocation.{isFor, request, outputPick, switched, vcOf, winner}
-use Rattle.rules.specs.Departures.{Leaving, inputLeft, departed, goesOut, departures, leavingOf}
-use Rattle.rules.specs.Numbers.{Rule, rule2, rulesFor, rulesOf, refusing, first_of, number_of, runFull, partWrong, rowWrong}
-use Rattle.rules.specs.Numbers.{creditPastRoom, outOfTurn, noSenderCredit}
-use Rattle.rules.specs.Step.{takenIn, sentOut, routerAfter, replyOf, stepBy}
+use Rattle.rules.specs.Ports.{over_ports}
+use Rattle.rules.specs.Rows.{row_zero, no_offer, legal_offer, row_legal}
+use Rattle.rules.specs.Intake.{newest, advanced, senders_paid, credits_reached, outputs_paid, credits_returned, landings, landed, offers}
+use Rattle.rules.specs.Intake.{offers_taken}
+use Rattle.rules.specs.Allocation.{asks, lowest_free_vc, grant_of, bindings, wide_moved, narrow_moved, allocated, is_ready, ready, input_pick}
+use Rattle.rules.specs.Allocation.{is_for, request, output_pick, switched, vc_of, winner}
+use Rattle.rules.specs.Departures.{Leaving, input_left, departed, goes_out, departures, leaving_of}
+use Rattle.rules.specs.Numbers.{Rule, rule2, rules_for, rules_of, refusing, first_of, number_of, run_full, part_wrong, row_wrong}
+use Rattle.rules.specs.Numbers.{credit_past_room, out_of_turn, no_sender_credit}
+use Rattle.rules.specs.Step.{taken_in, sent_out, router_after, reply_of, step_by}
 use Rattle.rules.proofs.Differ.{Differ}
 
 -- THE WRONG VERSIONS, each named like its edit.
 
 -- of phase 7
-abbrev bodyOnAnotherOutputVc : Config → ℕ → ℕ → ℕ → Binding → Leaving → Leaving
-bodyOnAnotherOutputVc c o i v Unbound l = l
-bodyOnAnotherOutputVc c o i v (Bound b) l =
-    departed c o (cond (startsKind (kind_of (frontOf l.store (channelNumber c i v)))) b.vc (c.vcs - 1 - b.vc)) i v
-    (frontOf l.store (channelNumber c i v)) l
+abbrev wrong_body_on_another_output_vc : Config → ℕ → ℕ → ℕ → Binding → Leaving → Leaving
+wrong_body_on_another_output_vc c o i v Unbound l = l
+wrong_body_on_another_output_vc c o i v (Bound b) l =
+    departed c o (cond (starts_kind (kind_of (front_of l.store (channel_number c i v)))) b.vc (c.vcs - 1 - b.vc)) i v
+    (front_of l.store (channel_number c i v)) l
 
-abbrev departureStaysInItsQueue : Bool → InputVc → InputVc
-departureStaysInItsQueue ends x = withBinding (cond ends Unbound x.binding) (withQueued x.queued x)
+abbrev wrong_departure_stays_in_its_queue : Bool → InputVc → InputVc
+wrong_departure_stays_in_its_queue ends x = set_binding (cond ends Unbound x.binding) (with_queued x.queued x)
 
-abbrev departureStaysInTheStore : Router → Router
-departureStaysInTheStore s =
-    withCycle (s.cycle + 1) (withArbiters (switched s)
-    (withInputs (leavingOf s).inputs (withOutputs (leavingOf s).outputs
-    (withStore s.store (withHome (leavingOf s).home s)))))
+abbrev wrong_departure_stays_in_the_store : Router → Router
+wrong_departure_stays_in_the_store s =
+    with_cycle (s.cycle + 1) (with_arbiters (switched s)
+    (with_inputs (leaving_of s).inputs (with_outputs (leaving_of s).outputs
+    (with_store s.store (with_home (leaving_of s).home s)))))
 
 -- of phase 6
-abbrev bodyRoutedByItsDestination : Router → ℕ → ℕ → Bool
-bodyRoutedByItsDestination s i o =
-    ready s.config s.inputs s.outputs i (Option.get_or (inputPick s i) 0)
-    && eqb (destinationOf (frontOf s.store (channelNumber s.config i (Option.get_or (inputPick s i) 0)))) o
+abbrev wrong_body_routed_by_its_destination : Router → ℕ → ℕ → Bool
+wrong_body_routed_by_its_destination s i o =
+    ready s.config s.inputs s.outputs i (Option.get_or (input_pick s i) 0)
+    && eqb (destination_of (front_of s.store (channel_number s.config i (Option.get_or (input_pick s i) 0)))) o
 
-abbrev twoVcsOfOneInputLeave : Router → ℕ → Option InVc
-twoVcsOfOneInputLeave s o = vcOf pick (choice 8 s.config.arbiter s.config.ports (λ (i : ℕ). not (is_none (pick i)))
-    (ofNarrow (outputArbiter s.arbiters o)))
+abbrev wrong_two_vcs_of_one_input_leave : Router → ℕ → Option InVc
+wrong_two_vcs_of_one_input_leave s o = vc_of pick (choice 8 s.config.arbiter s.config.ports (λ (i : ℕ). not (is_none (pick i)))
+    (of_narrow (output_arbiter s.arbiters o)))
   where
     pick : ℕ → Option ℕ
     pick i =
-        firstFrom (λ (v : ℕ). ready s.config s.inputs s.outputs i v && isFor o (input_at s.config s.inputs i v).binding)
+        first_from (λ (v : ℕ). ready s.config s.inputs s.outputs i v && is_for o (input_at s.config s.inputs i v).binding)
         s.config.vcs 0
 
 -- of phase 5
-abbrev creditNeededToBind : Config → List OutputVc → ℕ → Option ℕ
-creditNeededToBind c outputs o =
-    firstFrom (λ (w : ℕ). isFree (outputAt c outputs o w).holder && leb 1 (outputAt c outputs o w).credit) c.vcs 0
+abbrev wrong_credit_needed_to_bind : Config → List OutputVc → ℕ → Option ℕ
+wrong_credit_needed_to_bind c outputs o =
+    first_from (λ (w : ℕ). is_vc_free (output_at c outputs o w).holder && leb 1 (output_at c outputs o w).credit) c.vcs 0
 
-abbrev highestFreeVc : Config → List OutputVc → ℕ → Option ℕ
-highestFreeVc c outputs o =
-    map (λ (w : ℕ). c.vcs - (1 + w)) (firstFrom (λ (w : ℕ). isFree (outputAt c outputs o (c.vcs - (1 + w))).holder) c.vcs 0)
+abbrev wrong_highest_free_vc : Config → List OutputVc → ℕ → Option ℕ
+wrong_highest_free_vc c outputs o =
+    map (λ (w : ℕ). c.vcs - (1 + w)) (first_from (λ (w : ℕ). is_vc_free (output_at c outputs o (c.vcs - (1 + w))).holder) c.vcs 0)
 
 -- of the cycle
-abbrev creditHomeWhenQueued : List ℕ → Router → Router
-creditHomeWhenQueued part s =
-    withHome (overPorts s.config.ports
-    (λ home i. cond (eqb (wirePlace s.wire 0 i) 0) home
-    (set home (newest s.config.back i) (wireVc (wirePlace s.wire 0 i) + 1))) (takenIn part s).home)
-    (sentOut (allocated (takenIn part s)))
+abbrev wrong_credit_home_when_queued : List ℕ → Router → Router
+wrong_credit_home_when_queued part s =
+    with_home (over_ports s.config.ports
+    (λ home i. cond (eqb (wire_place s.wire 0 i) 0) home
+    (set home (newest s.config.back i) (wire_vc (wire_place s.wire 0 i) + 1))) (taken_in part s).home)
+    (sent_out (allocated (taken_in part s)))
 
-abbrev freedAndGivenOutInOneCycle : List ℕ → Router → Router
-freedAndGivenOutInOneCycle part s = allocated (sentOut (allocated (takenIn part s)))
+abbrev wrong_freed_and_given_out_in_one_cycle : List ℕ → Router → Router
+wrong_freed_and_given_out_in_one_cycle part s = allocated (sent_out (allocated (taken_in part s)))
 
-abbrev refusedCycleMovesAPointer : Verdict → List ℕ → Router → Stepped
-refusedCycleMovesAPointer Accepted part s = record { verdict = Accepted; router = routerAfter part s; reply = replyOf part s }
-refusedCycleMovesAPointer (Refused r) part s = record { verdict = Refused r; router = allocated s; reply = emptyReply }
+abbrev wrong_refused_cycle_moves_a_pointer : Verdict → List ℕ → Router → Stepped
+wrong_refused_cycle_moves_a_pointer Accepted part s = record { verdict = Accepted; router = router_after part s; reply = reply_of part s }
+wrong_refused_cycle_moves_a_pointer (Refused r) part s = record { verdict = Refused r; router = allocated s; reply = empty_reply }
 
 -- of the numbers
-abbrev fiveBeforePhase1 : Router → List ℕ → List Rule
-fiveBeforePhase1 s part = rule2 s ∷ rulesFor s.config s.cycle s.inputs s.inputs s.outputs part
+abbrev wrong_five_before_phase_1 : Router → List ℕ → List Rule
+wrong_five_before_phase_1 s part = rule2 s ∷ rules_for s.config s.cycle s.inputs s.inputs s.outputs part
 
-abbrev idleRowNotLookedAt : List ℕ → ℕ → Bool
-idleRowNotLookedAt part i = true
+abbrev wrong_idle_row_not_looked_at : List ℕ → ℕ → Bool
+wrong_idle_row_not_looked_at part i = true
 
-abbrev portsBeyondPNotLookedAt : List ℕ → ℕ → Bool
-portsBeyondPNotLookedAt part i = true
+abbrev wrong_ports_beyond_p_not_looked_at : List ℕ → ℕ → Bool
+wrong_ports_beyond_p_not_looked_at part i = true
 
 -- SOUND ROUTERS, P = 2, V = 2, D = 3, E = 2, F = 2, B = 2, and what is looked at.
 abbrev c : Config
 c = config 1
 
 -- VC 0 of input 0 is bound to VC 0 of output 1, its head has left, a body is queued
-abbrev underWay : Router
-underWay = withOutput 2 (held 0 0 2) (queue (body ∷ []) (withInput 0 (bound 1 0 2 true 1) turns))
+abbrev under_way : Router
+under_way = with_output 2 (held 0 0 2) (queue (body ∷ []) (with_input 0 (bound 1 0 2 true 1) turns))
 
 abbrev channel : InputVc
-channel = input_at c underWay.inputs 0 0
+channel = input_at c under_way.inputs 0 0
 
 -- phase 7 before anything has left
 abbrev leaving : Leaving
 leaving =
     record {
-      inputs = underWay.inputs;
-      outputs = underWay.outputs;
-      store = underWay.store;
-      home = underWay.home;
+      inputs = under_way.inputs;
+      outputs = under_way.outputs;
+      store = under_way.store;
+      home = under_way.home;
       left = replicate 8 (record { left = left.Nothing });
     }
 
 -- the VC that a flit has left by at output 1
-abbrev leftBy : Leaving → Option ℕ
-leftBy l = map (λ (d : Departure). d.out_vc) (departureOf (get_or l.left 1 (record { left = left.Nothing })).left)
+abbrev left_by : Leaving → Option ℕ
+left_by l = map (λ (d : Departure). d.out_vc) (departure_of (get_or l.left 1 (record { left = left.Nothing })).left)
 
 -- VC 0 of input 0 has a single for output 1 queued, VC 1 one for output 0
-abbrev bothReady : Router
-bothReady = withSlot 16 (single 0) (withInput 1 (unbound 2 false 1) (queue (single 1 ∷ []) (withInput 0 (unbound 2 false 1) turns)))
+abbrev both_ready : Router
+both_ready = with_slot 16 (single 0) (with_input 1 (unbound 2 false 1) (queue (single 1 ∷ []) (with_input 0 (unbound 2 false 1) turns)))
 
 -- VC 0 of input 0 has a single for output 1 queued, and another lands at VC 0 of input 1
 abbrev rivals : Router
 rivals =
-    withWirePlace 0 1 (on 0 (single 1)) (withInput 2 (unbound 2 false 0) (queue (single 1 ∷ []) (withInput 0 (unbound 2 false 1) turns)))
+    with_wire_place 0 1 (on 0 (single 1)) (with_input 2 (unbound 2 false 0) (queue (single 1 ∷ []) (with_input 0 (unbound 2 false 1) turns)))
 
 -- output 1 has no credit left
 abbrev spent : Router
-spent = withOutput 3 (freshOutput 0) (withOutput 2 (freshOutput 0) turns)
+spent = with_output 3 (fresh_output 0) (with_output 2 (fresh_output 0) turns)
 
 -- VC 0 of input 0 has no sender credit, and one comes home just now
-abbrev comingHome : Router
-comingHome = withHomePlace 0 0 1 (queue (single 1 ∷ single 1 ∷ []) (withInput 0 (unbound 0 false 2) turns))
+abbrev coming_home : Router
+coming_home = with_home_place 0 0 1 (queue (single 1 ∷ single 1 ∷ []) (with_input 0 (unbound 0 false 2) turns))
 
 -- a part in which nobody brings anything, and one in which port 0 brings a single for output 1
 abbrev idle : List ℕ
@@ -173,67 +173,67 @@ offering = set (set idle 0 4) 2 1
 
 -- THE TABLE: a field for each edit; the value of the right definition stands before that of the wrong one.
 pub record WrongVersions : Type 0 where
-  pub routers-sound : (sound underWay ≡ true) × (sound bothReady ≡ true) × (sound rivals ≡ true) × (sound spent ≡ true)
-      × (sound comingHome ≡ true)
+  pub routers_sound : (sound under_way ≡ true) × (sound both_ready ≡ true) × (sound rivals ≡ true) × (sound spent ≡ true)
+      × (sound coming_home ≡ true)
   -- the VC that the body leaves by; its head left by VC 0
-  pub body-on-another-output-vc : Differ (leftBy (goesOut c 1 0 0 channel.binding leaving))
-      (leftBy (bodyOnAnotherOutputVc c 1 0 0 channel.binding leaving)) (some 0) (some 1)
+  pub body_on_another_output_vc : Differ (left_by (goes_out c 1 0 0 channel.binding leaving))
+      (left_by (wrong_body_on_another_output_vc c 1 0 0 channel.binding leaving)) (some 0) (some 1)
   -- whether the body asks for output 1, that it is bound to
-  pub body-routed-by-its-destination : Differ (request underWay 0 1) (bodyRoutedByItsDestination underWay 0 1) true false
+  pub body_routed_by_its_destination : Differ (request under_way 0 1) (wrong_body_routed_by_its_destination under_way 0 1) true false
   -- how many are queued behind the one that leaves, and the slot that it left: the edit is of two definitions
-  pub departure-stays-in-its-queue : Differ (inputLeft false channel).queued (departureStaysInItsQueue false channel).queued 0 1
-      × Differ (get_or (sentOut underWay).store 0 0) (get_or (departureStaysInTheStore underWay).store 0 0) 0 body
+  pub departure_stays_in_its_queue : Differ (input_left false channel).queued (wrong_departure_stays_in_its_queue false channel).queued 0 1
+      × Differ (get_or (sent_out under_way).store 0 0) (get_or (wrong_departure_stays_in_the_store under_way).store 0 0) 0 body
   -- who wins output 0, where VC 0 of input 0 wins output 1
-  pub two-vcs-of-one-input-leave : Differ (winner (allocated bothReady) 0) (twoVcsOfOneInputLeave (allocated bothReady) 0)
+  pub two_vcs_of_one_input_leave : Differ (winner (allocated both_ready) 0) (wrong_two_vcs_of_one_input_leave (allocated both_ready) 0)
       none (some (record { input = 0; vc = 1 }))
   -- which VC of output 1 is given out
-  pub credit-needed-to-bind : Differ (freeVc c spent.outputs 1) (creditNeededToBind c spent.outputs 1) (some 0) none
-  pub highest-free-vc : Differ (freeVc c turns.outputs 1) (highestFreeVc c turns.outputs 1) (some 0) (some 1)
+  pub credit_needed_to_bind : Differ (lowest_free_vc c spent.outputs 1) (wrong_credit_needed_to_bind c spent.outputs 1) (some 0) none
+  pub highest_free_vc : Differ (lowest_free_vc c turns.outputs 1) (wrong_highest_free_vc c turns.outputs 1) (some 0) (some 1)
   -- the newest credit of input 1 on its way home; its flit has landed and stays
-  pub credit-home-when-queued : Differ (homePlace (routerAfter idle rivals).home 1 1)
-      (homePlace (creditHomeWhenQueued idle rivals).home 1 1) 0 1
+  pub credit_home_when_queued : Differ (home_place (router_after idle rivals).home 1 1)
+      (home_place (wrong_credit_home_when_queued idle rivals).home 1 1) 0 1
   -- whether VC 0 of output 1 is free after the cycle in which a single has left by it
-  pub freed-and-given-out-in-one-cycle : Differ (isFree (outputAt c (routerAfter idle rivals).outputs 1 0).holder)
-      (isFree (outputAt c (freedAndGivenOutInOneCycle idle rivals).outputs 1 0).holder) true false
+  pub freed_and_given_out_in_one_cycle : Differ (is_vc_free (output_at c (router_after idle rivals).outputs 1 0).holder)
+      (is_vc_free (output_at c (wrong_freed_and_given_out_in_one_cycle idle rivals).outputs 1 0).holder) true false
   -- the pointer of output 1's VC arbiter after a refused cycle
-  pub refused-cycle-moves-a-pointer : Differ (vcArbiter (stepBy (refusing numbers.rowWrong 0) idle rivals).router.arbiters 1).pointer
-      (vcArbiter (refusedCycleMovesAPointer (refusing numbers.rowWrong 0) idle rivals).router.arbiters 1).pointer 0 1
+  pub refused_cycle_moves_a_pointer : Differ (vc_arbiter (step_by (refusing numbers.row_wrong 0) idle rivals).router.arbiters 1).pointer
+      (vc_arbiter (wrong_refused_cycle_moves_a_pointer (refusing numbers.row_wrong 0) idle rivals).router.arbiters 1).pointer 0 1
   -- the number of an offer that the credit just come home pays for
-  pub five-before-phase-1 : Differ (number_of (first_of (rulesOf comingHome offering)))
-      (number_of (first_of (fiveBeforePhase1 comingHome offering))) numbers.done numbers.noSenderCredit
+  pub five_before_phase_1 : Differ (number_of (first_of (rules_of coming_home offering)))
+      (number_of (first_of (wrong_five_before_phase_1 coming_home offering))) numbers.done numbers.no_sender_credit
   -- whether the row of port 1, which brings no flit but a VC, is right; and that of port 2, with a credit
-  pub idle-row-not-looked-at : Differ (noOffer (set idle 9 1) 1) (idleRowNotLookedAt (set idle 9 1) 1) false true
-  pub ports-beyond-P-not-looked-at : Differ (rowZero (set idle 19 1) 2) (portsBeyondPNotLookedAt (set idle 19 1) 2) false true
+  pub idle_row_not_looked_at : Differ (no_offer (set idle 9 1) 1) (wrong_idle_row_not_looked_at (set idle 9 1) 1) false true
+  pub ports_beyond_p_not_looked_at : Differ (row_zero (set idle 19 1) 2) (wrong_ports_beyond_p_not_looked_at (set idle 19 1) 2) false true
 
 unlike : (m n : ℕ) → eqb m n ≡ false → some m ≡ some n → ⊥
 unlike m n e q = eqb-false m n e (some-injective m n q)
 
-pub wrong-versions : WrongVersions
-unfolding withInput withOutput withSlot withWirePlace withHomePlace config turns unbound bound held single body on stored queue freshRouter
-    xor firstFrom every or_else in_range firstIllegal illegalField flitOf kind_of destinationOf payloadOf startsKind endsKind nextInTurn
-    pointerAfter blankFrom arbiter.known arbiter.usable arbiter.choice arbiter.moved arbiter.after arbiter.fresh arbiter.sound queueAt
-    places wireOf home_of flat total is_none all configurationLegal cyclesFit creditsWhole creditsAddUp legalFlit wirePlaceLegal wireLegal
-    homeLegal queuesLegal outputCreditsFit namesAgree arbitersSound reading reads packetsRead channelsUnused slotsEmpty lineUnused
-    arbitersUnused shaped sound frontOf pushed movedUp popped bigEndian overPorts rowZero noOffer legalOffer rowLegal advanced sendersPaid
-    creditsReached outputsPaid creditsReturned landings landed offers offersTaken asks freeVc grantOf bindings wideMoved narrowMoved
-    allocated isReady inputPick request outputPick switched winner departures leavingOf runFull partWrong rowWrong creditPastRoom outOfTurn
-    noSenderCredit first_of takenIn sentOut routerAfter
-wrong-versions =
+pub wrong_versions : WrongVersions
+unfolding with_input with_output with_slot with_wire_place with_home_place config turns unbound bound held single body on stored queue fresh_router
+    xor first_from every or_else in_range first_illegal illegal_field flit_of kind_of destination_of payload_of starts_kind ends_kind next_in_turn
+    pointer_after blank_from arbiter.known arbiter.usable arbiter.choice arbiter.moved arbiter.after arbiter.fresh arbiter.sound queue_at
+    places wire_of home_of flat total is_none all configuration_legal cycles_fit credits_whole credits_add_up legal_flit wire_place_legal wire_legal
+    home_legal queues_legal output_credits_fit names_agree arbiters_sound reading reads packets_read channels_unused slots_empty line_unused
+    arbiters_unused shaped sound front_of pushed moved_up popped big_endian over_ports row_zero no_offer legal_offer row_legal advanced senders_paid
+    credits_reached outputs_paid credits_returned landings landed offers offers_taken asks lowest_free_vc grant_of bindings wide_moved narrow_moved
+    allocated is_ready input_pick request output_pick switched winner departures leaving_of run_full part_wrong row_wrong credit_past_room out_of_turn
+    no_sender_credit first_of taken_in sent_out router_after
+wrong_versions =
     record {
-      routers-sound = (refl, refl, refl, refl, refl);
-      body-on-another-output-vc = record { right_is = refl; wrong-is = refl; apart = unlike 0 1 refl };
-      body-routed-by-its-destination = record { right_is = refl; wrong-is = refl; apart = true≢false };
-      departure-stays-in-its-queue = (
-        record { right_is = refl; wrong-is = refl; apart = eqb-false 0 1 refl },
-        record { right_is = refl; wrong-is = refl; apart = eqb-false 0 _ refl },
+      routers_sound = (refl, refl, refl, refl, refl);
+      body_on_another_output_vc = record { right_is = refl; wrong_is = refl; apart = unlike 0 1 refl };
+      body_routed_by_its_destination = record { right_is = refl; wrong_is = refl; apart = true≢false };
+      departure_stays_in_its_queue = (
+        record { right_is = refl; wrong_is = refl; apart = eqb-false 0 1 refl },
+        record { right_is = refl; wrong_is = refl; apart = eqb-false 0 _ refl },
       );
-      two-vcs-of-one-input-leave = record { right_is = refl; wrong-is = refl; apart = none-ne-some _ };
-      credit-needed-to-bind = record { right_is = refl; wrong-is = refl; apart = some-ne-none _ };
-      highest-free-vc = record { right_is = refl; wrong-is = refl; apart = unlike 0 1 refl };
-      credit-home-when-queued = record { right_is = refl; wrong-is = refl; apart = eqb-false 0 1 refl };
-      freed-and-given-out-in-one-cycle = record { right_is = refl; wrong-is = refl; apart = true≢false };
-      refused-cycle-moves-a-pointer = record { right_is = refl; wrong-is = refl; apart = eqb-false 0 1 refl };
-      five-before-phase-1 = record { right_is = refl; wrong-is = refl; apart = eqb-false 0 5 refl };
-      idle-row-not-looked-at = record { right_is = refl; wrong-is = refl; apart = false≢true };
-      ports-beyond-P-not-looked-at = record { right_is = refl; wrong-is = refl; apart = false≢true };
+      two_vcs_of_one_input_leave = record { right_is = refl; wrong_is = refl; apart = none-ne-some _ };
+      credit_needed_to_bind = record { right_is = refl; wrong_is = refl; apart = some-ne-none _ };
+      highest_free_vc = record { right_is = refl; wrong_is = refl; apart = unlike 0 1 refl };
+      credit_home_when_queued = record { right_is = refl; wrong_is = refl; apart = eqb-false 0 1 refl };
+      freed_and_given_out_in_one_cycle = record { right_is = refl; wrong_is = refl; apart = true≢false };
+      refused_cycle_moves_a_pointer = record { right_is = refl; wrong_is = refl; apart = eqb-false 0 1 refl };
+      five_before_phase_1 = record { right_is = refl; wrong_is = refl; apart = eqb-false 0 5 refl };
+      idle_row_not_looked_at = record { right_is = refl; wrong_is = refl; apart = false≢true };
+      ports_beyond_p_not_looked_at = record { right_is = refl; wrong_is = refl; apart = false≢true };
     }

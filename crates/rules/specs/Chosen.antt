@@ -5,24 +5,24 @@ use Rattle.std.specs.Prelude.{Bool, true, false, cond, not, ◌&&◌, List, [], 
 use Rattle.std.proofs.Math.Option.{Option, some, none}
 use Rattle.base.specs.declared.config.Config.{Config}
 use Rattle.base.specs.declared.flit.Flit.{Flit}
-use Rattle.base.specs.Flit.{destinationOf}
-use Rattle.base.specs.Search.{every, firstFrom}
-use Rattle.arbiter.specs.Arbiter.{Arbiter, ofNarrow, ofWide, choice, after}
-use Rattle.model.specs.Channel.{queueNow}
+use Rattle.base.specs.Flit.{destination_of}
+use Rattle.base.specs.Search.{every, first_from}
+use Rattle.arbiter.specs.Arbiter.{Arbiter, of_narrow, of_wide, choice, after}
+use Rattle.model.specs.Channel.{queue_now}
 use Rattle.model.specs.Router.{Router, OutVc}
 use Rattle.model.specs.Cycle.{Event, Choice}
-use Rattle.model.specs.Phases.{outCreditNow, granted}
+use Rattle.model.specs.Phases.{out_credit_now, granted}
 use Rattle.state.specs.declared.Arbiters.{Arbiters}
-use Rattle.state.specs.Sound.{frontIsFor}
-use Rattle.state.specs.Views.{channelNumber, vcArbiter, inputArbiter, outputArbiter}
+use Rattle.state.specs.Sound.{front_is_for}
+use Rattle.state.specs.Views.{channel_number, vc_arbiter, input_arbiter, output_arbiter}
 
-abbrev pub isBoundTo : ℕ → ℕ → Option OutVc → Bool
-isBoundTo o w none = false
-isBoundTo o w (some b) = eqb b.output o && eqb b.vc w
+abbrev pub is_bound_to : ℕ → ℕ → Option OutVc → Bool
+is_bound_to o w none = false
+is_bound_to o w (some b) = eqb b.output o && eqb b.vc w
 
-abbrev pub isUnbound : Option OutVc → Bool
-isUnbound none = true
-isUnbound (some b) = false
+abbrev pub is_unbound : Option OutVc → Bool
+is_unbound none = true
+is_unbound (some b) = false
 
 -- an option that names this number
 abbrev pub names : ℕ → Option ℕ → Bool
@@ -35,86 +35,86 @@ is_empty (f ∷ fs) = false
 
 module _ (c : Config) (a : Arbiters) (s : Router Flit) (e : Event Flit) where
   -- "An unbound one whose front flit is H or S asks at its destination", here output o
-  unfoldable pub asksAt : ℕ → ℕ → ℕ → Bool
-  asksAt o i v = isUnbound (s.bound i v) && frontIsFor o (queueNow (s.channel i v))
+  unfoldable pub asks_at : ℕ → ℕ → ℕ → Bool
+  asks_at o i v = is_unbound (s.bound i v) && front_is_for o (queue_now (s.channel i v))
 
   -- nobody is bound to VC w of output o
-  unfoldable pub isFree : ℕ → ℕ → Bool
-  isFree o w = every c.ports (λ (i : ℕ). every c.vcs (λ (v : ℕ). not (isBoundTo o w (s.bound i v))))
+  unfoldable pub is_vc_free : ℕ → ℕ → Bool
+  is_vc_free o w = every c.ports (λ (i : ℕ). every c.vcs (λ (v : ℕ). not (is_bound_to o w (s.bound i v))))
 
   -- "the lowest-numbered free VC", "if some VC of that output is free"
-  unfoldable pub leastFree : ℕ → Option ℕ
-  leastFree o = firstFrom (isFree o) c.vcs 0
+  unfoldable pub least_free : ℕ → Option ℕ
+  least_free o = first_from (is_vc_free o) c.vcs 0
 
-  abbrev pub ifFree : Option ℕ → Option ℕ → Option ℕ
-  ifFree none winner = none
-  ifFree (some w) winner = winner
+  abbrev pub if_free : Option ℕ → Option ℕ → Option ℕ
+  if_free none winner = none
+  if_free (some w) winner = winner
 
-  -- "One arbiter per output, P·V wide, requester number i·V+v, picks one"
-  unfoldable pub bindsAt : ℕ → Option ℕ
-  bindsAt o =
-      ifFree (leastFree o)
-      (choice 32 c.arbiter (c.ports * c.vcs) (λ (x : ℕ). asksAt o (x / c.vcs) (x % c.vcs)) (ofWide (vcArbiter a o)))
+  -- "One arbiter per output, p_V wide, requester number i·V+v, picks one"
+  unfoldable pub binds_at : ℕ → Option ℕ
+  binds_at o =
+      if_free (least_free o)
+      (choice 32 c.arbiter (c.ports * c.vcs) (λ (x : ℕ). asks_at o (x / c.vcs) (x % c.vcs)) (of_wide (vc_arbiter a o)))
 
-  abbrev pub toVc : ℕ → Option ℕ → Option OutVc
-  toVc o none = none
-  toVc o (some w) = some (record { output = o; vc = w })
+  abbrev pub to_vc : ℕ → Option ℕ → Option OutVc
+  to_vc o none = none
+  to_vc o (some w) = some (record { output = o; vc = w })
 
   -- what VC v of input i is bound to in this cycle: by the output that its front names, if that output picks it
-  abbrev pub grantBy : ℕ → ℕ → List Flit → Option OutVc
-  grantBy i v [] = none
-  grantBy i v (f ∷ q) = cond (names (channelNumber c i v) (bindsAt (destinationOf f)))
-      (toVc (destinationOf f) (leastFree (destinationOf f))) none
+  abbrev pub grant_by : ℕ → ℕ → List Flit → Option OutVc
+  grant_by i v [] = none
+  grant_by i v (f ∷ q) = cond (names (channel_number c i v) (binds_at (destination_of f)))
+      (to_vc (destination_of f) (least_free (destination_of f))) none
 
   unfoldable pub grant : ℕ → ℕ → Option OutVc
-  grant i v = cond (ltb i c.ports && ltb v c.vcs) (grantBy i v (queueNow (s.channel i v))) none
+  grant i v = cond (ltb i c.ports && ltb v c.vcs) (grant_by i v (queue_now (s.channel i v))) none
 
   -- "A bound input VC (also one bound just now)"
-  unfoldable pub boundNow : ℕ → ℕ → Option OutVc
-  boundNow i v = granted (grant i v) (s.bound i v)
+  unfoldable pub bound_now : ℕ → ℕ → Option OutVc
+  bound_now i v = granted (grant i v) (s.bound i v)
 
   abbrev pub paid : Option OutVc → Bool
   paid none = false
-  paid (some b) = not (eqb (outCreditNow s e b.output b.vc) 0)
+  paid (some b) = not (eqb (out_credit_now s e b.output b.vc) 0)
 
   -- ".. is ready when its queue is not empty and its output VC has credit"
-  unfoldable pub isReady : ℕ → ℕ → Bool
-  isReady i v = paid (boundNow i v) && not (is_empty (queueNow (s.channel i v)))
+  unfoldable pub is_ready : ℕ → ℕ → Bool
+  is_ready i v = paid (bound_now i v) && not (is_empty (queue_now (s.channel i v)))
 
   -- "Each input's V-wide arbiter picks one ready VC."
-  unfoldable pub inputWinner : ℕ → Option ℕ
-  inputWinner i = choice 8 c.arbiter c.vcs (isReady i) (ofNarrow (inputArbiter a i))
+  unfoldable pub input_winner : ℕ → Option ℕ
+  input_winner i = choice 8 c.arbiter c.vcs (is_ready i) (of_narrow (input_arbiter a i))
 
-  abbrev pub isFor : ℕ → Option OutVc → Bool
-  isFor o none = false
-  isFor o (some b) = eqb b.output o
+  abbrev pub is_for : ℕ → Option OutVc → Bool
+  is_for o none = false
+  is_for o (some b) = eqb b.output o
 
-  abbrev pub asksFor : ℕ → ℕ → Option ℕ → Bool
-  asksFor o i none = false
-  asksFor o i (some v) = isFor o (boundNow i v)
+  abbrev pub asks_for : ℕ → ℕ → Option ℕ → Bool
+  asks_for o i none = false
+  asks_for o i (some v) = is_for o (bound_now i v)
 
   -- "each output's P-wide arbiter picks one row": among the inputs whose pick is bound to it
-  unfoldable pub outputWinner : ℕ → Option ℕ
-  outputWinner o = choice 8 c.arbiter c.ports (λ (i : ℕ). asksFor o i (inputWinner i)) (ofNarrow (outputArbiter a o))
+  unfoldable pub output_winner : ℕ → Option ℕ
+  output_winner o = choice 8 c.arbiter c.ports (λ (i : ℕ). asks_for o i (input_winner i)) (of_narrow (output_arbiter a o))
 
-  abbrev pub winsAt : ℕ → Option OutVc → Bool
-  winsAt i none = false
-  winsAt i (some b) = names i (outputWinner b.output)
+  abbrev pub wins_at : ℕ → Option OutVc → Bool
+  wins_at i none = false
+  wins_at i (some b) = names i (output_winner b.output)
 
   -- it leaves exactly if it is its input's winner, and its input is its output's winner
   unfoldable pub leaves : ℕ → ℕ → Bool
-  leaves i v = ltb i c.ports && ltb v c.vcs && names v (inputWinner i) && winsAt i (boundNow i v)
+  leaves i v = ltb i c.ports && ltb v c.vcs && names v (input_winner i) && wins_at i (bound_now i v)
 
   -- THE choice of the arbiters
   unfoldable pub chosen : Choice
   chosen = record { grant = grant; leaves = leaves }
 
   -- each arbiter of a port that there is, afterwards
-  unfoldable pub vcArbiterAfter : ℕ → Arbiter
-  vcArbiterAfter o = after 32 c.arbiter (c.ports * c.vcs) (bindsAt o) (ofWide (vcArbiter a o))
+  unfoldable pub vc_arbiter_after : ℕ → Arbiter
+  vc_arbiter_after o = after 32 c.arbiter (c.ports * c.vcs) (binds_at o) (of_wide (vc_arbiter a o))
 
-  unfoldable pub inputArbiterAfter : ℕ → Arbiter
-  inputArbiterAfter i = after 8 c.arbiter c.vcs (inputWinner i) (ofNarrow (inputArbiter a i))
+  unfoldable pub input_arbiter_after : ℕ → Arbiter
+  input_arbiter_after i = after 8 c.arbiter c.vcs (input_winner i) (of_narrow (input_arbiter a i))
 
-  unfoldable pub outputArbiterAfter : ℕ → Arbiter
-  outputArbiterAfter o = after 8 c.arbiter c.ports (outputWinner o) (ofNarrow (outputArbiter a o))
+  unfoldable pub output_arbiter_after : ℕ → Arbiter
+  output_arbiter_after o = after 8 c.arbiter c.ports (output_winner o) (of_narrow (output_arbiter a o))

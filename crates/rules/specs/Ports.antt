@@ -4,9 +4,9 @@ use Rattle.std.proofs.Math.Option.{Option, some, none}
 use Rattle.std.specs.Prelude.{ℕ, zero, suc}
 
 -- f at port 0, then at port 1, .., last at port n - 1
-unfoldable pub overPorts : {A : Type 0} → ℕ → (A → ℕ → A) → A → A
-overPorts zero f s = s
-overPorts (suc n) f s = f (overPorts n f s) n
+unfoldable pub over_ports : {A : Type 0} → ℕ → (A → ℕ → A) → A → A
+over_ports zero f s = s
+over_ports (suc n) f s = f (over_ports n f s) n
 
 -- "0 none, else 1 + .. VC"
 abbrev pub named : ℕ → Option ℕ

@@ -1,6 +1,6 @@
 // A run between two calls.
 ghost use Rattle.std.specs.Prelude.{◌≡◌};
-ghost use Rattle.runs.specs.Run.{started, betweenBlocks, stoppedInside, placeRight, runSound};
+ghost use Rattle.runs.specs.Run.{started, between_blocks, stopped_inside, place_right, run_sound};
 
 use base::Config;
 use state::Router;
@@ -33,7 +33,7 @@ impl Run {
 
 // Whether a run, which skips no cycle, can stand between two blocks.
 fn is_between(place: Place, cycles: u64) -> bool
-    ensures { result ≡ betweenBlocks place cycles }
+    ensures { result ≡ between_blocks place cycles }
 {
     if !trace::is_good(place, cycles) {
         return false;
@@ -46,7 +46,7 @@ fn is_between(place: Place, cycles: u64) -> bool
 
 // Whether a run can have stopped in the last block, at a cycle that was refused: up to six of its cycles came before that one.
 fn is_inside(place: Place, cycles: u64) -> bool
-    ensures { result ≡ stoppedInside place cycles }
+    ensures { result ≡ stopped_inside place cycles }
 {
     if !place.configured {
         return false;
@@ -77,7 +77,7 @@ fn is_inside(place: Place, cycles: u64) -> bool
 
 // Whether some file leads a run to this place with so many cycles accepted.
 fn is_place_right(place: Place, cycles: u64, over: bool) -> bool
-    ensures { result ≡ placeRight place cycles over }
+    ensures { result ≡ place_right place cycles over }
 {
     if is_between(place, cycles) {
         return true;
@@ -90,7 +90,7 @@ fn is_place_right(place: Place, cycles: u64, over: bool) -> bool
 
 // Whether each part of a run can be: its place, its router, its flits.
 pub fn is_sound(run: Run) -> bool
-    ensures { result ≡ runSound run }
+    ensures { result ≡ run_sound run }
 {
     let router = run.router;
     let place = run.place;

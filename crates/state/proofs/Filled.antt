@@ -19,6 +19,6 @@ filled_more x z size n h =
     ∙ ap (λ l. l ++ replicate m z) (replicate-append-replicate n 1 x)
 
 -- the same of an array that is filled so far
-pub filled-again : {A : Type 0} (made : List A) (x z : A) (size n : ℕ) → n < size → made ≡ filled n size x z
+pub filled_again : {A : Type 0} (made : List A) (x z : A) (size n : ℕ) → n < size → made ≡ filled n size x z
     → set made n x ≡ filled (n + 1) size x z
-filled-again made x z size n h e = ap (λ l. set l n x) e ∙ filled_more x z size n h
+filled_again made x z size n h e = ap (λ l. set l n x) e ∙ filled_more x z size n h

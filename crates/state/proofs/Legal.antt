@@ -6,21 +6,21 @@ use mathlib.Core.Option.{Option, some, none}
 use Prim.Native.Nat.{ℕ, ◌≤◌}
 use borrow.Author.Tests.{leb-true}
 use Rattle.base.specs.declared.config.Config.{Config}
-use Rattle.base.specs.Sizes.{illegalField}
-use Rattle.base.proofs.Configurations.{Legal, legal-exact}
+use Rattle.base.specs.Sizes.{illegal_field}
+use Rattle.base.proofs.Configurations.{Legal, legal_exact}
 use Rattle.state.specs.declared.Router.{Router}
-use Rattle.state.specs.Sound.{Sound, is_none, configurationLegal, cyclesFit}
+use Rattle.state.specs.Sound.{Sound, is_none, configuration_legal, cycles_fit}
 
 -- a configuration that passes its clause is legal
-pub configuration-legal : (c : Config) → configurationLegal c ≡ true → Legal c
-unfolding configurationLegal is_none
-configuration-legal c e = (legal-exact c).0 (go (illegalField c) e)
+pub configuration_legal-law : (c : Config) → configuration_legal c ≡ true → Legal c
+unfolding configuration_legal is_none
+configuration_legal-law c e = (legal_exact c).0 (go (illegal_field c) e)
   where
     go : (o : Option ℕ) → is_none o ≡ true → o ≡ none
     go none e = refl
     go (some k) e = absurd (false≢true e)
 
 -- a sound router has at most so many cycles
-pub sound-cycle : {s : Router} → Sound s → s.cycle ≤ 1000000000
-unfolding cyclesFit
-sound-cycle {s} z = leb-true s.cycle 1000000000 z.sizes.cycles
+pub sound_cycle : {s : Router} → Sound s → s.cycle ≤ 1000000000
+unfolding cycles_fit
+sound_cycle {s} z = leb-true s.cycle 1000000000 z.sizes.cycles

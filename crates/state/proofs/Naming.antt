@@ -19,109 +19,109 @@ use Rattle.state.specs.declared.Holder.{Holder}
 use Rattle.state.specs.declared.Holder.TheVariants.{Nobody, Held}
 use Rattle.state.specs.declared.InputVc.{InputVc}
 use Rattle.state.specs.declared.OutputVc.{OutputVc}
-use Rattle.state.specs.Fresh.{freshInput, freshOutput}
-use Rattle.state.specs.Views.{channelNumber}
-use Rattle.state.specs.Sound.{bindingIs, holderIs, inputNamed, outputNamed, isUnbound, isFree}
-use Rattle.state.specs.Testing.{place_of, boundPlace, heldPlace, inputNames, outputNames}
-use Rattle.state.proofs.Made.{channels-fit}
+use Rattle.state.specs.Fresh.{fresh_input, fresh_output}
+use Rattle.state.specs.Views.{channel_number}
+use Rattle.state.specs.Sound.{binding_is, holder_is, input_named, output_named, is_unbound, is_vc_free}
+use Rattle.state.specs.Testing.{place_of, place_bound, place_held, input_names, output_names}
+use Rattle.state.proofs.Made.{channels_fit}
 
 -- the tests of an input VC that is not bound, and of an output VC that nobody holds
-pub unbound-is : (b : Binding) → isUnbound b ≡ true → b ≡ Unbound
-unbound-is Unbound e = refl
-unbound-is (Bound b) e = absurd (false≢true e)
+pub unbound_is : (b : Binding) → is_unbound b ≡ true → b ≡ Unbound
+unbound_is Unbound e = refl
+unbound_is (Bound b) e = absurd (false≢true e)
 
-pub free-is : (h : Holder) → isFree h ≡ true → h ≡ Nobody
-free-is Nobody e = refl
-free-is (Held h) e = absurd (false≢true e)
+pub free_is : (h : Holder) → is_vc_free h ≡ true → h ≡ Nobody
+free_is Nobody e = refl
+free_is (Held h) e = absurd (false≢true e)
 
 -- a channel that there is stands in the arrays
-pub channel-fits : (p v i w : ℕ) → i < p → w < v → p ≤ 8 → v ≤ 4 → i * v + w < 32
-channel-fits p v i w h g a b = lt_of_lt_of_le (digits_lt h g) (channels-fit p v a b)
+pub channel_fits : (p v i w : ℕ) → i < p → w < v → p ≤ 8 → v ≤ 4 → i * v + w < 32
+channel_fits p v i w h g a b = lt_of_lt_of_le (digits_lt h g) (channels_fit p v a b)
 
 -- two names are the same in both numbers
-other-port : (a b x y : ℕ) → (a ≡ b → ⊥) → false ≡ (eqb a b && eqb x y)
-other-port a b x y n = sym (ap (λ t. t && eqb x y) (ne_eqb a b n))
+other_port : (a b x y : ℕ) → (a ≡ b → ⊥) → false ≡ (eqb a b && eqb x y)
+other_port a b x y n = sym (ap (λ t. t && eqb x y) (ne_eqb a b n))
 
-same-port : (a b x y : ℕ) → a ≡ b → eqb x y ≡ (eqb a b && eqb x y)
-same-port a b x y e = sym (ap (λ t. t && eqb x y) (eq-eqb a b e))
+same_port : (a b x y : ℕ) → a ≡ b → eqb x y ≡ (eqb a b && eqb x y)
+same_port a b x y e = sym (ap (λ t. t && eqb x y) (eq-eqb a b e))
 
-pub held-elsewhere : (i v : ℕ) (h : Holder) (by : InVc) → h ≡ Held by → (by.input ≡ i → ⊥) → false ≡ holderIs i v h
-held-elsewhere i v h by e n = other-port by.input i by.vc v n ∙ sym (ap (holderIs i v) e)
+pub held_elsewhere : (i v : ℕ) (h : Holder) (by : InVc) → h ≡ Held by → (by.input ≡ i → ⊥) → false ≡ holder_is i v h
+held_elsewhere i v h by e n = other_port by.input i by.vc v n ∙ sym (ap (holder_is i v) e)
 
-pub held-here : (i v : ℕ) (h : Holder) (by : InVc) → h ≡ Held by → by.input ≡ i → eqb by.vc v ≡ holderIs i v h
-held-here i v h by e s = same-port by.input i by.vc v s ∙ sym (ap (holderIs i v) e)
+pub held_here : (i v : ℕ) (h : Holder) (by : InVc) → h ≡ Held by → by.input ≡ i → eqb by.vc v ≡ holder_is i v h
+held_here i v h by e s = same_port by.input i by.vc v s ∙ sym (ap (holder_is i v) e)
 
-pub bound-elsewhere : (o w : ℕ) (b : Binding) (to : OutVc) → b ≡ Bound to → (to.output ≡ o → ⊥) → false ≡ bindingIs o w b
-bound-elsewhere o w b to e n = other-port to.output o to.vc w n ∙ sym (ap (bindingIs o w) e)
+pub bound_elsewhere : (o w : ℕ) (b : Binding) (to : OutVc) → b ≡ Bound to → (to.output ≡ o → ⊥) → false ≡ binding_is o w b
+bound_elsewhere o w b to e n = other_port to.output o to.vc w n ∙ sym (ap (binding_is o w) e)
 
-pub bound-here : (o w : ℕ) (b : Binding) (to : OutVc) → b ≡ Bound to → to.output ≡ o → eqb to.vc w ≡ bindingIs o w b
-bound-here o w b to e s = same-port to.output o to.vc w s ∙ sym (ap (bindingIs o w) e)
+pub bound_here : (o w : ℕ) (b : Binding) (to : OutVc) → b ≡ Bound to → to.output ≡ o → eqb to.vc w ≡ binding_is o w b
+bound_here o w b to e s = same_port to.output o to.vc w s ∙ sym (ap (binding_is o w) e)
 
 -- a name beyond P, beyond V, or of a channel that there is
-beyond-port : (o p w v : ℕ) (t : Bool) → p ≤ o → false ≡ (ltb o p && ltb w v && t)
-beyond-port o p w v t h = sym (ap (λ b. b && ltb w v && t) (le-ltb o p h))
+beyond_port : (o p w v : ℕ) (t : Bool) → p ≤ o → false ≡ (ltb o p && ltb w v && t)
+beyond_port o p w v t h = sym (ap (λ b. b && ltb w v && t) (le-ltb o p h))
 
-beyond-vc : (o p w v : ℕ) (t : Bool) → o < p → v ≤ w → false ≡ (ltb o p && ltb w v && t)
-beyond-vc o p w v t g h = sym (ap₂ (λ a b. a && b && t) (lt-ltb o p g) (le-ltb w v h))
+beyond_vc : (o p w v : ℕ) (t : Bool) → o < p → v ≤ w → false ≡ (ltb o p && ltb w v && t)
+beyond_vc o p w v t g h = sym (ap₂ (λ a b. a && b && t) (lt-ltb o p g) (le-ltb w v h))
 
-named-there : (o p w v : ℕ) (t : Bool) → o < p → w < v → t ≡ (ltb o p && ltb w v && t)
-named-there o p w v t g h = sym (ap₂ (λ a b. a && b && t) (lt-ltb o p g) (lt-ltb w v h))
+named_there : (o p w v : ℕ) (t : Bool) → o < p → w < v → t ≡ (ltb o p && ltb w v && t)
+named_there o p w v t g h = sym (ap₂ (λ a b. a && b && t) (lt-ltb o p g) (lt-ltb w v h))
 
-pub input-beyond-port : (c : Config) (i v : ℕ) (b : Binding) (holder : Holder) (to : OutVc) → b ≡ Bound to → c.ports ≤ to.output
-    → false ≡ inputNames c i v b holder
-input-beyond-port c i v b holder to e h =
-    beyond-port to.output c.ports to.vc c.vcs (holderIs i v holder) h ∙ sym (ap
-    (λ x. inputNames c i v x holder) e)
+pub input_beyond_port : (c : Config) (i v : ℕ) (b : Binding) (holder : Holder) (to : OutVc) → b ≡ Bound to → c.ports ≤ to.output
+    → false ≡ input_names c i v b holder
+input_beyond_port c i v b holder to e h =
+    beyond_port to.output c.ports to.vc c.vcs (holder_is i v holder) h ∙ sym (ap
+    (λ x. input_names c i v x holder) e)
 
-pub input-beyond-vc : (c : Config) (i v : ℕ) (b : Binding) (holder : Holder) (to : OutVc) → b ≡ Bound to → to.output < c.ports
-    → c.vcs ≤ to.vc → false ≡ inputNames c i v b holder
-input-beyond-vc c i v b holder to e g h =
-    beyond-vc to.output c.ports to.vc c.vcs (holderIs i v holder) g h ∙ sym (ap
-    (λ x. inputNames c i v x holder) e)
+pub input_beyond_vc : (c : Config) (i v : ℕ) (b : Binding) (holder : Holder) (to : OutVc) → b ≡ Bound to → to.output < c.ports
+    → c.vcs ≤ to.vc → false ≡ input_names c i v b holder
+input_beyond_vc c i v b holder to e g h =
+    beyond_vc to.output c.ports to.vc c.vcs (holder_is i v holder) g h ∙ sym (ap
+    (λ x. input_names c i v x holder) e)
 
-pub input-there : (c : Config) (i v : ℕ) (b : Binding) (holder : Holder) (to : OutVc) → b ≡ Bound to → to.output < c.ports
-    → to.vc < c.vcs → holderIs i v holder ≡ inputNames c i v b holder
-input-there c i v b holder to e g h =
-    named-there to.output c.ports to.vc c.vcs (holderIs i v holder) g h ∙ sym (ap
-    (λ x. inputNames c i v x holder) e)
+pub input_there : (c : Config) (i v : ℕ) (b : Binding) (holder : Holder) (to : OutVc) → b ≡ Bound to → to.output < c.ports
+    → to.vc < c.vcs → holder_is i v holder ≡ input_names c i v b holder
+input_there c i v b holder to e g h =
+    named_there to.output c.ports to.vc c.vcs (holder_is i v holder) g h ∙ sym (ap
+    (λ x. input_names c i v x holder) e)
 
-pub output-beyond-port : (c : Config) (o w : ℕ) (h : Holder) (binding : Binding) (by : InVc) → h ≡ Held by → c.ports ≤ by.input
-    → false ≡ outputNames c o w h binding
-output-beyond-port c o w h binding by e l =
-    beyond-port by.input c.ports by.vc c.vcs (bindingIs o w binding) l ∙ sym (ap
-    (λ x. outputNames c o w x binding) e)
+pub output_beyond_port : (c : Config) (o w : ℕ) (h : Holder) (binding : Binding) (by : InVc) → h ≡ Held by → c.ports ≤ by.input
+    → false ≡ output_names c o w h binding
+output_beyond_port c o w h binding by e l =
+    beyond_port by.input c.ports by.vc c.vcs (binding_is o w binding) l ∙ sym (ap
+    (λ x. output_names c o w x binding) e)
 
-pub output-beyond-vc : (c : Config) (o w : ℕ) (h : Holder) (binding : Binding) (by : InVc) → h ≡ Held by → by.input < c.ports
-    → c.vcs ≤ by.vc → false ≡ outputNames c o w h binding
-output-beyond-vc c o w h binding by e g l =
-    beyond-vc by.input c.ports by.vc c.vcs (bindingIs o w binding) g l ∙ sym (ap
-    (λ x. outputNames c o w x binding) e)
+pub output_beyond_vc : (c : Config) (o w : ℕ) (h : Holder) (binding : Binding) (by : InVc) → h ≡ Held by → by.input < c.ports
+    → c.vcs ≤ by.vc → false ≡ output_names c o w h binding
+output_beyond_vc c o w h binding by e g l =
+    beyond_vc by.input c.ports by.vc c.vcs (binding_is o w binding) g l ∙ sym (ap
+    (λ x. output_names c o w x binding) e)
 
-pub output-there : (c : Config) (o w : ℕ) (h : Holder) (binding : Binding) (by : InVc) → h ≡ Held by → by.input < c.ports
-    → by.vc < c.vcs → bindingIs o w binding ≡ outputNames c o w h binding
-output-there c o w h binding by e g l =
-    named-there by.input c.ports by.vc c.vcs (bindingIs o w binding) g l ∙ sym (ap
-    (λ x. outputNames c o w x binding) e)
+pub output_there : (c : Config) (o w : ℕ) (h : Holder) (binding : Binding) (by : InVc) → h ≡ Held by → by.input < c.ports
+    → by.vc < c.vcs → binding_is o w binding ≡ output_names c o w h binding
+output_there c o w h binding by e g l =
+    named_there by.input c.ports by.vc c.vcs (binding_is o w binding) g l ∙ sym (ap
+    (λ x. output_names c o w x binding) e)
 
 -- a place is within the arrays
 below : (r n : ℕ) → r ≡ n % 32 → r < 32
 below r n e = omega arith
 
 pub bound_at : (c : Config) (b : Binding) (to : OutVc) (r : ℕ) → b ≡ Bound to → r ≡ place_of c to.output to.vc
-    → (r ≡ boundPlace c b) × (r < 32)
-bound_at c b to r e f = (f ∙ sym (ap (boundPlace c) e), below r (channelNumber c to.output to.vc) f)
+    → (r ≡ place_bound c b) × (r < 32)
+bound_at c b to r e f = (f ∙ sym (ap (place_bound c) e), below r (channel_number c to.output to.vc) f)
 
 pub held_at : (c : Config) (h : Holder) (by : InVc) (r : ℕ) → h ≡ Held by → r ≡ place_of c by.input by.vc
-    → (r ≡ heldPlace c h) × (r < 32)
-held_at c h by r e f = (f ∙ sym (ap (heldPlace c) e), below r (channelNumber c by.input by.vc) f)
+    → (r ≡ place_held c h) × (r < 32)
+held_at c h by r e f = (f ∙ sym (ap (place_held c) e), below r (channel_number c by.input by.vc) f)
 
 -- two bytes' product is small
 pub bytes_fit : (a b : ℕ) → a < 256 → b < 256 → a * b ≤ 65536
 bytes_fit a b h g = let l : a ≤ 256 = omega arith in le_trans (mul-le-mul_right b l) (omega arith)
 
 -- a channel that there is stands at its place
-place_is : (c : Config) (i v : ℕ) → c.ports ≤ 8 → c.vcs ≤ 4 → i < c.ports → v < c.vcs → place_of c i v ≡ channelNumber c i v
-place_is c i v h g a b = small (channelNumber c i v) (channel-fits c.ports c.vcs i v a b h g)
+place_is : (c : Config) (i v : ℕ) → c.ports ≤ 8 → c.vcs ≤ 4 → i < c.ports → v < c.vcs → place_of c i v ≡ channel_number c i v
+place_is c i v h g a b = small (channel_number c i v) (channel_fits c.ports c.vcs i v a b h g)
   where
     small : (n : ℕ) → n < 32 → n % 32 ≡ n
     small n l = omega arith
@@ -129,23 +129,23 @@ place_is c i v h g a b = small (channelNumber c i v) (channel-fits c.ports c.vcs
 -- what is at the place of a name is what is named, where there is such a channel
 at_place : {A : Type 0} (c : Config) (f : ℕ → A) (test : A → Bool) (i v : ℕ) → c.ports ≤ 8 → c.vcs ≤ 4
     → (ltb i c.ports && ltb v c.vcs && test (f (place_of c i v)))
-    ≡ (ltb i c.ports && ltb v c.vcs && test (f (channelNumber c i v)))
+    ≡ (ltb i c.ports && ltb v c.vcs && test (f (channel_number c i v)))
 at_place c f test i v h g = go (ltb i c.ports) refl (ltb v c.vcs) refl
   where
     go : (p : Bool) → ltb i c.ports ≡ p → (q : Bool) → ltb v c.vcs ≡ q → (p && q && test (f (place_of c i v))) ≡ (p && q && test
-        (f (channelNumber c i v)))
+        (f (channel_number c i v)))
     go true e true d = ap (λ n. test (f n)) (place_is c i v h g (ltb-true i c.ports e) (ltb-true v c.vcs d))
     go true e false d = refl
     go false e q d = refl
 
-pub input-names : (c : Config) (outputs : List OutputVc) (i v : ℕ) (b : Binding) → c.ports ≤ 8 → c.vcs ≤ 4
-    → inputNames c i v b (get_or outputs (boundPlace c b) (freshOutput 0)).holder ≡ inputNamed c outputs i v b
-input-names c outputs i v Unbound h g = refl
-input-names c outputs i v (Bound b) h g = at_place c (λ n. get_or outputs n (freshOutput 0)) (λ y. holderIs i v y.holder) b.output
+pub input_names-law : (c : Config) (outputs : List OutputVc) (i v : ℕ) (b : Binding) → c.ports ≤ 8 → c.vcs ≤ 4
+    → input_names c i v b (get_or outputs (place_bound c b) (fresh_output 0)).holder ≡ input_named c outputs i v b
+input_names-law c outputs i v Unbound h g = refl
+input_names-law c outputs i v (Bound b) h g = at_place c (λ n. get_or outputs n (fresh_output 0)) (λ y. holder_is i v y.holder) b.output
     b.vc h g
 
-pub output-names : (c : Config) (inputs : List InputVc) (o w : ℕ) (h : Holder) → c.ports ≤ 8 → c.vcs ≤ 4
-    → outputNames c o w h (get_or inputs (heldPlace c h) (freshInput 0)).binding ≡ outputNamed c inputs o w h
-output-names c inputs o w Nobody p q = refl
-output-names c inputs o w (Held h) p q = at_place c (λ n. get_or inputs n (freshInput 0)) (λ x. bindingIs o w x.binding) h.input
+pub output_names-law : (c : Config) (inputs : List InputVc) (o w : ℕ) (h : Holder) → c.ports ≤ 8 → c.vcs ≤ 4
+    → output_names c o w h (get_or inputs (place_held c h) (fresh_input 0)).binding ≡ output_named c inputs o w h
+output_names-law c inputs o w Nobody p q = refl
+output_names-law c inputs o w (Held h) p q = at_place c (λ n. get_or inputs n (fresh_input 0)) (λ x. binding_is o w x.binding) h.input
     h.vc p q

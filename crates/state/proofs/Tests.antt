@@ -6,7 +6,7 @@ use Prim.Native.Nat.{ℕ, ◌+◌, ◌≤◌, ◌<◌}
 use native.Mathlib.Nat.{le_antisymm, lt_of_lt_of_le}
 use native.Mathlib.Numerals.{add-one}
 use Rattle.base.specs.Search.{every}
-use Rattle.base.proofs.Search.{not-every, every-at, all-every}
+use Rattle.base.proofs.Search.{not_every, every_at, all_every}
 
 -- two tests that pass together are the same
 pub same_test : (a b : Bool) → (a ≡ true → b ≡ true) → (b ≡ true → a ≡ true) → a ≡ b
@@ -15,9 +15,9 @@ same_test false true f g = g refl
 same_test false false f g = refl
 
 -- nothing is tested yet
-pub every-none : (test : ℕ → Bool) → every 0 test ≡ true
+pub every_none : (test : ℕ → Bool) → every 0 test ≡ true
 unfolding every
-every-none test = refl
+every_none test = refl
 
 -- one more passes
 pub every_more : (n : ℕ) (test : ℕ → Bool) → every n test ≡ true → test n ≡ true → every (n + 1) test ≡ true
@@ -25,16 +25,16 @@ unfolding every
 every_more n test e f = ap (λ k. every k test) (add-one n) ∙ ap₂ ◌&&◌ e f
 
 -- all have passed
-pub every-passed : (n m : ℕ) (test : ℕ → Bool) → m ≤ n → n ≤ m → every m test ≡ true → every n test ≡ true
-every-passed n m test h g e = ap (λ k. every k test) (le_antisymm g h) ∙ e
+pub every_passed : (n m : ℕ) (test : ℕ → Bool) → m ≤ n → n ≤ m → every m test ≡ true → every n test ≡ true
+every_passed n m test h g e = ap (λ k. every k test) (le_antisymm g h) ∙ e
 
 -- one does not pass
-pub every-fails : (n m : ℕ) (test : ℕ → Bool) → m < n → test m ≡ false → false ≡ every n test
-every-fails n m test h e = sym (not-every n test m h e)
+pub every_fails : (n m : ℕ) (test : ℕ → Bool) → m < n → test m ≡ false → false ≡ every n test
+every_fails n m test h e = sym (not_every n test m h e)
 
 -- some before it all pass
-pub every-below : (n m : ℕ) (test : ℕ → Bool) → n ≤ m → every m test ≡ true → every n test ≡ true
-every-below n m test h e = all-every n test (λ i l. every-at m test e i (lt_of_lt_of_le l h))
+pub every_below : (n m : ℕ) (test : ℕ → Bool) → n ≤ m → every m test ≡ true → every n test ≡ true
+every_below n m test h e = all_every n test (λ i l. every_at m test e i (lt_of_lt_of_le l h))
 
 -- the first of two tests fails, or it passes and the second is left
 pub and_no : (a b : Bool) → a ≡ false → false ≡ (a && b)

@@ -9,7 +9,7 @@ use Rattle.state.specs.declared.OutVc.{OutVc}
 use Rattle.state.specs.declared.Binding.{Binding}
 use Rattle.state.specs.declared.Binding.TheVariants.{Unbound, Bound}
 use Rattle.state.specs.declared.Router.{Router}
-use Rattle.state.specs.Views.{input_at, outputAt, queueOf, wireOf, home_of}
+use Rattle.state.specs.Views.{input_at, output_at, queue_of, wire_of, home_of}
 
 pub record ChannelView : Type 0 where
   pub taken : ℕ  -- slots that the sender has taken
@@ -20,35 +20,35 @@ pub record ChannelView : Type 0 where
   pub bound : Option OutVc
 
 -- "An input VC is either unbound or bound to one output and one of its VCs." (01, phase 5)
-abbrev pub boundTo : Binding → Option OutVc
-boundTo Unbound = none
-boundTo (Bound b) = some b
+abbrev pub bound_to : Binding → Option OutVc
+bound_to Unbound = none
+bound_to (Bound b) = some b
 
 -- "There each sender credit is D, .. no packet open, nothing bound or on its way." (01, Sizes)
-abbrev pub freshView : Config → ChannelView
-freshView c =
+abbrev pub fresh_view : Config → ChannelView
+fresh_view c =
     record { taken = 0; wire = replicate c.forward []; queue = []; home = replicate c.back 0; opened = false; bound = none }
 
 -- whether there is VC v of port i
-abbrev pub isThere : Config → ℕ → ℕ → Bool
-isThere c i v = ltb i c.ports && ltb v c.vcs
+abbrev pub is_there : Config → ℕ → ℕ → Bool
+is_there c i v = ltb i c.ports && ltb v c.vcs
 
 -- what the router holds of VC v of input i
-abbrev pub channelView : Router → ℕ → ℕ → ChannelView
-channelView s i v =
+abbrev pub channel_view : Router → ℕ → ℕ → ChannelView
+channel_view s i v =
     record {
       taken = s.config.depth - (input_at s.config s.inputs i v).credit;
-      wire = wireOf s.config s.wire i v;
-      queue = queueOf s.config s.store i v (input_at s.config s.inputs i v).queued;
+      wire = wire_of s.config s.wire i v;
+      queue = queue_of s.config s.store i v (input_at s.config s.inputs i v).queued;
       home = home_of s.config s.home i v;
       opened = (input_at s.config s.inputs i v).opened;
-      bound = boundTo (input_at s.config s.inputs i v).binding;
+      bound = bound_to (input_at s.config s.inputs i v).binding;
     }
 
 -- the same of any i and v: of a VC that there is not, as on a fresh router
 unfoldable pub view_of : Router → ℕ → ℕ → ChannelView
-view_of s i v = cond (isThere s.config i v) (channelView s i v) (freshView s.config)
+view_of s i v = cond (is_there s.config i v) (channel_view s i v) (fresh_view s.config)
 
 -- the credit of VC w of output o; of one that there is not, as on a fresh router
-unfoldable pub outCreditOf : Router → ℕ → ℕ → ℕ
-outCreditOf s o w = cond (isThere s.config o w) (outputAt s.config s.outputs o w).credit s.config.downstream
+unfoldable pub out_credit_of : Router → ℕ → ℕ → ℕ
+out_credit_of s o w = cond (is_there s.config o w) (output_at s.config s.outputs o w).credit s.config.downstream

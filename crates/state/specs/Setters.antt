@@ -12,37 +12,37 @@ use Rattle.state.specs.declared.Arbiters.{Arbiters}
 use Rattle.state.specs.declared.Router.{Router}
 
 -- an input VC and an output VC
-abbrev pub withBinding : Binding → InputVc → InputVc
-withBinding b x = record { binding = b; credit = x.credit; opened = x.opened; queued = x.queued }
+abbrev pub set_binding : Binding → InputVc → InputVc
+set_binding b x = record { binding = b; credit = x.credit; opened = x.opened; queued = x.queued }
 
-abbrev pub withSenderCredit : ℕ → InputVc → InputVc
-withSenderCredit n x = record { binding = x.binding; credit = n; opened = x.opened; queued = x.queued }
+abbrev pub with_sender_credit : ℕ → InputVc → InputVc
+with_sender_credit n x = record { binding = x.binding; credit = n; opened = x.opened; queued = x.queued }
 
-abbrev pub withOpened : Bool → InputVc → InputVc
-withOpened b x = record { binding = x.binding; credit = x.credit; opened = b; queued = x.queued }
+abbrev pub with_opened : Bool → InputVc → InputVc
+with_opened b x = record { binding = x.binding; credit = x.credit; opened = b; queued = x.queued }
 
-abbrev pub withQueued : ℕ → InputVc → InputVc
-withQueued n x = record { binding = x.binding; credit = x.credit; opened = x.opened; queued = n }
+abbrev pub with_queued : ℕ → InputVc → InputVc
+with_queued n x = record { binding = x.binding; credit = x.credit; opened = x.opened; queued = n }
 
-abbrev pub withHolder : Holder → OutputVc → OutputVc
-withHolder h y = record { holder = h; credit = y.credit }
+abbrev pub set_holder : Holder → OutputVc → OutputVc
+set_holder h y = record { holder = h; credit = y.credit }
 
-abbrev pub withOutputCredit : ℕ → OutputVc → OutputVc
-withOutputCredit n y = record { holder = y.holder; credit = n }
+abbrev pub with_output_credit : ℕ → OutputVc → OutputVc
+with_output_credit n y = record { holder = y.holder; credit = n }
 
 -- the arbiters
-abbrev pub withVcArbiters : List Wide → Arbiters → Arbiters
-withVcArbiters l a = record { vcs = l; inputs = a.inputs; outputs = a.outputs }
+abbrev pub with_vc_arbiters : List Wide → Arbiters → Arbiters
+with_vc_arbiters l a = record { vcs = l; inputs = a.inputs; outputs = a.outputs }
 
-abbrev pub withInputArbiters : List Narrow → Arbiters → Arbiters
-withInputArbiters l a = record { vcs = a.vcs; inputs = l; outputs = a.outputs }
+abbrev pub with_input_arbiters : List Narrow → Arbiters → Arbiters
+with_input_arbiters l a = record { vcs = a.vcs; inputs = l; outputs = a.outputs }
 
-abbrev pub withOutputArbiters : List Narrow → Arbiters → Arbiters
-withOutputArbiters l a = record { vcs = a.vcs; inputs = a.inputs; outputs = l }
+abbrev pub with_output_arbiters : List Narrow → Arbiters → Arbiters
+with_output_arbiters l a = record { vcs = a.vcs; inputs = a.inputs; outputs = l }
 
 -- the router
-abbrev pub withConfig : Config → Router → Router
-withConfig c s =
+abbrev pub with_config : Config → Router → Router
+with_config c s =
     record {
       config = c;
       cycle = s.cycle;
@@ -54,8 +54,8 @@ withConfig c s =
       arbiters = s.arbiters;
     }
 
-abbrev pub withCycle : ℕ → Router → Router
-withCycle n s =
+abbrev pub with_cycle : ℕ → Router → Router
+with_cycle n s =
     record {
       config = s.config;
       cycle = n;
@@ -67,8 +67,8 @@ withCycle n s =
       arbiters = s.arbiters;
     }
 
-abbrev pub withInputs : List InputVc → Router → Router
-withInputs l s =
+abbrev pub with_inputs : List InputVc → Router → Router
+with_inputs l s =
     record {
       config = s.config;
       cycle = s.cycle;
@@ -80,8 +80,8 @@ withInputs l s =
       arbiters = s.arbiters;
     }
 
-abbrev pub withOutputs : List OutputVc → Router → Router
-withOutputs l s =
+abbrev pub with_outputs : List OutputVc → Router → Router
+with_outputs l s =
     record {
       config = s.config;
       cycle = s.cycle;
@@ -93,8 +93,8 @@ withOutputs l s =
       arbiters = s.arbiters;
     }
 
-abbrev pub withStore : List ℕ → Router → Router
-withStore l s =
+abbrev pub with_store : List ℕ → Router → Router
+with_store l s =
     record {
       config = s.config;
       cycle = s.cycle;
@@ -106,8 +106,8 @@ withStore l s =
       arbiters = s.arbiters;
     }
 
-abbrev pub withWire : List ℕ → Router → Router
-withWire l s =
+abbrev pub with_wire : List ℕ → Router → Router
+with_wire l s =
     record {
       config = s.config;
       cycle = s.cycle;
@@ -119,8 +119,8 @@ withWire l s =
       arbiters = s.arbiters;
     }
 
-abbrev pub withHome : List ℕ → Router → Router
-withHome l s =
+abbrev pub with_home : List ℕ → Router → Router
+with_home l s =
     record {
       config = s.config;
       cycle = s.cycle;
@@ -132,8 +132,8 @@ withHome l s =
       arbiters = s.arbiters;
     }
 
-abbrev pub withArbiters : Arbiters → Router → Router
-withArbiters a s =
+abbrev pub with_arbiters : Arbiters → Router → Router
+with_arbiters a s =
     record {
       config = s.config;
       cycle = s.cycle;

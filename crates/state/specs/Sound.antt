@@ -6,12 +6,12 @@ use Rattle.std.specs.Bool.{xor, beq}
 use Rattle.std.proofs.Math.Option.{Option, some, none}
 use Rattle.base.specs.declared.config.Config.{Config}
 use Rattle.base.specs.declared.flit.Flit.{Flit}
-use Rattle.base.specs.Flit.{kind_of, destinationOf, startsKind, endsKind, head, single}
+use Rattle.base.specs.Flit.{kind_of, destination_of, starts_kind, ends_kind, head, single}
 use Rattle.base.specs.Search.{every}
-use Rattle.base.specs.Sizes.{illegalField, cycleLimit, mostPorts, mostChannels}
+use Rattle.base.specs.Sizes.{illegal_field, cycle_limit, most_ports, most_channels}
 use Rattle.arbiter.specs.Arbiter as arbiter
-use Rattle.arbiter.specs.Arbiter.{ofNarrow, ofWide}
-use Rattle.arbiter.specs.Matrix.{blankFrom}
+use Rattle.arbiter.specs.Arbiter.{of_narrow, of_wide}
+use Rattle.arbiter.specs.Matrix.{blank_from}
 use Rattle.state.specs.declared.Binding.{Binding}
 use Rattle.state.specs.declared.Binding.TheVariants.{Unbound, Bound}
 use Rattle.state.specs.declared.Holder.{Holder}
@@ -20,10 +20,10 @@ use Rattle.state.specs.declared.InputVc.{InputVc}
 use Rattle.state.specs.declared.OutputVc.{OutputVc}
 use Rattle.state.specs.declared.Arbiters.{Arbiters}
 use Rattle.state.specs.declared.Router.{Router}
-use Rattle.state.specs.Fresh.{freshInput, freshOutput}
+use Rattle.state.specs.Fresh.{fresh_input, fresh_output}
 use Rattle.store.specs.Store.{slot}
-use Rattle.state.specs.Views.{input_at, outputAt, queueOf, wirePlace, wireFlit, wireVc, wireOf, home_of, homePlace, flat, total}
-use Rattle.state.specs.Views.{vcArbiter, inputArbiter, outputArbiter}
+use Rattle.state.specs.Views.{input_at, output_at, queue_of, wire_place, wire_flit, wire_vc, wire_of, home_of, home_place, flat, total}
+use Rattle.state.specs.Views.{vc_arbiter, input_arbiter, output_arbiter}
 
 unfoldable pub is_none : Option ℕ → Bool
 is_none none = true
@@ -34,157 +34,157 @@ all test [] = true
 all test (x ∷ xs) = test x && all test xs
 
 -- for each VC of each port that there are
-abbrev pub everyChannel : Config → (ℕ → ℕ → Bool) → Bool
-everyChannel c test = every c.ports (λ (i : ℕ). every c.vcs (test i))
+abbrev pub every_channel : Config → (ℕ → ℕ → Bool) → Bool
+every_channel c test = every c.ports (λ (i : ℕ). every c.vcs (test i))
 
 -- "the configuration is legal"
-unfoldable pub configurationLegal : Config → Bool
-configurationLegal c = is_none (illegalField c)
+unfoldable pub configuration_legal : Config → Bool
+configuration_legal c = is_none (illegal_field c)
 
 -- "the cycle count at most the limit"
-unfoldable pub cyclesFit : ℕ → Bool
-cyclesFit cycle = leb cycle cycleLimit
+unfoldable pub cycles_fit : ℕ → Bool
+cycles_fit cycle = leb cycle cycle_limit
 
 -- "sender credit + wire + queue + credits going home = D", of one input VC
-unfoldable pub creditsWhole : Config → List ℕ → List ℕ → ℕ → ℕ → InputVc → Bool
-creditsWhole c wire home i v input =
-    eqb (input.credit + length (flat (wireOf c wire i v)) + input.queued + total (home_of c home i v)) c.depth
+unfoldable pub credits_whole : Config → List ℕ → List ℕ → ℕ → ℕ → InputVc → Bool
+credits_whole c wire home i v input =
+    eqb (input.credit + length (flat (wire_of c wire i v)) + input.queued + total (home_of c home i v)) c.depth
 
 -- "for each input VC, sender credit + wire + queue + credits going home = D"
-unfoldable pub creditsAddUp : Config → List InputVc → List ℕ → List ℕ → Bool
-creditsAddUp c inputs wire home = everyChannel c (λ i v. creditsWhole c wire home i v (input_at c inputs i v))
+unfoldable pub credits_add_up : Config → List InputVc → List ℕ → List ℕ → Bool
+credits_add_up c inputs wire home = every_channel c (λ i v. credits_whole c wire home i v (input_at c inputs i v))
 
 -- a flit that some row can bring: "kind (1 head H, 2 body B, 3 tail T, 4 single S), a destination port", "Destination is 0 on B and T."
-unfoldable pub legalFlit : Config → Flit → Bool
-legalFlit c f =
+unfoldable pub legal_flit : Config → Flit → Bool
+legal_flit c f =
     leb head (kind_of f) && leb (kind_of f) single
-    && cond (startsKind (kind_of f)) (ltb (destinationOf f) c.ports) (eqb (destinationOf f) 0) && ltb f.word (2 ^ 38)
+    && cond (starts_kind (kind_of f)) (ltb (destination_of f) c.ports) (eqb (destination_of f) 0) && ltb f.word (2 ^ 38)
 
-unfoldable pub wirePlaceLegal : Config → ℕ → Bool
-wirePlaceLegal c place = eqb place 0 || legalFlit c (wireFlit place) && ltb (wireVc place) c.vcs
+unfoldable pub wire_place_legal : Config → ℕ → Bool
+wire_place_legal c place = eqb place 0 || legal_flit c (wire_flit place) && ltb (wire_vc place) c.vcs
 
 -- "wire .. places are empty or legal"
-unfoldable pub wireLegal : Config → List ℕ → Bool
-wireLegal c wire = every c.forward (λ (k : ℕ). every c.ports (λ (i : ℕ). wirePlaceLegal c (wirePlace wire k i)))
+unfoldable pub wire_legal : Config → List ℕ → Bool
+wire_legal c wire = every c.forward (λ (k : ℕ). every c.ports (λ (i : ℕ). wire_place_legal c (wire_place wire k i)))
 
 -- "and home places are empty or legal"
-unfoldable pub homeLegal : Config → List ℕ → Bool
-homeLegal c home = every c.back (λ (k : ℕ). every c.ports (λ (i : ℕ). leb (homePlace home k i) c.vcs))
+unfoldable pub home_legal : Config → List ℕ → Bool
+home_legal c home = every c.back (λ (k : ℕ). every c.ports (λ (i : ℕ). leb (home_place home k i) c.vcs))
 
 -- "queued flits are legal (destinations too)". "any queue place kept is below D": none is kept.
-unfoldable pub queuesLegal : Config → List InputVc → List ℕ → Bool
-queuesLegal c inputs store =
-    everyChannel c (λ i v. all (legalFlit c) (queueOf c store i v (input_at c inputs i v).queued))
+unfoldable pub queues_legal : Config → List InputVc → List ℕ → Bool
+queues_legal c inputs store =
+    every_channel c (λ i v. all (legal_flit c) (queue_of c store i v (input_at c inputs i v).queued))
 
 -- "output credits are at most E"
-unfoldable pub outputCreditsFit : Config → List OutputVc → Bool
-outputCreditsFit c outputs = everyChannel c (λ o w. leb (outputAt c outputs o w).credit c.downstream)
+unfoldable pub output_credits_fit : Config → List OutputVc → Bool
+output_credits_fit c outputs = every_channel c (λ o w. leb (output_at c outputs o w).credit c.downstream)
 
-abbrev pub bindingIs : ℕ → ℕ → Binding → Bool
-bindingIs o w Unbound = false
-bindingIs o w (Bound b) = eqb b.output o && eqb b.vc w
+abbrev pub binding_is : ℕ → ℕ → Binding → Bool
+binding_is o w Unbound = false
+binding_is o w (Bound b) = eqb b.output o && eqb b.vc w
 
-abbrev pub holderIs : ℕ → ℕ → Holder → Bool
-holderIs i v Nobody = false
-holderIs i v (Held h) = eqb h.input i && eqb h.vc v
+abbrev pub holder_is : ℕ → ℕ → Holder → Bool
+holder_is i v Nobody = false
+holder_is i v (Held h) = eqb h.input i && eqb h.vc v
 
-abbrev pub inputNamed : Config → List OutputVc → ℕ → ℕ → Binding → Bool
-inputNamed c outputs i v Unbound = true
-inputNamed c outputs i v (Bound b) =
-    ltb b.output c.ports && ltb b.vc c.vcs && holderIs i v (outputAt c outputs b.output b.vc).holder
+abbrev pub input_named : Config → List OutputVc → ℕ → ℕ → Binding → Bool
+input_named c outputs i v Unbound = true
+input_named c outputs i v (Bound b) =
+    ltb b.output c.ports && ltb b.vc c.vcs && holder_is i v (output_at c outputs b.output b.vc).holder
 
-abbrev pub outputNamed : Config → List InputVc → ℕ → ℕ → Holder → Bool
-outputNamed c inputs o w Nobody = true
-outputNamed c inputs o w (Held h) =
-    ltb h.input c.ports && ltb h.vc c.vcs && bindingIs o w (input_at c inputs h.input h.vc).binding
+abbrev pub output_named : Config → List InputVc → ℕ → ℕ → Holder → Bool
+output_named c inputs o w Nobody = true
+output_named c inputs o w (Held h) =
+    ltb h.input c.ports && ltb h.vc c.vcs && binding_is o w (input_at c inputs h.input h.vc).binding
 
 -- "input VC and output VC name each other or neither does"
-unfoldable pub namesAgree : Config → List InputVc → List OutputVc → Bool
-namesAgree c inputs outputs =
-    everyChannel c (λ i v. inputNamed c outputs i v (input_at c inputs i v).binding)
-    && everyChannel c (λ o w. outputNamed c inputs o w (outputAt c outputs o w).holder)
+unfoldable pub names_agree : Config → List InputVc → List OutputVc → Bool
+names_agree c inputs outputs =
+    every_channel c (λ i v. input_named c outputs i v (input_at c inputs i v).binding)
+    && every_channel c (λ o w. output_named c inputs o w (output_at c outputs o w).holder)
 
 -- "round-robin pointers are below their width and matrices are a total order, no requester beating itself"
-unfoldable pub arbitersSound : Config → Arbiters → Bool
-arbitersSound c a =
+unfoldable pub arbiters_sound : Config → Arbiters → Bool
+arbiters_sound c a =
     every c.ports (λ (i : ℕ).
-    arbiter.sound 32 c.arbiter (c.ports * c.vcs) (ofWide (vcArbiter a i))
-    && arbiter.sound 8 c.arbiter c.vcs (ofNarrow (inputArbiter a i))
-    && arbiter.sound 8 c.arbiter c.ports (ofNarrow (outputArbiter a i)))
+    arbiter.sound 32 c.arbiter (c.ports * c.vcs) (of_wide (vc_arbiter a i))
+    && arbiter.sound 8 c.arbiter c.vcs (of_narrow (input_arbiter a i))
+    && arbiter.sound 8 c.arbiter c.ports (of_narrow (output_arbiter a i)))
 
 -- Flits read as packets, from between packets or from inside one: what follows the last, or none where they do not read.
 -- "A packet is S alone, or H, any number of B, then T."
 unfoldable pub reading : Bool → List Flit → Option Bool
 reading inside [] = some inside
-reading inside (f ∷ fs) = cond (xor inside (startsKind (kind_of f))) (reading (not (endsKind (kind_of f))) fs) none
+reading inside (f ∷ fs) = cond (xor inside (starts_kind (kind_of f))) (reading (not (ends_kind (kind_of f))) fs) none
 
-abbrev pub endsAs : Bool → Option Bool → Bool
-endsAs inside none = false
-endsAs inside (some after) = beq after inside
+abbrev pub ends_as : Bool → Option Bool → Bool
+ends_as inside none = false
+ends_as inside (some after) = beq after inside
 
 -- "the queue's front is H or S for the bound output"
-abbrev pub frontIsFor : ℕ → List Flit → Bool
-frontIsFor o [] = false
-frontIsFor o (f ∷ fs) = startsKind (kind_of f) && eqb (destinationOf f) o
+abbrev pub front_is_for : ℕ → List Flit → Bool
+front_is_for o [] = false
+front_is_for o (f ∷ fs) = starts_kind (kind_of f) && eqb (destination_of f) o
 
 -- "For an unbound VC that reading starts between packets. For a bound VC either the queue's front is H or S for the bound output, or the
 -- reading starts inside a packet."
-abbrev pub startsInside : List Flit → Binding → Bool
-startsInside queue Unbound = false
-startsInside queue (Bound b) = not (frontIsFor b.output queue)
+abbrev pub begins_inside : List Flit → Binding → Bool
+begins_inside queue Unbound = false
+begins_inside queue (Bound b) = not (front_is_for b.output queue)
 
 -- one input VC's "queue followed by wire"
 unfoldable pub reads : List Flit → List Flit → Binding → Bool → Bool
-reads queue wire binding inside = endsAs inside (reading (startsInside queue binding) (queue ++ wire))
+reads queue wire binding inside = ends_as inside (reading (begins_inside queue binding) (queue ++ wire))
 
 -- "queue followed by wire, oldest first, reads as packets. .. Its end agrees with whether the sender has a packet open."
-unfoldable pub packetsRead : Config → List InputVc → List ℕ → List ℕ → Bool
-packetsRead c inputs store wire =
-    everyChannel c (λ i v.
-    reads (queueOf c store i v (input_at c inputs i v).queued) (flat (wireOf c wire i v)) (input_at c inputs i v).binding
+unfoldable pub packets_read : Config → List InputVc → List ℕ → List ℕ → Bool
+packets_read c inputs store wire =
+    every_channel c (λ i v.
+    reads (queue_of c store i v (input_at c inputs i v).queued) (flat (wire_of c wire i v)) (input_at c inputs i v).binding
     (input_at c inputs i v).opened)
 
-abbrev pub isUnbound : Binding → Bool
-isUnbound Unbound = true
-isUnbound (Bound b) = false
+abbrev pub is_unbound : Binding → Bool
+is_unbound Unbound = true
+is_unbound (Bound b) = false
 
-abbrev pub isFree : Holder → Bool
-isFree Nobody = true
-isFree (Held h) = false
+abbrev pub is_vc_free : Holder → Bool
+is_vc_free Nobody = true
+is_vc_free (Held h) = false
 
-abbrev pub inputUnused : InputVc → Bool
-inputUnused x = isUnbound x.binding && eqb x.credit 0 && not x.opened && eqb x.queued 0
+abbrev pub input_unused : InputVc → Bool
+input_unused x = is_unbound x.binding && eqb x.credit 0 && not x.opened && eqb x.queued 0
 
-abbrev pub outputUnused : OutputVc → Bool
-outputUnused y = isFree y.holder && eqb y.credit 0
+abbrev pub output_unused : OutputVc → Bool
+output_unused y = is_vc_free y.holder && eqb y.credit 0
 
 -- pointer and rows are zero
-abbrev pub arbiterUnused : ℕ → arbiter.Arbiter → Bool
-arbiterUnused places a = eqb (length a.rows) places && (eqb a.pointer 0 && blankFrom 0 places a.rows)
+abbrev pub arbiter_unused : ℕ → arbiter.Arbiter → Bool
+arbiter_unused places a = eqb (length a.rows) places && (eqb a.pointer 0 && blank_from 0 places a.rows)
 
 -- channels "beyond P and V .. are as on a fresh router of this configuration"
-unfoldable pub channelsUnused : Config → List InputVc → List OutputVc → Bool
-channelsUnused c inputs outputs =
-    every mostChannels (λ (x : ℕ).
-    ltb x (c.ports * c.vcs) || inputUnused (get_or inputs x (freshInput 0)) && outputUnused (get_or outputs x (freshOutput 0)))
+unfoldable pub channels_unused : Config → List InputVc → List OutputVc → Bool
+channels_unused c inputs outputs =
+    every most_channels (λ (x : ℕ).
+    ltb x (c.ports * c.vcs) || input_unused (get_or inputs x (fresh_input 0)) && output_unused (get_or outputs x (fresh_output 0)))
 
 -- "an empty slot is zero": those behind each queue, and all of a channel that is not in use
-unfoldable pub slotsEmpty : List InputVc → List ℕ → Bool
-slotsEmpty inputs store =
-    every mostChannels (λ (x : ℕ). every 16 (λ (k : ℕ). ltb k (get_or inputs x (freshInput 0)).queued || eqb (get_or store (slot x k) 0) 0))
+unfoldable pub slots_empty : List InputVc → List ℕ → Bool
+slots_empty inputs store =
+    every most_channels (λ (x : ℕ). every 16 (λ (k : ℕ). ltb k (get_or inputs x (fresh_input 0)).queued || eqb (get_or store (slot x k) 0) 0))
 
 -- "Places not in use" of the lines: those of ports from P on, and those past the delay
-unfoldable pub lineUnused : ℕ → ℕ → List ℕ → Bool
-lineUnused delay ports line =
+unfoldable pub line_unused : ℕ → ℕ → List ℕ → Bool
+line_unused delay ports line =
     every 8 (λ (k : ℕ). every 8 (λ (i : ℕ). ltb k delay && ltb i ports || eqb (get_or line (8 * k + i) 0) 0))
 
 -- arbiters of ports from P on
-unfoldable pub arbitersUnused : Config → Arbiters → Bool
-arbitersUnused c a =
-    every mostPorts (λ (i : ℕ).
+unfoldable pub arbiters_unused : Config → Arbiters → Bool
+arbiters_unused c a =
+    every most_ports (λ (i : ℕ).
     ltb i c.ports
-    || arbiterUnused 32 (ofWide (vcArbiter a i)) && arbiterUnused 8 (ofNarrow (inputArbiter a i))
-    && arbiterUnused 8 (ofNarrow (outputArbiter a i)))
+    || arbiter_unused 32 (of_wide (vc_arbiter a i)) && arbiter_unused 8 (of_narrow (input_arbiter a i))
+    && arbiter_unused 8 (of_narrow (output_arbiter a i)))
 
 -- the arrays are as long as the struct has them; of a struct that is always so
 unfoldable pub shaped : Router → Bool
@@ -194,83 +194,83 @@ shaped s =
 
 -- The clauses by name, in four topics, and what each of them tests.
 pub data Clause : Type 0 where
-  theConfiguration : Clause
-  theCycles : Clause
-  theWire : Clause
-  theHome : Clause
-  theWireRest : Clause
-  theHomeRest : Clause
-  theShape : Clause
-  theCredits : Clause
-  theQueues : Clause
-  theOutputCredits : Clause
-  theChannels : Clause
-  theSlots : Clause
-  theNames : Clause
-  thePackets : Clause
-  theArbiters : Clause
-  theOtherArbiters : Clause
+  the_configuration : Clause
+  the_cycles : Clause
+  the_wire : Clause
+  the_home : Clause
+  the_wire_rest : Clause
+  the_home_rest : Clause
+  the_shape : Clause
+  the_credits : Clause
+  the_queues : Clause
+  the_output_credits : Clause
+  the_channels : Clause
+  the_slots : Clause
+  the_names : Clause
+  the_packets : Clause
+  the_arbiters : Clause
+  the_other_arbiters : Clause
 
 abbrev pub passes : Router → Clause → Bool
-passes s theConfiguration = configurationLegal s.config
-passes s theCycles = cyclesFit s.cycle
-passes s theWire = wireLegal s.config s.wire
-passes s theHome = homeLegal s.config s.home
-passes s theWireRest = lineUnused s.config.forward s.config.ports s.wire
-passes s theHomeRest = lineUnused s.config.back s.config.ports s.home
-passes s theShape = shaped s
-passes s theCredits = creditsAddUp s.config s.inputs s.wire s.home
-passes s theQueues = queuesLegal s.config s.inputs s.store
-passes s theOutputCredits = outputCreditsFit s.config s.outputs
-passes s theChannels = channelsUnused s.config s.inputs s.outputs
-passes s theSlots = slotsEmpty s.inputs s.store
-passes s theNames = namesAgree s.config s.inputs s.outputs
-passes s thePackets = packetsRead s.config s.inputs s.store s.wire
-passes s theArbiters = arbitersSound s.config s.arbiters
-passes s theOtherArbiters = arbitersUnused s.config s.arbiters
+passes s the_configuration = configuration_legal s.config
+passes s the_cycles = cycles_fit s.cycle
+passes s the_wire = wire_legal s.config s.wire
+passes s the_home = home_legal s.config s.home
+passes s the_wire_rest = line_unused s.config.forward s.config.ports s.wire
+passes s the_home_rest = line_unused s.config.back s.config.ports s.home
+passes s the_shape = shaped s
+passes s the_credits = credits_add_up s.config s.inputs s.wire s.home
+passes s the_queues = queues_legal s.config s.inputs s.store
+passes s the_output_credits = output_credits_fit s.config s.outputs
+passes s the_channels = channels_unused s.config s.inputs s.outputs
+passes s the_slots = slots_empty s.inputs s.store
+passes s the_names = names_agree s.config s.inputs s.outputs
+passes s the_packets = packets_read s.config s.inputs s.store s.wire
+passes s the_arbiters = arbiters_sound s.config s.arbiters
+passes s the_other_arbiters = arbiters_unused s.config s.arbiters
 
 abbrev pub Passes : Router → Clause → Type 0
 Passes s k = passes s k ≡ true
 
 -- sizes and lines
 pub record SizesAndLines (s : Router) : Type 0 where
-  pub configuration : Passes s theConfiguration
-  pub cycles : Passes s theCycles
-  pub wire : Passes s theWire
-  pub home : Passes s theHome
-  pub wireRest : Passes s theWireRest
-  pub homeRest : Passes s theHomeRest
-  pub shape : Passes s theShape
+  pub configuration : Passes s the_configuration
+  pub cycles : Passes s the_cycles
+  pub wire : Passes s the_wire
+  pub home : Passes s the_home
+  pub wire_rest : Passes s the_wire_rest
+  pub home_rest : Passes s the_home_rest
+  pub shape : Passes s the_shape
 
-abbrev pub sizesAndLines : List Clause
-sizesAndLines = theConfiguration ∷ theCycles ∷ theWire ∷ theHome ∷ theWireRest ∷ theHomeRest ∷ theShape ∷ []
+abbrev pub sizes_and_lines : List Clause
+sizes_and_lines = the_configuration ∷ the_cycles ∷ the_wire ∷ the_home ∷ the_wire_rest ∷ the_home_rest ∷ the_shape ∷ []
 
 -- credits and queues
 pub record CreditsAndQueues (s : Router) : Type 0 where
-  pub credits : Passes s theCredits
-  pub queues : Passes s theQueues
-  pub outputCredits : Passes s theOutputCredits
-  pub channels : Passes s theChannels
-  pub slots : Passes s theSlots
+  pub credits : Passes s the_credits
+  pub queues : Passes s the_queues
+  pub output_credits : Passes s the_output_credits
+  pub channels : Passes s the_channels
+  pub slots : Passes s the_slots
 
-abbrev pub creditsAndQueues : List Clause
-creditsAndQueues = theCredits ∷ theQueues ∷ theOutputCredits ∷ theChannels ∷ theSlots ∷ []
+abbrev pub credits_and_queues : List Clause
+credits_and_queues = the_credits ∷ the_queues ∷ the_output_credits ∷ the_channels ∷ the_slots ∷ []
 
 -- names and packets
 pub record NamesAndPackets (s : Router) : Type 0 where
-  pub names : Passes s theNames
-  pub packets : Passes s thePackets
+  pub names : Passes s the_names
+  pub packets : Passes s the_packets
 
-abbrev pub namesAndPackets : List Clause
-namesAndPackets = theNames ∷ thePackets ∷ []
+abbrev pub names_and_packets : List Clause
+names_and_packets = the_names ∷ the_packets ∷ []
 
 -- arbiters
 pub record ArbitersInOrder (s : Router) : Type 0 where
-  pub arbiters : Passes s theArbiters
-  pub others : Passes s theOtherArbiters
+  pub arbiters : Passes s the_arbiters
+  pub others : Passes s the_other_arbiters
 
-abbrev pub arbitersInOrder : List Clause
-arbitersInOrder = theArbiters ∷ theOtherArbiters ∷ []
+abbrev pub arbiters_in_order : List Clause
+arbiters_in_order = the_arbiters ∷ the_other_arbiters ∷ []
 
 -- "A state handed in is sound when": all clauses
 pub record Sound (s : Router) : Type 0 where
@@ -281,7 +281,7 @@ pub record Sound (s : Router) : Type 0 where
 
 -- the same, as a test that computes
 abbrev pub clauses : List Clause
-clauses = sizesAndLines ++ (creditsAndQueues ++ (namesAndPackets ++ arbitersInOrder))
+clauses = sizes_and_lines ++ (credits_and_queues ++ (names_and_packets ++ arbiters_in_order))
 
 unfoldable pub sound : Router → Bool
 sound s = all (passes s) clauses

@@ -1,8 +1,8 @@
 // The arbiters of each port.
 ghost use Rattle.std.specs.Prelude.{◌≡◌};
 ghost use Rattle.base.specs.Sizes.{Bounds};
-ghost use Rattle.state.specs.Sound.{arbitersSound, arbitersUnused};
-ghost use Rattle.state.specs.Testing.{portArbiters, noArbiters};
+ghost use Rattle.state.specs.Sound.{arbiters_sound, arbiters_unused};
+ghost use Rattle.state.specs.Testing.{port_arbiters, no_arbiters};
 
 use arbiter::{Narrow, Wide};
 use base::{Config, PORT_PLACES};
@@ -10,7 +10,7 @@ use base::{Config, PORT_PLACES};
 // The arbiters of a port that there is.
 fn are_sound_of(config: Config, vcs: Wide, input: Narrow, output: Narrow) -> bool
     requires { Bounds 0 config }
-    ensures { result ≡ portArbiters config vcs input output }
+    ensures { result ≡ port_arbiters config vcs input output }
 {
     let ports = config.ports as u32;
     let vcs_each = config.vcs as u32;
@@ -25,7 +25,7 @@ fn are_sound_of(config: Config, vcs: Wide, input: Narrow, output: Narrow) -> boo
 
 // The arbiters of a port that there is not are zero: just so a round robin over one requester is sound.
 fn are_none(vcs: Wide, input: Narrow, output: Narrow) -> bool
-    ensures { result ≡ noArbiters vcs input output }
+    ensures { result ≡ no_arbiters vcs input output }
 {
     if !vcs.is_sound(1, 1) {
         return false;
@@ -44,7 +44,7 @@ pub(crate) fn are_sound(
     outputs: [Narrow; 8],
 ) -> bool
     requires { Bounds 0 config }
-    ensures { result ≡ arbitersSound config (record { vcs = vcs; inputs = inputs; outputs = outputs }) }
+    ensures { result ≡ arbiters_sound config (record { vcs = vcs; inputs = inputs; outputs = outputs }) }
 {
     let end = config.ports as usize;
     let mut i: usize = 0;
@@ -68,7 +68,7 @@ pub(crate) fn are_unused(
     outputs: [Narrow; 8],
 ) -> bool
     requires { Bounds 0 config }
-    ensures { result ≡ arbitersUnused config (record { vcs = vcs; inputs = inputs; outputs = outputs }) }
+    ensures { result ≡ arbiters_unused config (record { vcs = vcs; inputs = inputs; outputs = outputs }) }
 {
     let mut i = config.ports as usize;
     while i < PORT_PLACES {

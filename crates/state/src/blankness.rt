@@ -1,12 +1,12 @@
 // Whether there is no router: before the configuration block of a file all of it is zero.
 ghost use Rattle.std.specs.Prelude.{◌≡◌};
-ghost use Rattle.state.specs.Blank.{noSizes, blank};
+ghost use Rattle.state.specs.Blank.{no_sizes, blank};
 
 use crate::{Router, arbitration, channels, lines};
 use base::Config;
 
 fn is_none(config: Config) -> bool
-    ensures { result ≡ noSizes config }
+    ensures { result ≡ no_sizes config }
 {
     if config.ports != 0 {
         return false;

@@ -1,9 +1,9 @@
 // A fresh router, or the number 1 with the field.
 ghost use Rattle.std.specs.Prelude.{◌≡◌, ◌≤◌};
-ghost use Rattle.base.specs.Sizes.{illegalField};
+ghost use Rattle.base.specs.Sizes.{illegal_field};
 ghost use Rattle.arbiter.specs.Arbiter.{fresh};
-ghost use Rattle.state.specs.Fresh.{filled, freshInput, freshOutput, zeroNarrow, zeroWide, freshRouter, builtOf};
-ghost use Rattle.arbiter.specs.Arbiter.{asNarrow, as_wide};
+ghost use Rattle.state.specs.Fresh.{filled, fresh_input, fresh_output, zero_narrow, zero_wide, fresh_router, built_of};
+ghost use Rattle.arbiter.specs.Arbiter.{as_narrow, as_wide};
 
 use crate::{Arbiters, Binding, Holder, InputVc, OutputVc, Router};
 use arbiter::{Narrow, Wide};
@@ -19,7 +19,7 @@ pub struct Built {
 // "each sender credit is D, .. no packet open, nothing bound", of the channels that there are.
 fn inputs(channels: usize, credit: u8) -> [InputVc; 32]
     requires { channels ≤ 32 }
-    ensures { result ≡ filled channels 32 (freshInput credit) (freshInput 0) }
+    ensures { result ≡ filled channels 32 (fresh_input credit) (fresh_input 0) }
 {
     let unused = InputVc {
         binding: Binding::Unbound,
@@ -41,7 +41,7 @@ fn inputs(channels: usize, credit: u8) -> [InputVc; 32]
 // "each output credit E .. nothing bound", of the channels that there are.
 fn outputs(channels: usize, credit: u8) -> [OutputVc; 32]
     requires { channels ≤ 32 }
-    ensures { result ≡ filled channels 32 (freshOutput credit) (freshOutput 0) }
+    ensures { result ≡ filled channels 32 (fresh_output credit) (fresh_output 0) }
 {
     let unused = OutputVc {
         holder: Holder::Nobody,
@@ -60,7 +60,7 @@ fn outputs(channels: usize, credit: u8) -> [OutputVc; 32]
 
 fn narrow(ports: usize, code: u8, n: u32) -> [Narrow; 8]
     requires { ports ≤ 8 }
-    ensures { result ≡ filled ports 8 (asNarrow (fresh 8 code n)) zeroNarrow }
+    ensures { result ≡ filled ports 8 (as_narrow (fresh 8 code n)) zero_narrow }
 {
     let unused = Narrow {
         pointer: 0,
@@ -78,7 +78,7 @@ fn narrow(ports: usize, code: u8, n: u32) -> [Narrow; 8]
 
 fn wide(ports: usize, code: u8, n: u32) -> [Wide; 8]
     requires { ports ≤ 8 }
-    ensures { result ≡ filled ports 8 (as_wide (fresh 32 code n)) zeroWide }
+    ensures { result ≡ filled ports 8 (as_wide (fresh 32 code n)) zero_wide }
 {
     let unused = Wide {
         pointer: 0,
@@ -97,7 +97,7 @@ fn wide(ports: usize, code: u8, n: u32) -> [Wide; 8]
 // The router of a configuration in which nothing has happened.
 fn untouched(config: Config) -> Router
     requires { (config.ports ≤ 8) × (config.vcs ≤ 4) }
-    ensures { result ≡ freshRouter config }
+    ensures { result ≡ fresh_router config }
 {
     let ports = config.ports as usize;
     let vcs = config.vcs as usize;
@@ -121,7 +121,7 @@ fn untouched(config: Config) -> Router
 
 // The fresh router of a configuration, or 1 with the field and an all-zero router.
 pub fn fresh(config: Config) -> Built
-    ensures { result ≡ builtOf (illegalField config) config }
+    ensures { result ≡ built_of (illegal_field config) config }
 {
     let judged = config.judged();
     if let Judged::Illegal(field) = judged {

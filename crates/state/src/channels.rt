@@ -2,8 +2,8 @@
 ghost use Rattle.std.specs.Prelude.{◌≡◌, ◌&&◌, ◌||◌, ℕ, ◌+◌, ◌*◌, ◌≤◌, ◌<◌, eqb, ltb, length, get_or};
 ghost use Rattle.base.specs.Search.{every};
 ghost use Rattle.base.specs.Sizes.{Bounds};
-ghost use Rattle.state.specs.Sound.{creditsWhole, everyChannel, inputUnused, outputUnused, channelsUnused, slotsEmpty};
-ghost use Rattle.state.specs.Testing.{inputSound, namesPass, channelSound};
+ghost use Rattle.state.specs.Sound.{credits_whole, every_channel, input_unused, output_unused, channels_unused, slots_empty};
+ghost use Rattle.state.specs.Testing.{input_sound, names_pass, channel_sound};
 
 use crate::{Binding, Holder, InputVc, OutputVc, lines, names, packets};
 use base::{CHANNEL_PLACES, Config};
@@ -18,7 +18,7 @@ fn are_credits_whole(
     home: &[u8; 64],
 ) -> bool
     requires { (config.forward ≤ 8) × (config.back ≤ 8) × (i < 8) }
-    ensures { result ≡ creditsWhole config wire.now home.now i v input }
+    ensures { result ≡ credits_whole config wire.now home.now i v input }
 {
     let credit = input.credit as u32;
     let queued = input.queued as u32;
@@ -38,7 +38,7 @@ fn is_input_sound(
     home: &[u8; 64],
 ) -> bool
     requires { Bounds 0 config × (i < config.ports) × (v < config.vcs) × (length store.now ≡ 512) }
-    ensures { result ≡ inputSound config store.now wire.now home.now i v input }
+    ensures { result ≡ input_sound config store.now wire.now home.now i v input }
 {
     if !are_credits_whole(config, i, v, input, wire, home) {
         return false;
@@ -71,7 +71,7 @@ fn are_names_sound(
     holder: Holder,
     binding: Binding,
 ) -> bool
-    ensures { result ≡ namesPass config i v input output holder binding }
+    ensures { result ≡ names_pass config i v input output holder binding }
 {
     if config.downstream < output.credit {
         return false;
@@ -94,7 +94,7 @@ fn is_port_sound(
     home: &[u8; 64],
 ) -> bool
     requires { Bounds 0 config × (i < config.ports) × (length store.now ≡ 512) }
-    ensures { result ≡ every config.vcs (channelSound config inputs outputs store.now wire.now
+    ensures { result ≡ every config.vcs (channel_sound config inputs outputs store.now wire.now
         home.now i) }
 {
     let mut v: u8 = 0;
@@ -131,7 +131,7 @@ pub(crate) fn are_sound(
     home: &[u8; 64],
 ) -> bool
     requires { Bounds 0 config × (length store.now ≡ 512) }
-    ensures { result ≡ everyChannel config (channelSound config inputs outputs store.now wire.now
+    ensures { result ≡ every_channel config (channel_sound config inputs outputs store.now wire.now
         home.now) }
 {
     let mut i: u8 = 0;
@@ -145,7 +145,7 @@ pub(crate) fn are_sound(
 }
 
 fn is_input_unused(input: InputVc) -> bool
-    ensures { result ≡ inputUnused input }
+    ensures { result ≡ input_unused input }
 {
     let binding = input.binding;
     let Binding::Unbound = binding else {
@@ -161,7 +161,7 @@ fn is_input_unused(input: InputVc) -> bool
 }
 
 fn is_output_unused(output: OutputVc) -> bool
-    ensures { result ≡ outputUnused output }
+    ensures { result ≡ output_unused output }
 {
     let holder = output.holder;
     let Holder::Nobody = holder else {
@@ -173,7 +173,7 @@ fn is_output_unused(output: OutputVc) -> bool
 // channels "beyond P and V"
 pub(crate) fn are_unused(config: Config, inputs: [InputVc; 32], outputs: [OutputVc; 32]) -> bool
     requires { Bounds 0 config }
-    ensures { result ≡ channelsUnused config inputs outputs }
+    ensures { result ≡ channels_unused config inputs outputs }
 {
     let mut x = (config.ports as usize) * (config.vcs as usize);
     while x < CHANNEL_PLACES {
@@ -207,7 +207,7 @@ fn are_empty_behind(base: usize, queued: u8, store: &[u64; 512]) -> bool
 
 // "an empty slot is zero"
 pub(crate) fn are_slots_empty(inputs: [InputVc; 32], store: &[u64; 512]) -> bool
-    ensures { result ≡ slotsEmpty inputs store.now }
+    ensures { result ≡ slots_empty inputs store.now }
 {
     let mut x: usize = 0;
     while x < CHANNEL_PLACES {

@@ -1,15 +1,15 @@
 // Flits as a state holds them: whether one is legal, and how it goes on from the flit before it.
 ghost use Rattle.std.specs.Prelude.{◌≡◌, not, ◌≤◌};
 ghost use Rattle.std.specs.Bool.{xor};
-ghost use Rattle.base.specs.Flit.{startsKind, endsKind};
-ghost use Rattle.state.specs.Sound.{legalFlit};
+ghost use Rattle.base.specs.Flit.{starts_kind, ends_kind};
+ghost use Rattle.state.specs.Sound.{legal_flit};
 
 use base::{Config, Flit, ends, starts};
 
 // Whether some row can bring this flit: the pairs of kind and destination that can come, as the bits of a word.
 pub(crate) fn is_legal(config: Config, flit: Flit) -> bool
     requires { config.ports ≤ 8 }
-    ensures { result ≡ legalFlit config flit }
+    ensures { result ≡ legal_flit config flit }
 {
     let word = flit.word;
     if 274877906944 <= word {
@@ -23,7 +23,7 @@ pub(crate) fn is_legal(config: Config, flit: Flit) -> bool
 
 // Whether a flit of this kind can come next, inside a packet or between packets.
 pub(crate) fn may_come(inside: bool, kind: u8) -> bool
-    ensures { result ≡ xor inside (startsKind kind) }
+    ensures { result ≡ xor inside (starts_kind kind) }
 {
     if inside {
         return !starts(kind);
@@ -33,7 +33,7 @@ pub(crate) fn may_come(inside: bool, kind: u8) -> bool
 
 // Whether a packet is open after a flit of this kind.
 pub(crate) fn stays_open(kind: u8) -> bool
-    ensures { result ≡ not (endsKind kind) }
+    ensures { result ≡ not (ends_kind kind) }
 {
     !ends(kind)
 }

@@ -3,7 +3,7 @@
 // A channel is a VC of a port; channel i * V + v of the inputs and of the outputs stands at that place of its array, so that the places
 // from P * V on are not in use. The struct goes by value at the public entries only.
 ghost use Rattle.std.specs.Prelude.{◌≡◌};
-ghost use Rattle.state.specs.Setters.{withBinding, withHolder};
+ghost use Rattle.state.specs.Setters.{set_binding, set_holder};
 
 use arbiter::{Narrow, Wide};
 use base::Config;
@@ -55,7 +55,7 @@ pub struct InputVc {
 impl InputVc {
     // The same input VC with this binding. A field that is an enum cannot be written by itself, so the literal is here.
     pub fn with_binding(self, binding: Binding) -> Self
-        ensures { result ≡ withBinding binding self }
+        ensures { result ≡ set_binding binding self }
     {
         InputVc {
             binding,
@@ -82,7 +82,7 @@ pub struct OutputVc {
 impl OutputVc {
     // The same output VC with this holder.
     pub fn with_holder(self, holder: Holder) -> Self
-        ensures { result ≡ withHolder holder self }
+        ensures { result ≡ set_holder holder self }
     {
         OutputVc {
             holder,

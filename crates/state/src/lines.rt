@@ -1,7 +1,7 @@
 // The lines, 8 ports to each stage: a wire place is empty or a flit with its VC above it, a home place is empty or 1 + VC.
 ghost use Rattle.std.specs.Prelude.{◌≡◌, cond, not, ◌&&◌, ◌≤◌, ◌<◌, eqb, leb, ltb, length};
-ghost use Rattle.state.specs.Views.{wireVc, onVc, toVc, wireOf, home_of, flat, total};
-ghost use Rattle.state.specs.Sound.{wirePlaceLegal, wireLegal, homeLegal, lineUnused};
+ghost use Rattle.state.specs.Views.{wire_vc, on_vc, to_vc, wire_of, home_of, flat, total};
+ghost use Rattle.state.specs.Sound.{wire_place_legal, wire_legal, home_legal, line_unused};
 
 use crate::flits;
 use base::{Config, Flit};
@@ -9,7 +9,7 @@ use base::{Config, Flit};
 // The wire's place of stage k and port i: empty or legal where it is in use, else zero.
 fn is_wire_place(config: Config, k: usize, i: usize, place: u64) -> bool
     requires { config.ports ≤ 8 }
-    ensures { result ≡ cond (ltb k config.forward && ltb i config.ports) (wirePlaceLegal config place) (eqb place 0) }
+    ensures { result ≡ cond (ltb k config.forward && ltb i config.ports) (wire_place_legal config place) (eqb place 0) }
 {
     if config.forward as usize <= k {
         return place == 0;
@@ -47,7 +47,7 @@ fn is_home_place(config: Config, k: usize, i: usize, place: u8) -> bool
 // "wire .. places are empty or legal"; those not in use are zero.
 pub(crate) fn is_wire_sound(config: Config, wire: &[u64; 64]) -> bool
     requires { (config.ports ≤ 8) × (config.forward ≤ 8) }
-    ensures { result ≡ (wireLegal config wire.now && lineUnused config.forward config.ports wire.now) }
+    ensures { result ≡ (wire_legal config wire.now && line_unused config.forward config.ports wire.now) }
 {
     let mut m: usize = 0;
     while m < 64 {
@@ -62,7 +62,7 @@ pub(crate) fn is_wire_sound(config: Config, wire: &[u64; 64]) -> bool
 // "home places are empty or legal"; those not in use are zero.
 pub(crate) fn is_home_sound(config: Config, home: &[u8; 64]) -> bool
     requires { (config.ports ≤ 8) × (config.back ≤ 8) }
-    ensures { result ≡ (homeLegal config home.now && lineUnused config.back config.ports home.now) }
+    ensures { result ≡ (home_legal config home.now && line_unused config.back config.ports home.now) }
 {
     let mut m: usize = 0;
     while m < 64 {
@@ -76,7 +76,7 @@ pub(crate) fn is_home_sound(config: Config, home: &[u8; 64]) -> bool
 
 // Whether a wire place holds a flit on VC v.
 pub(crate) fn is_on(v: u8, place: u64) -> bool
-    ensures { result ≡ (not (eqb place 0) && eqb (wireVc place) v) }
+    ensures { result ≡ (not (eqb place 0) && eqb (wire_vc place) v) }
 {
     if place == 0 {
         return false;
@@ -85,7 +85,7 @@ pub(crate) fn is_on(v: u8, place: u64) -> bool
 }
 
 fn flits_on(v: u8, place: u64) -> u32
-    ensures { result ≡ length (onVc v place) }
+    ensures { result ≡ length (on_vc v place) }
 {
     if is_on(v, place) {
         return 1;
@@ -94,7 +94,7 @@ fn flits_on(v: u8, place: u64) -> u32
 }
 
 fn credits_for(v: u8, place: u8) -> u32
-    ensures { result ≡ toVc v place }
+    ensures { result ≡ to_vc v place }
 {
     if place as u32 == v as u32 + 1 {
         return 1;
@@ -105,7 +105,7 @@ fn credits_for(v: u8, place: u8) -> u32
 // How many flits of VC v of port i are on the wire.
 pub(crate) fn on_wire(config: Config, i: usize, v: u8, wire: &[u64; 64]) -> u32
     requires { (config.forward ≤ 8) × (i < 8) }
-    ensures { result ≡ length (flat (wireOf config wire.now i v)) }
+    ensures { result ≡ length (flat (wire_of config wire.now i v)) }
 {
     let end = config.forward as usize;
     let mut count: u32 = 0;

@@ -1,7 +1,7 @@
 // "input VC and output VC name each other or neither does"
 ghost use Rattle.std.specs.Prelude.{◌≡◌, ◌<◌};
-ghost use Rattle.state.specs.Sound.{bindingIs, holderIs};
-ghost use Rattle.state.specs.Testing.{place_of, boundPlace, heldPlace, inputNames, outputNames};
+ghost use Rattle.state.specs.Sound.{binding_is, holder_is};
+ghost use Rattle.state.specs.Testing.{place_of, place_bound, place_held, input_names, output_names};
 
 use crate::{Binding, Holder};
 use base::{CHANNEL_PLACES, Config};
@@ -15,7 +15,7 @@ fn place(config: Config, i: u8, v: u8) -> usize
 
 // The place of what an input VC names.
 pub(crate) fn bound_place(config: Config, binding: Binding) -> usize
-    ensures { (result ≡ boundPlace config binding) × (result < 32) }
+    ensures { (result ≡ place_bound config binding) × (result < 32) }
 {
     let Binding::Bound(to) = binding else {
         return 0;
@@ -25,7 +25,7 @@ pub(crate) fn bound_place(config: Config, binding: Binding) -> usize
 
 // The place of what an output VC names.
 pub(crate) fn held_place(config: Config, holder: Holder) -> usize
-    ensures { (result ≡ heldPlace config holder) × (result < 32) }
+    ensures { (result ≡ place_held config holder) × (result < 32) }
 {
     let Holder::Held(by) = holder else {
         return 0;
@@ -35,7 +35,7 @@ pub(crate) fn held_place(config: Config, holder: Holder) -> usize
 
 // Whether input VC v of port i is the holder.
 fn is_held_by(i: u8, v: u8, holder: Holder) -> bool
-    ensures { result ≡ holderIs i v holder }
+    ensures { result ≡ holder_is i v holder }
 {
     let Holder::Held(by) = holder else {
         return false;
@@ -48,7 +48,7 @@ fn is_held_by(i: u8, v: u8, holder: Holder) -> bool
 
 // Whether this is bound to VC w of output o.
 fn is_bound_to(o: u8, w: u8, binding: Binding) -> bool
-    ensures { result ≡ bindingIs o w binding }
+    ensures { result ≡ binding_is o w binding }
 {
     let Binding::Bound(to) = binding else {
         return false;
@@ -61,7 +61,7 @@ fn is_bound_to(o: u8, w: u8, binding: Binding) -> bool
 
 // What input VC v of port i names is held by it, or it names nothing.
 pub(crate) fn is_input_named(config: Config, i: u8, v: u8, binding: Binding, holder: Holder) -> bool
-    ensures { result ≡ inputNames config i v binding holder }
+    ensures { result ≡ input_names config i v binding holder }
 {
     let Binding::Bound(to) = binding else {
         return true;
@@ -83,7 +83,7 @@ pub(crate) fn is_output_named(
     holder: Holder,
     binding: Binding,
 ) -> bool
-    ensures { result ≡ outputNames config o w holder binding }
+    ensures { result ≡ output_names config o w holder binding }
 {
     let Holder::Held(by) = holder else {
         return true;

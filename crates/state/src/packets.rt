@@ -1,7 +1,7 @@
 // Queue followed by wire, oldest first, read as packets. A queue starts at the slot `base`.
 ghost use Rattle.std.specs.Prelude.{◌≡◌, ◌&&◌, ◌++◌, ◌+◌, ◌≤◌, ◌<◌, length};
-ghost use Rattle.state.specs.Views.{queueAt, wireOf, flat};
-ghost use Rattle.state.specs.Sound.{all, legalFlit, reading, endsAs, startsInside};
+ghost use Rattle.state.specs.Views.{queue_at, wire_of, flat};
+ghost use Rattle.state.specs.Sound.{all, legal_flit, reading, ends_as, begins_inside};
 
 use crate::{Binding, flits, lines};
 use base::{Config, Flit, starts};
@@ -14,7 +14,7 @@ pub(crate) fn starts_inside(
     store: &[u64; 512],
 ) -> bool
     requires { (base + 16 ≤ 512) × (queued ≤ 16) × (length store.now ≡ 512) }
-    ensures { result ≡ startsInside (queueAt store.now base queued) binding }
+    ensures { result ≡ begins_inside (queue_at store.now base queued) binding }
 {
     let Binding::Bound(to) = binding else {
         return false;
@@ -44,8 +44,8 @@ pub(crate) fn reads(
     wire: &[u64; 64],
 ) -> bool
     requires { (config.forward ≤ 8) × (i < 8) × (base + 16 ≤ 512) × (queued ≤ 16) × (length store.now ≡ 512) × (config.ports ≤ 8) }
-    ensures { result ≡ (all (legalFlit config) (queueAt store.now base queued)
-        && endsAs end (reading start (queueAt store.now base queued ++ flat (wireOf config wire.now i v)))) }
+    ensures { result ≡ (all (legal_flit config) (queue_at store.now base queued)
+        && ends_as end (reading start (queue_at store.now base queued ++ flat (wire_of config wire.now i v)))) }
 {
     let forward = config.forward as usize;
     let mut inside = start;

@@ -1,13 +1,13 @@
 // The store: 512 slots, 16 for each channel, the front of its queue in the first. These three are how a step reaches it, so that where a
 // slot stands is known here and to the sound test alone. A channel that there is not is left alone.
 ghost use Rattle.std.specs.Prelude.{◌≡◌};
-ghost use Rattle.store.specs.Store.{frontOf, pushed, popped};
+ghost use Rattle.store.specs.Store.{front_of, pushed, popped};
 
 use base::{CHANNEL_PLACES, Flit};
 
 // The flit in a channel's first slot.
 pub fn front(channel: usize, store: &[u64; 512]) -> Flit
-    ensures { result ≡ frontOf store.now channel }
+    ensures { result ≡ front_of store.now channel }
 {
     if CHANNEL_PLACES <= channel {
         return Flit { word: 0 };

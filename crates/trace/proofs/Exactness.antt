@@ -9,57 +9,57 @@ use mathlib.Core.Option.{Option, some, none}
 use Prim.Native.Nat.{ℕ}
 use Rattle.base.specs.Numbers as numbers
 use Rattle.trace.specs.declared.place.Place.{Place}
-use Rattle.trace.specs.Rules.{placeUnsound, blockShort, checkWrong, blockWrong, fieldWrong}
-use Rattle.trace.specs.Judged.{BlockOutcome, no_more, read_of, nextPlace, accepted, refused, taken, byField, judged}
+use Rattle.trace.specs.Rules.{place_unsound, block_short, check_wrong, block_wrong, field_wrong}
+use Rattle.trace.specs.Judged.{BlockOutcome, no_more, read_of, next_place, accepted, refused, taken, judged_by_field, judged}
 
 -- what no number before 1 refuses
 pub record Passes (p : Place) (c : ℕ) (l : List ℕ) : Type 0 where
-  pub sound : placeUnsound p c ≡ false
-  pub whole : blockShort p l ≡ false
-  pub checked : checkWrong p l ≡ false
-  pub formed : blockWrong p c l ≡ false
+  pub sound : place_unsound p c ≡ false
+  pub whole : block_short p l ≡ false
+  pub checked : check_wrong p l ≡ false
+  pub formed : block_wrong p c l ≡ false
 
 -- the first rule that holds, by the number that it gives
 data First (p : Place) (c : ℕ) (l : List ℕ) : ℕ → Type 0 where
-  is2 : placeUnsound p c ≡ true → First p c l numbers.notSound
-  is9 : placeUnsound p c ≡ false → blockShort p l ≡ true → First p c l numbers.blockShort
-  is7 : placeUnsound p c ≡ false → blockShort p l ≡ false → checkWrong p l ≡ true → First p c l numbers.checkWrong
-  is8 : placeUnsound p c ≡ false → blockShort p l ≡ false → checkWrong p l ≡ false → blockWrong p c l ≡ true
-      → First p c l numbers.blockWrong
-  is1 : Passes p c l → (k : ℕ) → fieldWrong p l ≡ some k → First p c l numbers.configurationWrong
-  is0 : Passes p c l → fieldWrong p l ≡ none → First p c l numbers.done
+  is2 : place_unsound p c ≡ true → First p c l numbers.not_sound
+  is9 : place_unsound p c ≡ false → block_short p l ≡ true → First p c l numbers.block_short
+  is7 : place_unsound p c ≡ false → block_short p l ≡ false → check_wrong p l ≡ true → First p c l numbers.check_wrong
+  is8 : place_unsound p c ≡ false → block_short p l ≡ false → check_wrong p l ≡ false → block_wrong p c l ≡ true
+      → First p c l numbers.block_wrong
+  is1 : Passes p c l → (k : ℕ) → field_wrong p l ≡ some k → First p c l numbers.configuration_wrong
+  is0 : Passes p c l → field_wrong p l ≡ none → First p c l numbers.done
 
 module _ (p : Place) (c : ℕ) (l : List ℕ) where
-  by2 : placeUnsound p c ≡ true → judged p c l ≡ refused numbers.notSound 0 p
+  by2 : place_unsound p c ≡ true → judged p c l ≡ refused numbers.not_sound 0 p
   unfolding judged
   by2 a = rw a
 
-  by9 : placeUnsound p c ≡ false → blockShort p l ≡ true → judged p c l ≡ refused numbers.blockShort 0 p
+  by9 : place_unsound p c ≡ false → block_short p l ≡ true → judged p c l ≡ refused numbers.block_short 0 p
   unfolding judged
   by9 a b = rw (a, b)
 
-  by7 : placeUnsound p c ≡ false → blockShort p l ≡ false → checkWrong p l ≡ true → judged p c l ≡ refused numbers.checkWrong 0 p
+  by7 : place_unsound p c ≡ false → block_short p l ≡ false → check_wrong p l ≡ true → judged p c l ≡ refused numbers.check_wrong 0 p
   unfolding judged
   by7 a b d = rw (a, b, d)
 
-  by8 : placeUnsound p c ≡ false → blockShort p l ≡ false → checkWrong p l ≡ false → blockWrong p c l ≡ true
-      → judged p c l ≡ refused numbers.blockWrong 0 p
+  by8 : place_unsound p c ≡ false → block_short p l ≡ false → check_wrong p l ≡ false → block_wrong p c l ≡ true
+      → judged p c l ≡ refused numbers.block_wrong 0 p
   unfolding judged
   by8 a b d e = rw (a, b, d, e)
 
-  by1 : Passes p c l → (k : ℕ) → fieldWrong p l ≡ some k → judged p c l ≡ refused numbers.configurationWrong k p
-  unfolding judged byField
+  by1 : Passes p c l → (k : ℕ) → field_wrong p l ≡ some k → judged p c l ≡ refused numbers.configuration_wrong k p
+  unfolding judged judged_by_field
   by1 q k f = rw (q.sound, q.whole, q.checked, q.formed, f)
 
-  by0 : Passes p c l → fieldWrong p l ≡ none → judged p c l ≡ taken p l
-  unfolding judged byField
+  by0 : Passes p c l → field_wrong p l ≡ none → judged p c l ≡ taken p l
+  unfolding judged judged_by_field
   by0 q f = rw (q.sound, q.whole, q.checked, q.formed, f)
 
-  taken-number : (taken p l).number ≡ 0
+  taken_number : (taken p l).number ≡ 0
   unfolding taken
-  taken-number = go p.ended
+  taken_number = go p.ended
     where
-      go : (b : Bool) → (cond b (accepted no_more p) (accepted (read_of l) (nextPlace p l))).number ≡ 0
+      go : (b : Bool) → (cond b (accepted no_more p) (accepted (read_of l) (next_place p l))).number ≡ 0
       go true = refl
       go false = refl
 
@@ -71,87 +71,87 @@ module _ (p : Place) (c : ℕ) (l : List ℕ) where
 
   -- the number given is that of the first rule that holds
   first : First p c l (judged p c l).number
-  first = two (placeUnsound p c) refl
+  first = two (place_unsound p c) refl
     where
       it : {n : ℕ} → (judged p c l).number ≡ n → First p c l n → First p c l (judged p c l).number
       it e f = subst (First p c l) (sym e) f
 
-      last : Passes p c l → (f : Option ℕ) → fieldWrong p l ≡ f → First p c l (judged p c l).number
+      last : Passes p c l → (f : Option ℕ) → field_wrong p l ≡ f → First p c l (judged p c l).number
       last q (some k) e = it (number (by1 q k e)) (is1 q k e)
-      last q none e = it (number (by0 q e) ∙ taken-number) (is0 q e)
+      last q none e = it (number (by0 q e) ∙ taken_number) (is0 q e)
 
-      eight : placeUnsound p c ≡ false → blockShort p l ≡ false → checkWrong p l ≡ false → (b : Bool) → blockWrong p c l ≡ b
+      eight : place_unsound p c ≡ false → block_short p l ≡ false → check_wrong p l ≡ false → (b : Bool) → block_wrong p c l ≡ b
           → First p c l (judged p c l).number
       eight a d g true e = it (number (by8 a d g e)) (is8 a d g e)
-      eight a d g false e = last (record { sound = a; whole = d; checked = g; formed = e }) (fieldWrong p l) refl
+      eight a d g false e = last (record { sound = a; whole = d; checked = g; formed = e }) (field_wrong p l) refl
 
-      seven : placeUnsound p c ≡ false → blockShort p l ≡ false → (b : Bool) → checkWrong p l ≡ b → First p c l (judged p c l).number
+      seven : place_unsound p c ≡ false → block_short p l ≡ false → (b : Bool) → check_wrong p l ≡ b → First p c l (judged p c l).number
       seven a d true e = it (number (by7 a d e)) (is7 a d e)
-      seven a d false e = eight a d e (blockWrong p c l) refl
+      seven a d false e = eight a d e (block_wrong p c l) refl
 
-      nine : placeUnsound p c ≡ false → (b : Bool) → blockShort p l ≡ b → First p c l (judged p c l).number
+      nine : place_unsound p c ≡ false → (b : Bool) → block_short p l ≡ b → First p c l (judged p c l).number
       nine a true e = it (number (by9 a e)) (is9 a e)
-      nine a false e = seven a e (checkWrong p l) refl
+      nine a false e = seven a e (check_wrong p l) refl
 
-      two : (b : Bool) → placeUnsound p c ≡ b → First p c l (judged p c l).number
+      two : (b : Bool) → place_unsound p c ≡ b → First p c l (judged p c l).number
       two true e = it (number (by2 e)) (is2 e)
-      two false e = nine e (blockShort p l) refl
+      two false e = nine e (block_short p l) refl
 
   rule : (n : ℕ) → (judged p c l).number ≡ n → First p c l n
   rule n e = subst (First p c l) e first
 
   -- 2, "state not sound"
-  pub two-exactly : ((judged p c l).number ≡ numbers.notSound) ↔ (placeUnsound p c ≡ true)
-  two-exactly = (λ e. go (rule 2 e), λ a. number (by2 a))
+  pub two_exactly : ((judged p c l).number ≡ numbers.not_sound) ↔ (place_unsound p c ≡ true)
+  two_exactly = (λ e. go (rule 2 e), λ a. number (by2 a))
     where
-      go : First p c l 2 → placeUnsound p c ≡ true
+      go : First p c l 2 → place_unsound p c ≡ true
       go (is2 a) = a
 
   -- 9, "fewer than 512 bytes in a block, or input ends before the end block"
-  pub nine-exactly : ((judged p c l).number ≡ numbers.blockShort) ↔ ((placeUnsound p c ≡ false) × (blockShort p l ≡ true))
-  nine-exactly = (λ e. go (rule 9 e), λ r. number (by9 r.0 r.1))
+  pub nine_exactly : ((judged p c l).number ≡ numbers.block_short) ↔ ((place_unsound p c ≡ false) × (block_short p l ≡ true))
+  nine_exactly = (λ e. go (rule 9 e), λ r. number (by9 r.0 r.1))
     where
-      go : First p c l 9 → (placeUnsound p c ≡ false) × (blockShort p l ≡ true)
+      go : First p c l 9 → (place_unsound p c ≡ false) × (block_short p l ≡ true)
       go (is9 a b) = (a, b)
 
   -- 7, "block check wrong"
-  pub seven-exactly : ((judged p c l).number ≡ numbers.checkWrong)
-      ↔ ((placeUnsound p c ≡ false) × (blockShort p l ≡ false) × (checkWrong p l ≡ true))
-  seven-exactly = (λ e. go (rule 7 e), λ r. number (by7 r.0 r.1 r.2))
+  pub seven_exactly : ((judged p c l).number ≡ numbers.check_wrong)
+      ↔ ((place_unsound p c ≡ false) × (block_short p l ≡ false) × (check_wrong p l ≡ true))
+  seven_exactly = (λ e. go (rule 7 e), λ r. number (by7 r.0 r.1 r.2))
     where
-      go : First p c l 7 → (placeUnsound p c ≡ false) × (blockShort p l ≡ false) × (checkWrong p l ≡ true)
+      go : First p c l 7 → (place_unsound p c ≡ false) × (block_short p l ≡ false) × (check_wrong p l ≡ true)
       go (is7 a b d) = (a, b, d)
 
   -- 8, "block kind, number, count, unused byte, place in the file, or end total wrong"
-  pub eight-exactly : ((judged p c l).number ≡ numbers.blockWrong)
-      ↔ ((placeUnsound p c ≡ false) × (blockShort p l ≡ false) × (checkWrong p l ≡ false) × (blockWrong p c l ≡ true))
-  eight-exactly = (λ e. go (rule 8 e), λ r. number (by8 r.0 r.1 r.2 r.3))
+  pub eight_exactly : ((judged p c l).number ≡ numbers.block_wrong)
+      ↔ ((place_unsound p c ≡ false) × (block_short p l ≡ false) × (check_wrong p l ≡ false) × (block_wrong p c l ≡ true))
+  eight_exactly = (λ e. go (rule 8 e), λ r. number (by8 r.0 r.1 r.2 r.3))
     where
-      go : First p c l 8 → (placeUnsound p c ≡ false) × (blockShort p l ≡ false) × (checkWrong p l ≡ false) × (blockWrong p c l ≡ true)
+      go : First p c l 8 → (place_unsound p c ≡ false) × (block_short p l ≡ false) × (check_wrong p l ≡ false) × (block_wrong p c l ≡ true)
       go (is8 a b d e) = (a, b, d, e)
 
   -- 1, "configuration value out of range; the first such field, 1..7"
-  pub one-exactly : (k : ℕ) → (((judged p c l).number ≡ numbers.configurationWrong) × ((judged p c l).field ≡ k)) ↔
-      (Passes p c l × (fieldWrong p l ≡ some k))
-  one-exactly k = (λ r. go (rule 1 r.0) r.1, λ r. let q = by1 r.0 k r.1 in (number q, field q))
+  pub one_exactly : (k : ℕ) → (((judged p c l).number ≡ numbers.configuration_wrong) × ((judged p c l).field ≡ k)) ↔
+      (Passes p c l × (field_wrong p l ≡ some k))
+  one_exactly k = (λ r. go (rule 1 r.0) r.1, λ r. let q = by1 r.0 k r.1 in (number q, field q))
     where
-      go : First p c l 1 → (judged p c l).field ≡ k → Passes p c l × (fieldWrong p l ≡ some k)
+      go : First p c l 1 → (judged p c l).field ≡ k → Passes p c l × (field_wrong p l ≡ some k)
       go (is1 s j f) e = (s, f ∙ ap some (sym (field (by1 s j f)) ∙ e))
 
   -- 0: accepted
-  pub accepted-exactly : ((judged p c l).number ≡ numbers.done) ↔ (Passes p c l × (fieldWrong p l ≡ none))
-  accepted-exactly = (λ e. go (rule 0 e), λ r. number (by0 r.0 r.1) ∙ taken-number)
+  pub accepted_exactly : ((judged p c l).number ≡ numbers.done) ↔ (Passes p c l × (field_wrong p l ≡ none))
+  accepted_exactly = (λ e. go (rule 0 e), λ r. number (by0 r.0 r.1) ∙ taken_number)
     where
-      go : First p c l 0 → Passes p c l × (fieldWrong p l ≡ none)
+      go : First p c l 0 → Passes p c l × (field_wrong p l ≡ none)
       go (is0 s f) = (s, f)
 
   -- what an accepted block gives
-  pub accepted-taken : (judged p c l).number ≡ numbers.done → judged p c l ≡ taken p l
-  accepted-taken e = let r = accepted-exactly.0 e in by0 r.0 r.1
+  pub accepted_taken : (judged p c l).number ≡ numbers.done → judged p c l ≡ taken p l
+  accepted_taken e = let r = accepted_exactly.0 e in by0 r.0 r.1
 
   -- "a refused block leaves the reading place", and nothing is read
-  pub refused-stays : ((judged p c l).number ≡ numbers.done → ⊥) → ((judged p c l).place ≡ p) × ((judged p c l).read ≡ none)
-  refused-stays refusal = go (judged p c l).number refl first
+  pub refused_stays : ((judged p c l).number ≡ numbers.done → ⊥) → ((judged p c l).place ≡ p) × ((judged p c l).read ≡ none)
+  refused_stays refusal = go (judged p c l).number refl first
     where
       stays : (n k : ℕ) → judged p c l ≡ refused n k p → ((judged p c l).place ≡ p) × ((judged p c l).read ≡ none)
       stays n k q = (ap (λ (o : BlockOutcome). o.place) q, ap (λ (o : BlockOutcome). o.read) q)

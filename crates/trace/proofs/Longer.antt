@@ -11,21 +11,21 @@ use lib.Dec.{eqb, leb, ltb, lit<}
 use lib.ListN.{length, take, drop}
 use lib.Seq.{length-take-le, get_or-take}
 use borrow.Author.Tests.{lt-ltb, le-ltb, le-leb}
-use Rattle.base.specs.Sizes.{illegalField, sized}
+use Rattle.base.specs.Sizes.{illegal_field, sized}
 use Rattle.base.specs.Numbers as numbers
-use Rattle.base.proofs.Lists.{take-inside}
-use Rattle.base.proofs.Search.{every-ext}
+use Rattle.base.proofs.Lists.{take_inside}
+use Rattle.base.proofs.Search.{every_ext}
 use Rattle.trace.specs.declared.place.Place.{Place}
-use Rattle.trace.specs.Bytes.{byte, bigEndian, zeros}
-use Rattle.trace.specs.Blocks.{kind_of, held_of, configOf, cycleStart, bodyEnd}
-use Rattle.trace.specs.Cycles.{Slice, part, shows, cyclePart}
-use Rattle.trace.specs.Check.{weighed, checkOf, checkHolds}
-use Rattle.trace.specs.Rules.{placeUnsound, blockShort, checkWrong, kindWrong, numberWrong, countWrong, unusedWrong, orderWrong}
-use Rattle.trace.specs.Rules.{totalWrong, bytesFollow, formWrong, blockWrong, fieldWrong}
-use Rattle.trace.specs.Judged.{aConfiguration, someCycles, theEnd, no_more, accepted, refused, read_of, taken, byField, judged}
-use Rattle.trace.proofs.Parts.{shown-below-7}
-use Rattle.trace.proofs.Spelling.{spell-ext}
-use Rattle.trace.proofs.Sums.{sum-ext}
+use Rattle.trace.specs.Bytes.{byte, big_endian, zeros}
+use Rattle.trace.specs.Blocks.{kind_of, held_of, config_of, cycle_start, end_of_body}
+use Rattle.trace.specs.Cycles.{Slice, part, shows, part_of_cycle}
+use Rattle.trace.specs.Check.{weighed, check_value, check_holds}
+use Rattle.trace.specs.Rules.{place_unsound, block_short, check_wrong, has_wrong_kind, has_wrong_number, has_wrong_count, has_wrong_unused, has_wrong_order}
+use Rattle.trace.specs.Rules.{has_wrong_total, bytes_follow, form_wrong, block_wrong, field_wrong}
+use Rattle.trace.specs.Judged.{a_configuration, some_cycles, the_end, no_more, accepted, refused, read_of, taken, judged_by_field, judged}
+use Rattle.trace.proofs.Parts.{shown_below_7}
+use Rattle.trace.proofs.Spelling.{spell_ext}
+use Rattle.trace.proofs.Sums.{sum_ext}
 
 -- two blocks that agree in their first 512 bytes
 module _ (x y : List ℕ) (same : (i : ℕ) → i < 512 → byte x i ≡ byte y i) where
@@ -35,38 +35,38 @@ module _ (x y : List ℕ) (same : (i : ℕ) → i < 512 → byte x i ≡ byte y 
   held : held_of x ≡ held_of y
   held = same 1 (lit< tt)
 
-  config : configOf x ≡ configOf y
+  config : config_of x ≡ config_of y
   config =
       λ i.
       sized (same 8 (lit< tt) i) (same 9 (lit< tt) i) (same 10 (lit< tt) i) (same 11 (lit< tt) i) (same 12 (lit< tt) i)
       (same 13 (lit< tt) i) (same 14 (lit< tt) i)
 
-  spelled : (from n : ℕ) → from + n ≤ 512 → bigEndian x from n ≡ bigEndian y from n
-  spelled from n h = spell-ext x y from n (λ i g. same (from + i) (omega arith))
+  spelled : (from n : ℕ) → from + n ≤ 512 → big_endian x from n ≡ big_endian y from n
+  spelled from n h = spell_ext x y from n (λ i g. same (from + i) (omega arith))
 
   blank : (from to : ℕ) → to ≤ 512 → zeros x from to ≡ zeros y from to
   unfolding zeros
   blank from to h =
-      every-ext (to - from) (λ (k : ℕ). eqb (byte x (from + k)) 0) (λ (k : ℕ). eqb (byte y (from + k)) 0)
+      every_ext (to - from) (λ (k : ℕ). eqb (byte x (from + k)) 0) (λ (k : ℕ). eqb (byte y (from + k)) 0)
       (λ k g. ap (λ (v : ℕ). eqb v 0) (same (from + k) (omega arith)))
 
-  check : checkHolds x ≡ checkHolds y
-  unfolding checkHolds checkOf
+  check : check_holds x ≡ check_holds y
+  unfolding check_holds check_value
   check =
-      ap₂ (λ (s v : ℕ). eqb (s % 65521) v) (sum-ext 510 (weighed x) (weighed y) (λ i g. ap (λ (v : ℕ). (i + 1) * v) (same i (omega arith))))
+      ap₂ (λ (s v : ℕ). eqb (s % 65521) v) (sum_ext 510 (weighed x) (weighed y) (λ i g. ap (λ (v : ℕ). (i + 1) * v) (same i (omega arith))))
       (spelled 510 2 (le_refl 512))
 
-  ends : bodyEnd x ≡ bodyEnd y
-  unfolding bodyEnd
-  ends = ap₂ (λ (k h : ℕ). cond (eqb k 1) 15 (cond (eqb k 2) (cycleStart h) 12)) kind held
+  ends : end_of_body x ≡ end_of_body y
+  unfolding end_of_body
+  ends = ap₂ (λ (k h : ℕ). cond (eqb k 1) 15 (cond (eqb k 2) (cycle_start h) 12)) kind held
 
-  unused : unusedWrong x ≡ unusedWrong y
-  unfolding unusedWrong
+  unused : has_wrong_unused x ≡ has_wrong_unused y
+  unfolding has_wrong_unused
   unused = ap₂ (λ (a b : Bool). not (a && b)) (blank 6 8 (omega arith))
-      (ap (λ (n : ℕ). zeros x n 510) ends ∙ blank (bodyEnd y) 510 (omega arith))
+      (ap (λ (n : ℕ). zeros x n 510) ends ∙ blank (end_of_body y) 510 (omega arith))
 
-  form : (p : Place) (c : ℕ) → formWrong p c x ≡ formWrong p c y
-  unfolding formWrong kindWrong numberWrong countWrong orderWrong totalWrong
+  form : (p : Place) (c : ℕ) → form_wrong p c x ≡ form_wrong p c y
+  unfolding form_wrong has_wrong_kind has_wrong_number has_wrong_count has_wrong_order has_wrong_total
   form p c =
       λ i.
       not (leb 1 (kind i) && leb (kind i) 3)
@@ -75,32 +75,32 @@ module _ (x y : List ℕ) (same : (i : ℕ) → i < 512 → byte x i ≡ byte y 
       || (unused i || (cond (eqb (kind i) 1) p.configured (not p.configured) || eqb (kind i) 3
       && not (eqb (spelled 8 4 (omega arith) i) c)))))
 
-  field : (p : Place) → fieldWrong p x ≡ fieldWrong p y
-  unfolding fieldWrong
-  field p = λ i. cond (not p.ended && eqb (kind i) 1) (illegalField (config i)) none
+  field : (p : Place) → field_wrong p x ≡ field_wrong p y
+  unfolding field_wrong
+  field p = λ i. cond (not p.ended && eqb (kind i) 1) (illegal_field (config i)) none
 
   read : (p : Place) → taken p x ≡ taken p y
   unfolding taken read_of
   read p =
       λ i.
       cond p.ended (accepted no_more p)
-      (accepted (cond (eqb (kind i) 1) (aConfiguration (config i)) (cond (eqb (kind i) 2) (someCycles (held i)) theEnd))
+      (accepted (cond (eqb (kind i) 1) (a_configuration (config i)) (cond (eqb (kind i) 2) (some_cycles (held i)) the_end))
       (record { number = p.number + 1; configured = true; ended = eqb (kind i) 3 }))
 
-  by_field : (p : Place) (f : Option ℕ) → byField f p x ≡ byField f p y
-  unfolding byField
+  by_field : (p : Place) (f : Option ℕ) → judged_by_field f p x ≡ judged_by_field f p y
+  unfolding judged_by_field
   by_field p (some k) = refl
   by_field p none = read p
 
   -- are judged alike, where both are whole
-  pub judged-alike : (p : Place) (c : ℕ) → 512 ≤ length x → 512 ≤ length y → judged p c x ≡ judged p c y
-  unfolding judged blockShort checkWrong blockWrong bytesFollow
-  judged-alike p c h g =
+  pub judged_alike : (p : Place) (c : ℕ) → 512 ≤ length x → 512 ≤ length y → judged p c x ≡ judged p c y
+  unfolding judged block_short check_wrong block_wrong bytes_follow
+  judged_alike p c h g =
       λ i.
-      cond (placeUnsound p c) (refused numbers.notSound 0 p)
-      (cond (not p.ended && short i) (refused numbers.blockShort 0 p)
-      (cond (not p.ended && not (check i)) (refused numbers.checkWrong 0 p)
-      (cond (cond p.ended (some-follow i) (form p c i)) (refused numbers.blockWrong 0 p) (byFields i))))
+      cond (place_unsound p c) (refused numbers.not_sound 0 p)
+      (cond (not p.ended && short i) (refused numbers.block_short 0 p)
+      (cond (not p.ended && not (check i)) (refused numbers.check_wrong 0 p)
+      (cond (cond p.ended (some-follow i) (form p c i)) (refused numbers.block_wrong 0 p) (by_fields i))))
     where
       short : ltb (length x) 512 ≡ ltb (length y) 512
       short = le-ltb (length x) 512 h ∙ sym (le-ltb (length y) 512 g)
@@ -108,34 +108,34 @@ module _ (x y : List ℕ) (same : (i : ℕ) → i < 512 → byte x i ≡ byte y 
       some-follow : ltb 0 (length x) ≡ ltb 0 (length y)
       some-follow = lt-ltb 0 (length x) (omega arith) ∙ sym (lt-ltb 0 (length y) (omega arith))
 
-      byFields : byField (fieldWrong p x) p x ≡ byField (fieldWrong p y) p y
-      byFields = ap (λ (f : Option ℕ). byField f p x) (field p) ∙ by_field p (fieldWrong p y)
+      by_fields : judged_by_field (field_wrong p x) p x ≡ judged_by_field (field_wrong p y) p y
+      by_fields = ap (λ (f : Option ℕ). judged_by_field f p x) (field p) ∙ by_field p (field_wrong p y)
 
 -- a longer block is judged as its first 512 bytes are
-pub first-512-count : (p : Place) (c : ℕ) (l : List ℕ) → 512 ≤ length l → judged p c l ≡ judged p c (take 512 l)
-first-512-count p c l h =
-    judged-alike l (take 512 l) (λ i g. sym (get_or-take 512 l i 0 g)) p c h (let e = length-take-le 512 l h in omega arith)
+pub first_512_count : (p : Place) (c : ℕ) (l : List ℕ) → 512 ≤ length l → judged p c l ≡ judged p c (take 512 l)
+first_512_count p c l h =
+    judged_alike l (take 512 l) (λ i g. sym (get_or-take 512 l i 0 g)) p c h (let e = length-take-le 512 l h in omega arith)
 
 -- ---- the cycles shown
 
 module _ (l : List ℕ) (h : 512 ≤ length l) where
-  held-512 : held_of (take 512 l) ≡ held_of l
-  held-512 = get_or-take 512 l 1 0 (lit< tt)
+  held_512 : held_of (take 512 l) ≡ held_of l
+  held_512 = get_or-take 512 l 1 0 (lit< tt)
 
-  shows-512 : (k : ℕ) → shows (take 512 l) k ≡ shows l k
+  shows_512 : (k : ℕ) → shows (take 512 l) k ≡ shows l k
   unfolding shows
-  shows-512 k =
+  shows_512 k =
       ap₂ (λ (a : Bool) (n : ℕ). a && leb n 7 && ltb k n)
-      (le-leb 512 (length (take 512 l)) (let e = length-take-le 512 l h in omega arith) ∙ sym (le-leb 512 (length l) h)) held-512
+      (le-leb 512 (length (take 512 l)) (let e = length-take-le 512 l h in omega arith) ∙ sym (le-leb 512 (length l) h)) held_512
 
-  part-512 : (k : ℕ) → k < 7 → take 64 (drop (8 + 64 * k) (take 512 l)) ≡ take 64 (drop (8 + 64 * k) l)
-  part-512 k b = take-inside 64 (8 + 64 * k) 512 l (omega (arith, b))
+  part_512 : (k : ℕ) → k < 7 → take 64 (drop (8 + 64 * k) (take 512 l)) ≡ take 64 (drop (8 + 64 * k) l)
+  part_512 k b = take_inside 64 (8 + 64 * k) 512 l (omega (arith, b))
 
 -- so does a reader show its cycles: those of a longer block are those of its first 512 bytes, where they lie
-pub first-512-shown : (s : Slice) (k : ℕ) → 512 ≤ length s.bytes
-    → cyclePart s k ≡ cyclePart (record { memory = s.memory; start = s.start; bytes = take 512 s.bytes }) k
-unfolding cyclePart
-first-512-shown s k h = go (shows s.bytes k) refl
+pub first_512_shown : (s : Slice) (k : ℕ) → 512 ≤ length s.bytes
+    → part_of_cycle s k ≡ part_of_cycle (record { memory = s.memory; start = s.start; bytes = take 512 s.bytes }) k
+unfolding part_of_cycle
+first_512_shown s k h = go (shows s.bytes k) refl
   where
     l : List ℕ
     l = s.bytes
@@ -148,5 +148,5 @@ first-512-shown s k h = go (shows s.bytes k) refl
 
     go : (b : Bool) → shows l k ≡ b → cond (shows l k) (part s (8 + 64 * k) 64) (part s 0 0)
         ≡ cond (shows (take 512 l) k) (part cut (8 + 64 * k) 64) (part cut 0 0)
-    go true e = rw (e, shows-512 l h k ∙ e) (ap shown (sym (part-512 l h k (shown-below-7 l k e))))
-    go false e = rw (e, shows-512 l h k ∙ e)
+    go true e = rw (e, shows_512 l h k ∙ e) (ap shown (sym (part_512 l h k (shown_below_7 l k e))))
+    go false e = rw (e, shows_512 l h k ∙ e)

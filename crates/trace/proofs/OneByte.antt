@@ -12,31 +12,31 @@ use lib.Dec.{eqb, leb, ltb}
 use lib.ListN.{length}
 use borrow.Author.Tests.{eqb-true, eqb-false, ltb-true, ltb-false, leb-true, leb-false, eq-eqb}
 use Rattle.base.specs.Search.{every}
-use Rattle.base.proofs.Search.{every-at}
+use Rattle.base.proofs.Search.{every_at}
 use Rattle.base.specs.Numbers as numbers
 use Rattle.trace.specs.declared.place.Place.{Place}
-use Rattle.trace.specs.Bytes.{byte, AreBytes, bigEndian}
+use Rattle.trace.specs.Bytes.{byte, AreBytes, big_endian}
 use Rattle.trace.specs.Changed.{ChangedAt, PassesCheck}
-use Rattle.trace.specs.Check.{sum, weighed, checkOf, checkHolds}
-use Rattle.trace.specs.Place.{goodPlace}
+use Rattle.trace.specs.Check.{sum, weighed, check_value, check_holds}
+use Rattle.trace.specs.Place.{good_place}
 use Rattle.trace.specs.Judged.{refused, judged}
 use Rattle.trace.proofs.Order.{judged-check}
-use Rattle.trace.proofs.Passing.{passes-good, passes-whole, passes-check}
-use Rattle.trace.proofs.Spelling.{spell-ext, two-inj}
-use Rattle.trace.proofs.Sums.{sum-ext, sum-change}
+use Rattle.trace.proofs.Passing.{passes_good, passes_whole, passes_check}
+use Rattle.trace.proofs.Spelling.{spell_ext, two_inj}
+use Rattle.trace.proofs.Sums.{sum_ext, sum_change}
 
 -- d is too small for a product of 65,521, or does not divide it
-noFactor : ℕ → Bool
-noFactor d = ltb (510 * d) 65521 || not (eqb (65521 % d) 0)
+no_factor : ℕ → Bool
+no_factor d = ltb (510 * d) 65521 || not (eqb (65521 % d) 0)
 
-no-factors : every 256 noFactor ≡ true
-unfolding every noFactor
-no-factors = refl
+no_factors : every 256 no_factor ≡ true
+unfolding every no_factor
+no_factors = refl
 
 -- no weight times a byte's change is 65,521
-no-product : (w d : ℕ) → w ≤ 510 → d < 256 → w * d ≡ 65521 → ⊥
-unfolding noFactor
-no-product w d h g e = go (ltb (510 * d) 65521) refl (every-at 256 noFactor no-factors d g)
+no_product : (w d : ℕ) → w ≤ 510 → d < 256 → w * d ≡ 65521 → ⊥
+unfolding no_factor
+no_product w d h g e = go (ltb (510 * d) 65521) refl (every_at 256 no_factor no_factors d g)
   where
     go : (b : Bool) → ltb (510 * d) 65521 ≡ b → (b || not (eqb (65521 % d) 0)) ≡ true → ⊥
     go true q r = let l = ltb-true (510 * d) 65521 q in let m = mul-le-mul_right d h in omega arith
@@ -50,28 +50,28 @@ apart s t w a b p h l g e same =
     let small : d ≤ 255 = omega arith in
     let most : w * d ≤ 510 * 255 = mul-le-mul h small in
     let some : 0 < w * d = mul-pos p (omega arith) in
-    no-product w d h (omega arith) (omega arith)
+    no_product w d h (omega arith) (omega arith)
 
 module _ (x y : List ℕ) (k : ℕ) (xs : AreBytes x) (ys : AreBytes y) (change : ChangedAt k x y) where
-  both_hold : checkHolds x ≡ true → checkHolds y ≡ true → ⊥
-  unfolding checkHolds checkOf
+  both_hold : check_holds x ≡ true → check_holds y ≡ true → ⊥
+  unfolding check_holds check_value
   both_hold e d = at (leb 510 k) refl
     where
-      ex : sum 510 (weighed x) % 65521 ≡ bigEndian x 510 2
-      ex = eqb-true (sum 510 (weighed x) % 65521) (bigEndian x 510 2) e
+      ex : sum 510 (weighed x) % 65521 ≡ big_endian x 510 2
+      ex = eqb-true (sum 510 (weighed x) % 65521) (big_endian x 510 2) e
 
-      ey : sum 510 (weighed y) % 65521 ≡ bigEndian y 510 2
-      ey = eqb-true (sum 510 (weighed y) % 65521) (bigEndian y 510 2) d
+      ey : sum 510 (weighed y) % 65521 ≡ big_endian y 510 2
+      ey = eqb-true (sum 510 (weighed y) % 65521) (big_endian y 510 2) d
 
       -- a byte of the sum
       summed : k < 510 → ⊥
       summed h = way (ltb (byte x k) (byte y k)) refl
         where
-          stored : bigEndian x 510 2 ≡ bigEndian y 510 2
-          stored = spell-ext x y 510 2 (λ i g. change.same (510 + i) (omega arith) (λ q. absurd (omega arith)))
+          stored : big_endian x 510 2 ≡ big_endian y 510 2
+          stored = spell_ext x y 510 2 (λ i g. change.same (510 + i) (omega arith) (λ q. absurd (omega arith)))
 
           moved : sum 510 (weighed x) + weighed y k ≡ sum 510 (weighed y) + weighed x k
-          moved = sum-change 510 k (weighed x) (weighed y) h (λ i g n. ap (λ (v : ℕ). (i + 1) * v) (change.same i (omega arith) n))
+          moved = sum_change 510 k (weighed x) (weighed y) h (λ i g n. ap (λ (v : ℕ). (i + 1) * v) (change.same i (omega arith) n))
 
           agree : sum 510 (weighed x) % 65521 ≡ sum 510 (weighed y) % 65521
           agree = ex ∙ stored ∙ sym ey
@@ -90,11 +90,11 @@ module _ (x y : List ℕ) (k : ℕ) (xs : AreBytes x) (ys : AreBytes y) (change 
         where
           summed-alike : sum 510 (weighed x) ≡ sum 510 (weighed y)
           summed-alike =
-              sum-ext 510 (weighed x) (weighed y) (λ i g. ap (λ (v : ℕ). (i + 1) * v)
+              sum_ext 510 (weighed x) (weighed y) (λ i g. ap (λ (v : ℕ). (i + 1) * v)
               (change.same i (omega arith) (λ q. absurd (omega arith))))
 
           alike : (byte x 510 ≡ byte y 510) × (byte x 511 ≡ byte y 511)
-          alike = two-inj x y 510 xs ys (sym ex ∙ ap (λ (s : ℕ). s % 65521) summed-alike ∙ ey)
+          alike = two_inj x y 510 xs ys (sym ex ∙ ap (λ (s : ℕ). s % 65521) summed-alike ∙ ey)
 
           which : (b : Bool) → eqb k 510 ≡ b → ⊥
           which true q =
@@ -112,22 +112,22 @@ module _ (x y : List ℕ) (k : ℕ) (xs : AreBytes x) (ys : AreBytes y) (change 
       at false q = summed (leb-false 510 k q)
 
   -- the check of the changed block is wrong
-  pub changed-fails : checkHolds x ≡ true → checkHolds y ≡ false
-  changed-fails e = go (checkHolds y) refl
+  pub changed_fails : check_holds x ≡ true → check_holds y ≡ false
+  changed_fails e = go (check_holds y) refl
     where
-      go : (b : Bool) → checkHolds y ≡ b → b ≡ false
+      go : (b : Bool) → check_holds y ≡ b → b ≡ false
       go true d = absurd (both_hold e d)
       go false d = refl
 
   -- so that judging it gives 7, at every place before the end block
-  pub changed-gives-7 : (p : Place) (c : ℕ) → goodPlace p c ≡ true → p.ended ≡ false → 512 ≤ length y → checkHolds x ≡ true
-      → judged p c y ≡ refused numbers.checkWrong 0 p
-  changed-gives-7 p c g e h k = judged-check p c y g e h (changed-fails k)
+  pub changed_gives_7 : (p : Place) (c : ℕ) → good_place p c ≡ true → p.ended ≡ false → 512 ≤ length y → check_holds x ≡ true
+      → judged p c y ≡ refused numbers.check_wrong 0 p
+  changed_gives_7 p c g e h k = judged-check p c y g e h (changed_fails k)
 
   -- "Any one byte changed, in a block whose check holds, must be noticed.", of the judge alone: a block passes its check at a place
   -- before the end block, that is, judging it there gives none of 2, 9 and 7; then judging the changed block there gives 7
-  pub one-byte-noticed : (p : Place) (c : ℕ) → p.ended ≡ false → PassesCheck p c x → length y ≡ length x → judged p c y
-      ≡ refused numbers.checkWrong 0 p
-  one-byte-noticed p c e pass same =
-      let h : 512 ≤ length x = passes-whole p c x e pass in
-      changed-gives-7 p c (passes-good p c x pass) e (omega arith) (passes-check p c x e pass)
+  pub one_byte_noticed : (p : Place) (c : ℕ) → p.ended ≡ false → PassesCheck p c x → length y ≡ length x → judged p c y
+      ≡ refused numbers.check_wrong 0 p
+  one_byte_noticed p c e pass same =
+      let h : 512 ≤ length x = passes_whole p c x e pass in
+      changed_gives_7 p c (passes_good p c x pass) e (omega arith) (passes_check p c x e pass)

@@ -8,41 +8,41 @@ use lib.ListN.{length}
 use borrow.Author.Tests.{lt-ltb, le-ltb}
 use Rattle.base.specs.Numbers as numbers
 use Rattle.trace.specs.declared.place.Place.{Place}
-use Rattle.trace.specs.Check.{checkHolds}
-use Rattle.trace.specs.Place.{goodPlace}
-use Rattle.trace.specs.Rules.{placeUnsound, blockShort, checkWrong, bytesFollow, formWrong, blockWrong, fieldWrong}
-use Rattle.trace.specs.Judged.{no_more, accepted, refused, taken, byField, judged}
+use Rattle.trace.specs.Check.{check_holds}
+use Rattle.trace.specs.Place.{good_place}
+use Rattle.trace.specs.Rules.{place_unsound, block_short, check_wrong, bytes_follow, form_wrong, block_wrong, field_wrong}
+use Rattle.trace.specs.Judged.{no_more, accepted, refused, taken, judged_by_field, judged}
 
 module _ (p : Place) (c : ℕ) (l : List ℕ) where
-  pub judged-unsound : goodPlace p c ≡ false → judged p c l ≡ refused numbers.notSound 0 p
-  unfolding judged placeUnsound
-  judged-unsound g = rw g
+  pub judged_unsound : good_place p c ≡ false → judged p c l ≡ refused numbers.not_sound 0 p
+  unfolding judged place_unsound
+  judged_unsound g = rw g
 
-  module _ (g : goodPlace p c ≡ true) where
+  module _ (g : good_place p c ≡ true) where
     -- after the end block
-    pub judged-follows : p.ended ≡ true → 0 < length l → judged p c l ≡ refused numbers.blockWrong 0 p
-    unfolding judged placeUnsound blockShort checkWrong blockWrong bytesFollow
+    pub judged-follows : p.ended ≡ true → 0 < length l → judged p c l ≡ refused numbers.block_wrong 0 p
+    unfolding judged place_unsound block_short check_wrong block_wrong bytes_follow
     judged-follows e h = rw (g, lt-ltb 0 (length l) h, e)
 
     pub judged-done : p.ended ≡ true → length l ≤ 0 → judged p c l ≡ accepted no_more p
-    unfolding judged placeUnsound blockShort checkWrong blockWrong bytesFollow fieldWrong byField taken
+    unfolding judged place_unsound block_short check_wrong block_wrong bytes_follow field_wrong judged_by_field taken
     judged-done e h = rw (g, le-ltb 0 (length l) h, e)
 
     -- before it
     module _ (e : p.ended ≡ false) where
-      pub judged-short : length l < 512 → judged p c l ≡ refused numbers.blockShort 0 p
-      unfolding judged placeUnsound blockShort
+      pub judged-short : length l < 512 → judged p c l ≡ refused numbers.block_short 0 p
+      unfolding judged place_unsound block_short
       judged-short h = rw (g, lt-ltb (length l) 512 h, e)
 
       module _ (h : 512 ≤ length l) where
-        pub judged-check : checkHolds l ≡ false → judged p c l ≡ refused numbers.checkWrong 0 p
-        unfolding judged placeUnsound blockShort checkWrong
+        pub judged-check : check_holds l ≡ false → judged p c l ≡ refused numbers.check_wrong 0 p
+        unfolding judged place_unsound block_short check_wrong
         judged-check k = rw (g, le-ltb (length l) 512 h, k, e)
 
-        pub judged-form : checkHolds l ≡ true → formWrong p c l ≡ true → judged p c l ≡ refused numbers.blockWrong 0 p
-        unfolding judged placeUnsound blockShort checkWrong blockWrong
+        pub judged-form : check_holds l ≡ true → form_wrong p c l ≡ true → judged p c l ≡ refused numbers.block_wrong 0 p
+        unfolding judged place_unsound block_short check_wrong block_wrong
         judged-form k f = rw (g, le-ltb (length l) 512 h, k, f, e)
 
-        pub judged-read : checkHolds l ≡ true → formWrong p c l ≡ false → judged p c l ≡ byField (fieldWrong p l) p l
-        unfolding judged placeUnsound blockShort checkWrong blockWrong
+        pub judged-read : check_holds l ≡ true → form_wrong p c l ≡ false → judged p c l ≡ judged_by_field (field_wrong p l) p l
+        unfolding judged place_unsound block_short check_wrong block_wrong
         judged-read k f = rw (g, le-ltb (length l) 512 h, k, f, e)

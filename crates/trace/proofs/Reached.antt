@@ -10,66 +10,66 @@ use native.Mathlib.Nat.{mul-suc, add-zero, le_refl}
 use native.Mathlib.Omega.{arith}
 use lib.Dec.{leb, lit≤}
 use borrow.Author.Tests.{leb-true, leb-false}
-use Rattle.base.specs.Sizes.{cycleLimit, in_range, firstIllegal, illegalField}
+use Rattle.base.specs.Sizes.{cycle_limit, in_range, first_illegal, illegal_field}
 use Rattle.base.specs.Numbers as numbers
 use Rattle.trace.specs.declared.place.Place.{Place}
-use Rattle.trace.specs.Bytes.{AreBytes, bigEndian}
-use Rattle.trace.specs.Blocks.{configOf, bodyEnd, blockNumbers}
-use Rattle.trace.specs.Place.{start, cycleBlocks, mayHold, goodPlace}
-use Rattle.trace.specs.Rules.{placeUnsound, kindWrong, numberWrong, countWrong, orderWrong, totalWrong, fieldWrong}
-use Rattle.trace.specs.Judged.{BlockOutcome, Read, aConfiguration, someCycles, theEnd, accepted, read_of, taken, byField, judged}
-use Rattle.trace.specs.Way.{cyclesIn, Brought, Way, begins}
-use Rattle.trace.proofs.Places.{Held, Good, nothing, after, good-is}
-use Rattle.trace.proofs.Runs.{judged-run}
-use Rattle.trace.proofs.Sealed.{sealed, sealed-holds, sealed-bytes, known_bytes}
-use Rattle.trace.proofs.Ways.{MayStand, way-stands, way-never-2, way-judged}
-use Rattle.trace.proofs.Exactness.{two-exactly}
-use Rattle.trace.proofs.Made.{at, cyclesBlock, cycles-bytes, cycles-judged, endBlock, end-bytes, end-judged}
+use Rattle.trace.specs.Bytes.{AreBytes, big_endian}
+use Rattle.trace.specs.Blocks.{config_of, end_of_body, block_numbers}
+use Rattle.trace.specs.Place.{start, cycle_blocks, can_hold, good_place}
+use Rattle.trace.specs.Rules.{place_unsound, has_wrong_kind, has_wrong_number, has_wrong_count, has_wrong_order, has_wrong_total, field_wrong}
+use Rattle.trace.specs.Judged.{BlockOutcome, Read, a_configuration, some_cycles, the_end, accepted, read_of, taken, judged_by_field, judged}
+use Rattle.trace.specs.Way.{cycles_in, Brought, Way, begins}
+use Rattle.trace.proofs.Places.{Held, Good, nothing, after, good_is}
+use Rattle.trace.proofs.Runs.{judged_run}
+use Rattle.trace.proofs.Sealed.{sealed, sealed_holds, sealed_bytes, known_bytes}
+use Rattle.trace.proofs.Ways.{MayStand, way_stands, way_never_2, way_judged}
+use Rattle.trace.proofs.Exactness.{two_exactly}
+use Rattle.trace.proofs.Made.{at, cycles_block, cycles_bytes, cycles_judged, end_block, end_bytes, end_judged}
 
 -- a block that is accepted goes on
 go_on : (skips : Bool) (p : Place) (c : ℕ) (l : List ℕ) (r : Read) (q : Place) (brought : ℕ) → Way skips p c → AreBytes l
-    → judged p c l ≡ accepted r q → Brought skips (cyclesIn (some r)) brought → c + brought ≤ cycleLimit → Way skips q (c + brought)
+    → judged p c l ≡ accepted r q → Brought skips (cycles_in (some r)) brought → c + brought ≤ cycle_limit → Way skips q (c + brought)
 go_on skips p c l r q brought w b e many limit =
     subst (λ (o : BlockOutcome). Way skips o.place (c + brought)) e
-    (way-judged skips p c l w b (ap (λ (o : BlockOutcome). o.number) e) brought
-    (subst (λ (o : BlockOutcome). Brought skips (cyclesIn o.read) brought) (sym e) many) limit)
+    (way_judged skips p c l w b (ap (λ (o : BlockOutcome). o.number) e) brought
+    (subst (λ (o : BlockOutcome). Brought skips (cycles_in o.read) brought) (sym e) many) limit)
 
 -- a block that holds none
-no-cycles : (skips : Bool) → Brought skips 0 0
-no-cycles skips = record { most = lit≤ tt; all = λ q. refl }
+no_cycles : (skips : Bool) → Brought skips 0 0
+no_cycles skips = record { most = lit≤ tt; all = λ q. refl }
 
 -- ---- the configuration block
 
 ones : List ℕ
 ones = 1 ∷ 0 ∷ 0 ∷ 0 ∷ 0 ∷ 0 ∷ 0 ∷ 0 ∷ 1 ∷ 1 ∷ 1 ∷ 1 ∷ 1 ∷ 1 ∷ 1 ∷ []
 
-ones-bytes : AreBytes ones
+ones_bytes : AreBytes ones
 unfolding ones
-ones-bytes = known_bytes ones refl
+ones_bytes = known_bytes ones refl
 
-ones-judged : judged start 0 (sealed ones) ≡ accepted (aConfiguration (configOf (sealed ones))) (at 1)
-unfolding ones sealed bigEndian bodyEnd mayHold goodPlace kindWrong numberWrong countWrong orderWrong totalWrong fieldWrong in_range
-    firstIllegal illegalField read_of taken byField
-ones-judged = judged-run start 0 (sealed ones) 495 refl refl (lit≤ tt) (sealed-holds ones (lit≤ tt)) refl refl refl refl
+ones_judged : judged start 0 (sealed ones) ≡ accepted (a_configuration (config_of (sealed ones))) (at 1)
+unfolding ones sealed big_endian end_of_body can_hold good_place has_wrong_kind has_wrong_number has_wrong_count has_wrong_order has_wrong_total field_wrong in_range
+    first_illegal illegal_field read_of taken judged_by_field
+ones_judged = judged_run start 0 (sealed ones) 495 refl refl (lit≤ tt) (sealed_holds ones (lit≤ tt)) refl refl refl refl
 
 configured : (skips : Bool) → Way skips (at 1) 0
-configured skips = go_on skips start 0 (sealed ones) (aConfiguration (configOf (sealed ones))) (at 1) 0 begins
-    (sealed-bytes ones ones-bytes) ones-judged (no-cycles skips) (lit≤ tt)
+configured skips = go_on skips start 0 (sealed ones) (a_configuration (config_of (sealed ones))) (at 1) 0 begins
+    (sealed_bytes ones ones_bytes) ones_judged (no_cycles skips) (lit≤ tt)
 
 -- a block of h cycles more
-one_more : (skips : Bool) (n c h brought : ℕ) → n < blockNumbers → 1 ≤ h → h ≤ 7 → Way skips (at n) c → Brought skips h brought
-    → c + brought ≤ cycleLimit → Way skips (at (n + 1)) (c + brought)
+one_more : (skips : Bool) (n c h brought : ℕ) → n < block_numbers → 1 ≤ h → h ≤ 7 → Way skips (at n) c → Brought skips h brought
+    → c + brought ≤ cycle_limit → Way skips (at (n + 1)) (c + brought)
 one_more skips n c h brought small from to w many limit =
-    go_on skips (at n) c (cyclesBlock n c h small from to) (someCycles h) (at (n + 1)) brought w (cycles-bytes n c h small from to)
-    (cycles-judged n c h small from to (way-stands skips (at n) c w).good) many limit
+    go_on skips (at n) c (cycles_block n c h small from to) (some_cycles h) (at (n + 1)) brought w (cycles_bytes n c h small from to)
+    (cycles_judged n c h small from to (way_stands skips (at n) c w).good) many limit
 
 -- n cycle blocks after the configuration, with c cycles; at least one each where none are skipped
-cycles-reached : (skips : Bool) (n c : ℕ) → n < blockNumbers → Held n c → (skips ≡ false → n ≤ c) → Way skips (at (n + 1)) c
-cycles-reached skips zero c small h each = subst (Way skips (at 1)) (let a = h.most in omega arith) (configured skips)
-cycles-reached skips (suc n) c small h each = which skips refl (cycles-reached skips n)
+cycles_reached : (skips : Bool) (n c : ℕ) → n < block_numbers → Held n c → (skips ≡ false → n ≤ c) → Way skips (at (n + 1)) c
+cycles_reached skips zero c small h each = subst (Way skips (at 1)) (let a = h.most in omega arith) (configured skips)
+cycles_reached skips (suc n) c small h each = which skips refl (cycles_reached skips n)
   where
     Before : Type 0
-    Before = (d : ℕ) → n < blockNumbers → Held n d → (skips ≡ false → n ≤ d) → Way skips (at (n + 1)) d
+    Before = (d : ℕ) → n < block_numbers → Held n d → (skips ≡ false → n ≤ d) → Way skips (at (n + 1)) d
 
     -- d cycles before the last block, which holds k and brought j
     last : Before → (d k j : ℕ) → Held n d → (skips ≡ false → n ≤ d) → 1 ≤ k → k ≤ 7 → Brought skips k j → d + j ≡ c
@@ -111,55 +111,55 @@ cycles-reached skips (suc n) c small h each = which skips refl (cycles-reached s
     which false s reached = whole reached s (leb (n + 7) c) refl
 
 -- the end block after them
-end-reached : (skips : Bool) (n c : ℕ) → n + 2 ≤ blockNumbers → Held n c → (skips ≡ false → n ≤ c)
+end_reached : (skips : Bool) (n c : ℕ) → n + 2 ≤ block_numbers → Held n c → (skips ≡ false → n ≤ c)
     → Way skips (record { number = n + 2; configured = true; ended = true }) c
-end-reached skips n c room h each =
-    let w = cycles-reached skips n c (omega arith) h each in
-    let g = (way-stands skips (at (n + 1)) c w).good in
+end_reached skips n c room h each =
+    let w = cycles_reached skips n c (omega arith) h each in
+    let g = (way_stands skips (at (n + 1)) c w).good in
     let limit = h.limit in
     let same : n + 1 + 1 ≡ n + 2 = omega arith in
     let few : n + 1 < 4294967296 = omega arith in
     let total : c < 4294967296 = omega arith in
     subst₂ (Way skips) (ap (λ (k : ℕ). record { number = k; configured = true; ended = true }) same) (add-zero c)
-    (go_on skips (at (n + 1)) c (endBlock (n + 1) c few total) theEnd (record { number = n + 1 + 1; configured = true; ended = true }) 0 w
-    (end-bytes (n + 1) c few total) (end-judged (n + 1) c few total g) (no-cycles skips) (omega arith))
+    (go_on skips (at (n + 1)) c (end_block (n + 1) c few total) the_end (record { number = n + 1 + 1; configured = true; ended = true }) 0 w
+    (end_bytes (n + 1) c few total) (end_judged (n + 1) c few total g) (no_cycles skips) (omega arith))
 
 -- some file leads to every good place
-pub good-reached : (skips : Bool) (p : Place) (c : ℕ) → MayStand skips p c → Way skips p c
-good-reached skips p c s = go (good-is p c s.good)
+pub good_reached : (skips : Bool) (p : Place) (c : ℕ) → MayStand skips p c → Way skips p c
+good_reached skips p c s = go (good_is p c s.good)
   where
-    there : (n : ℕ) → p.configured ≡ true → Held n c → (skips ≡ false → n ≤ c) → p.number ≤ blockNumbers → (b : Bool) → p.ended ≡ b
+    there : (n : ℕ) → p.configured ≡ true → Held n c → (skips ≡ false → n ≤ c) → p.number ≤ block_numbers → (b : Bool) → p.ended ≡ b
         → p.number ≡ n + cond b 2 1 → Way skips p c
     there n k h each room true d e =
         subst (λ (q : Place). Way skips q c) (λ i. record { number = sym e i; configured = sym k i; ended = sym d i })
-        (end-reached skips n c (omega arith) h each)
+        (end_reached skips n c (omega arith) h each)
     there n k h each room false d e =
         subst (λ (q : Place). Way skips q c) (λ i. record { number = sym e i; configured = sym k i; ended = sym d i })
-        (cycles-reached skips n c (omega arith) h each)
+        (cycles_reached skips n c (omega arith) h each)
 
     go : Good p c → Way skips p c
     go (nothing k d n z) = subst₂ (Way skips) (λ i. record { number = sym n i; configured = sym k i; ended = sym d i }) (sym z) begins
     go (after n k e m h) = there n k h (λ q. let least = s.each q in omega arith) m p.ended refl e
 
 -- a place is good exactly when some file leads to it, refused cycles skipped
-pub good-exactly : (p : Place) (c : ℕ) → (goodPlace p c ≡ true) ↔ Way true p c
-good-exactly p c = (
-  λ g. good-reached true p c (record { good = g; each = λ q. absurd (true≢false q) }),
-  λ w. (way-stands true p c w).good,
+pub good_exactly : (p : Place) (c : ℕ) → (good_place p c ≡ true) ↔ Way true p c
+good_exactly p c = (
+  λ g. good_reached true p c (record { good = g; each = λ q. absurd (true≢false q) }),
+  λ w. (way_stands true p c w).good,
 )
 
 -- where none are skipped, exactly when besides each cycle block brought at least one
-pub whole-exactly : (p : Place) (c : ℕ) → ((goodPlace p c ≡ true) × (cycleBlocks p ≤ c)) ↔ Way false p c
-whole-exactly p c = (
-  λ g. good-reached false p c (record { good = g.0; each = λ q. g.1 }),
-  λ w. let s = way-stands false p c w in (s.good, s.each refl),
+pub whole_exactly : (p : Place) (c : ℕ) → ((good_place p c ≡ true) × (cycle_blocks p ≤ c)) ↔ Way false p c
+whole_exactly p c = (
+  λ g. good_reached false p c (record { good = g.0; each = λ q. g.1 }),
+  λ w. let s = way_stands false p c w in (s.good, s.each refl),
 )
 
 -- 2 comes exactly where no file leads
-pub two-exactly-off-the-way : (p : Place) (c : ℕ) (l : List ℕ) → ((judged p c l).number ≡ numbers.notSound) ↔ (Way true p c → ⊥)
-unfolding placeUnsound
-two-exactly-off-the-way p c l = (λ e w. way-never-2 true p c l w e, λ none. (two-exactly p c l).1 (go none (goodPlace p c) refl))
+pub two_exactly_off_the_way : (p : Place) (c : ℕ) (l : List ℕ) → ((judged p c l).number ≡ numbers.not_sound) ↔ (Way true p c → ⊥)
+unfolding place_unsound
+two_exactly_off_the_way p c l = (λ e w. way_never_2 true p c l w e, λ none. (two_exactly p c l).1 (go none (good_place p c) refl))
   where
-    go : (Way true p c → ⊥) → (b : Bool) → goodPlace p c ≡ b → not b ≡ true
-    go none true e = absurd (none ((good-exactly p c).0 e))
+    go : (Way true p c → ⊥) → (b : Bool) → good_place p c ≡ b → not b ≡ true
+    go none true e = absurd (none ((good_exactly p c).0 e))
     go none false e = refl

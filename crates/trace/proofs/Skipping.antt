@@ -7,34 +7,34 @@ use mathlib.Core.List.{List}
 use lib.Dec.{leb, lit≤, lit<}
 use Prim.Native.Nat.{ℕ}
 use Rattle.base.specs.Numbers as numbers
-use Rattle.trace.specs.Place.{mayHold, cycleBlocks, goodPlace}
-use Rattle.trace.specs.Judged.{BlockOutcome, someCycles, accepted, judged}
+use Rattle.trace.specs.Place.{can_hold, cycle_blocks, good_place}
+use Rattle.trace.specs.Judged.{BlockOutcome, some_cycles, accepted, judged}
 use Rattle.trace.specs.Way.{Way}
-use Rattle.trace.proofs.Made.{at, cyclesBlock, cycles-judged, endBlock, end-judged}
-use Rattle.trace.proofs.Order.{judged-unsound}
-use Rattle.trace.proofs.Reached.{good-exactly}
+use Rattle.trace.proofs.Made.{at, cycles_block, cycles_judged, end_block, end_judged}
+use Rattle.trace.proofs.Order.{judged_unsound}
+use Rattle.trace.proofs.Reached.{good_exactly}
 
 -- a file leads there ..
-pub none-accepted-good : goodPlace (at 2) 0 ≡ true
-unfolding goodPlace mayHold
-none-accepted-good = refl
+pub none_accepted_good : good_place (at 2) 0 ≡ true
+unfolding good_place can_hold
+none_accepted_good = refl
 
-pub none-accepted-way : Way true (at 2) 0
-none-accepted-way = (good-exactly (at 2) 0).0 none-accepted-good
+pub none_accepted_way : Way true (at 2) 0
+none_accepted_way = (good_exactly (at 2) 0).0 none_accepted_good
 
 -- .. so that the next cycle block is taken, and so is the end block
-pub none-accepted-goes-on : judged (at 2) 0 (cyclesBlock 2 0 7 (lit< tt) (lit≤ tt) (lit≤ tt)) ≡ accepted (someCycles 7) (at 3)
-none-accepted-goes-on = cycles-judged 2 0 7 (lit< tt) (lit≤ tt) (lit≤ tt) none-accepted-good
+pub none_accepted_goes_on : judged (at 2) 0 (cycles_block 2 0 7 (lit< tt) (lit≤ tt) (lit≤ tt)) ≡ accepted (some_cycles 7) (at 3)
+none_accepted_goes_on = cycles_judged 2 0 7 (lit< tt) (lit≤ tt) (lit≤ tt) none_accepted_good
 
-pub none-accepted-ends : (judged (at 2) 0 (endBlock 2 0 (lit< tt) (lit< tt))).number ≡ numbers.done
-none-accepted-ends = ap (λ (o : BlockOutcome). o.number) (end-judged 2 0 (lit< tt) (lit< tt) none-accepted-good)
+pub none_accepted_ends : (judged (at 2) 0 (end_block 2 0 (lit< tt) (lit< tt))).number ≡ numbers.done
+none_accepted_ends = ap (λ (o : BlockOutcome). o.number) (end_judged 2 0 (lit< tt) (lit< tt) none_accepted_good)
 
 -- a rule that asks each cycle block for an accepted cycle fails there
-pub one-each-fails : (goodPlace (at 2) 0 && leb (cycleBlocks (at 2)) 0) ≡ false
-unfolding goodPlace mayHold
-one-each-fails = refl
+pub one_each_fails : (good_place (at 2) 0 && leb (cycle_blocks (at 2)) 0) ≡ false
+unfolding good_place can_hold
+one_each_fails = refl
 
 -- more cycles than the block can hold are 2
-pub eight-accepted-refused : (l : List ℕ) → (judged (at 2) 8 l).number ≡ numbers.notSound
-unfolding goodPlace mayHold
-eight-accepted-refused l = ap (λ (o : BlockOutcome). o.number) (judged-unsound (at 2) 8 l refl)
+pub eight_accepted_refused : (l : List ℕ) → (judged (at 2) 8 l).number ≡ numbers.not_sound
+unfolding good_place can_hold
+eight_accepted_refused l = ap (λ (o : BlockOutcome). o.number) (judged_unsound (at 2) 8 l refl)

@@ -6,32 +6,32 @@ use Prim.Native.Nat.{ℕ, ◌+◌, ◌*◌, ◌%◌, ◌≤◌, ◌<◌}
 use native.Mathlib.Nat.{mul-le-mul}
 use native.Mathlib.Omega.{arith}
 use Rattle.trace.specs.Bytes.{byte}
-use Rattle.trace.specs.Check.{sum, weighed, checkOf}
-use Rattle.trace.proofs.Sums.{sum_more, sum-le}
+use Rattle.trace.specs.Check.{sum, weighed, check_value}
+use Rattle.trace.proofs.Sums.{sum_more, sum_le}
 
 -- nothing is summed yet
-pub sum-start : (l : List ℕ) → 0 ≡ sum 0 (weighed l)
+pub sum_start : (l : List ℕ) → 0 ≡ sum 0 (weighed l)
 unfolding sum
-sum-start l = refl
+sum_start l = refl
 
 module _ (l : List ℕ) (small : (i : ℕ) → byte l i < 256) where
   -- a byte of the 510 with its weight
-  pub weighed-le : (i : ℕ) → i < 510 → weighed l i ≤ 130050
-  weighed-le i h =
+  pub weighed_le : (i : ℕ) → i < 510 → weighed l i ≤ 130050
+  weighed_le i h =
       let b = small i in
       let w : i + 1 ≤ 510 = omega arith in
       let v : byte l i ≤ 255 = omega arith in
       mul-le-mul w v
 
   -- all of those passed
-  pub weights-le : (n : ℕ) → n ≤ 510 → sum n (weighed l) ≤ 66325500
-  weights-le n h = let s = sum-le n 130050 (weighed l) (λ i g. weighed-le i (omega arith)) in omega arith
+  pub weights_le : (n : ℕ) → n ≤ 510 → sum n (weighed l) ≤ 66325500
+  weights_le n h = let s = sum_le n 130050 (weighed l) (λ i g. weighed_le i (omega arith)) in omega arith
 
 -- one byte more, with the weight that the loop counts
-pub weights-more : (l : List ℕ) (i s w b : ℕ) → s ≡ sum i (weighed l) → w ≡ i + 1 → b ≡ byte l i → s + w * b ≡ sum (i + 1) (weighed l)
-weights-more l i s w b e d f = sum_more i (weighed l) s (w * b) e (ap₂ ◌*◌ d f)
+pub weights_more : (l : List ℕ) (i s w b : ℕ) → s ≡ sum i (weighed l) → w ≡ i + 1 → b ≡ byte l i → s + w * b ≡ sum (i + 1) (weighed l)
+weights_more l i s w b e d f = sum_more i (weighed l) s (w * b) e (ap₂ ◌*◌ d f)
 
 -- the whole sum
-pub weights-end : (l : List ℕ) (i s : ℕ) → s ≡ sum i (weighed l) → i ≡ 510 → s % 65521 ≡ checkOf l
-unfolding checkOf
-weights-end l i s e d = ap (λ (x : ℕ). x % 65521) (e ∙ ap (λ (n : ℕ). sum n (weighed l)) d)
+pub weights_end : (l : List ℕ) (i s : ℕ) → s ≡ sum i (weighed l) → i ≡ 510 → s % 65521 ≡ check_value l
+unfolding check_value
+weights_end l i s e d = ap (λ (x : ℕ). x % 65521) (e ∙ ap (λ (n : ℕ). sum n (weighed l)) d)

@@ -12,9 +12,9 @@ abbrev pub AreBytes : List ℕ → Type 0
 AreBytes block = (i : ℕ) → byte block i < 256
 
 -- "big-endian": the number that the n bytes from `from` on spell, the first the highest
-unfoldable pub bigEndian : List ℕ → ℕ → ℕ → ℕ
-bigEndian block from zero = 0
-bigEndian block from (suc n) = 256 * bigEndian block from n + byte block (from + n)
+unfoldable pub big_endian : List ℕ → ℕ → ℕ → ℕ
+big_endian block from zero = 0
+big_endian block from (suc n) = 256 * big_endian block from n + byte block (from + n)
 
 -- each of the bytes from `from` on, and before `to`, is zero
 unfoldable pub zeros : List ℕ → ℕ → ℕ → Bool

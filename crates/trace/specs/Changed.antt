@@ -4,18 +4,18 @@ use Rattle.std.specs.Prelude.{◌≡◌, List, ℕ, ◌<◌}
 use Rattle.trace.specs.Bytes.{byte}
 use Rattle.base.specs.Numbers as numbers
 use Rattle.trace.specs.declared.place.Place.{Place}
-use Rattle.trace.specs.Blocks.{blockLength}
+use Rattle.trace.specs.Blocks.{block_length}
 use Rattle.trace.specs.Judged.{judged}
 
 -- of the 512 bytes the one at k differs, and no other
 pub record ChangedAt (k : ℕ) (x y : List ℕ) : Type 0 where
-  pub inside : k < blockLength
+  pub inside : k < block_length
   pub differs : byte x k ≡ byte y k → ⊥
-  pub same : (i : ℕ) → i < blockLength → (i ≡ k → ⊥) → byte x i ≡ byte y i
+  pub same : (i : ℕ) → i < block_length → (i ≡ k → ⊥) → byte x i ≡ byte y i
 
 -- a block passes its check at its place: judging it there gives none of 2 "state not sound", 9 "fewer than 512 bytes in a block" and 7
 -- "block check wrong"
 pub record PassesCheck (p : Place) (c : ℕ) (block : List ℕ) : Type 0 where
-  pub notUnsound : (judged p c block).number ≡ numbers.notSound → ⊥
-  pub notShort : (judged p c block).number ≡ numbers.blockShort → ⊥
-  pub notCheckWrong : (judged p c block).number ≡ numbers.checkWrong → ⊥
+  pub not_unsound : (judged p c block).number ≡ numbers.not_sound → ⊥
+  pub not_short : (judged p c block).number ≡ numbers.block_short → ⊥
+  pub not_check_wrong : (judged p c block).number ≡ numbers.check_wrong → ⊥

@@ -3,7 +3,7 @@
 -- Assumes nothing.
 use Rattle.std.specs.Prelude.{Bool, cond, ◌&&◌, List, ℕ, ◌+◌, leb, ltb, length, take, drop}
 use Rattle.std.specs.Borrow.{Bor}
-use Rattle.trace.specs.Blocks.{blockLength, held_of, mostHeld, cycleLength, cycleStart}
+use Rattle.trace.specs.Blocks.{block_length, held_of, most_held, cycle_length, cycle_start}
 
 -- what a slice is: the memory that it lies in, the byte there at which it starts, and its bytes
 pub record Slice : Type 0 where
@@ -20,8 +20,8 @@ part s i n = record { memory = s.memory; start = i + s.start; bytes = take n (dr
 
 -- whether there is a cycle k, counted from 0, to show
 unfoldable pub shows : List ℕ → ℕ → Bool
-shows block k = leb blockLength (length block) && leb (held_of block) mostHeld && ltb k (held_of block)
+shows block k = leb block_length (length block) && leb (held_of block) most_held && ltb k (held_of block)
 
 -- cycle k, or an empty part
-unfoldable pub cyclePart : Slice → ℕ → Slice
-cyclePart block k = cond (shows block.bytes k) (part block (cycleStart k) cycleLength) (part block 0 0)
+unfoldable pub part_of_cycle : Slice → ℕ → Slice
+part_of_cycle block k = cond (shows block.bytes k) (part block (cycle_start k) cycle_length) (part block 0 0)

@@ -2,20 +2,20 @@
 -- Assumes nothing.
 use Rattle.std.specs.Prelude.{◌≡◌, Bool, false, List, ℕ, ◌+◌, ◌≤◌}
 use Rattle.std.proofs.Math.Option.{Option, some, none}
-use Rattle.base.specs.Sizes.{cycleLimit}
+use Rattle.base.specs.Sizes.{cycle_limit}
 use Rattle.trace.specs.declared.place.Place.{Place}
 use Rattle.trace.specs.Bytes.{AreBytes}
 use Rattle.trace.specs.Place.{start}
-use Rattle.trace.specs.Rules.{blockShort, checkWrong, blockWrong, fieldWrong}
-use Rattle.trace.specs.Judged.{Read, aConfiguration, someCycles, theEnd, no_more, taken}
+use Rattle.trace.specs.Rules.{block_short, check_wrong, block_wrong, field_wrong}
+use Rattle.trace.specs.Judged.{Read, a_configuration, some_cycles, the_end, no_more, taken}
 
 -- the cycles that a block was found to hold
-abbrev pub cyclesIn : Option Read → ℕ
-cyclesIn none = 0
-cyclesIn (some (aConfiguration c)) = 0
-cyclesIn (some (someCycles n)) = n
-cyclesIn (some theEnd) = 0
-cyclesIn (some no_more) = 0
+abbrev pub cycles_in : Option Read → ℕ
+cycles_in none = 0
+cycles_in (some (a_configuration c)) = 0
+cycles_in (some (some_cycles n)) = n
+cycles_in (some the_end) = 0
+cycles_in (some no_more) = 0
 
 -- of the cycles that a block holds so many were accepted: all, or where the caller skips those that are refused any number of them
 pub record Brought (skips : Bool) (held brought : ℕ) : Type 0 where
@@ -26,6 +26,6 @@ pub record Brought (skips : Bool) (held brought : ℕ) : Type 0 where
 -- caller has "refused ones skipped" (demand 3) or, as a run does, none
 pub data Way (skips : Bool) : Place → ℕ → Type 0 where
   begins : Way skips start 0
-  goes_on : (p : Place) (c : ℕ) (block : List ℕ) (brought : ℕ) → Way skips p c → AreBytes block → blockShort p block ≡ false
-      → checkWrong p block ≡ false → blockWrong p c block ≡ false → fieldWrong p block ≡ none
-      → Brought skips (cyclesIn (taken p block).read) brought → c + brought ≤ cycleLimit → Way skips (taken p block).place (c + brought)
+  goes_on : (p : Place) (c : ℕ) (block : List ℕ) (brought : ℕ) → Way skips p c → AreBytes block → block_short p block ≡ false
+      → check_wrong p block ≡ false → block_wrong p c block ≡ false → field_wrong p block ≡ none
+      → Brought skips (cycles_in (taken p block).read) brought → c + brought ≤ cycle_limit → Way skips (taken p block).place (c + brought)

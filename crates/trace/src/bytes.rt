@@ -1,6 +1,6 @@
 // Numbers and zeros among the bytes of a block.
 ghost use Rattle.std.specs.Prelude.{◌≡◌, ◌+◌, ◌≤◌, length};
-ghost use Rattle.trace.specs.Bytes.{bigEndian, zeros};
+ghost use Rattle.trace.specs.Bytes.{big_endian, zeros};
 
 pub(crate) fn wide(x: u8) -> u32
     ensures { result ≡ x }
@@ -10,14 +10,14 @@ pub(crate) fn wide(x: u8) -> u32
 
 pub(crate) fn two_bytes(block: &[u8], from: usize) -> u32
     requires { from + 2 ≤ length block.now }
-    ensures { result ≡ bigEndian block.now from 2 }
+    ensures { result ≡ big_endian block.now from 2 }
 {
     256 * wide(block[from]) + wide(block[from + 1])
 }
 
 pub(crate) fn four_bytes(block: &[u8], from: usize) -> u32
     requires { from + 4 ≤ length block.now }
-    ensures { result ≡ bigEndian block.now from 4 }
+    ensures { result ≡ big_endian block.now from 4 }
 {
     65536 * two_bytes(block, from) + two_bytes(block, from + 2)
 }

@@ -1,13 +1,13 @@
 // The check of a block.
 ghost use Rattle.std.specs.Prelude.{◌≡◌, ◌≤◌, length};
-ghost use Rattle.trace.specs.Check.{checkOf, checkHolds};
+ghost use Rattle.trace.specs.Check.{check_value, check_holds};
 
 use crate::bytes;
 
 // "the sum over i = 0..509 of (i+1) times byte i, modulo 65,521". The sum stays below 2^25, so that one division at the end serves.
 pub(crate) fn check_of(block: &[u8]) -> u32
     requires { 510 ≤ length block.now }
-    ensures { result ≡ checkOf block.now }
+    ensures { result ≡ check_value block.now }
 {
     let mut sum: u32 = 0;
     let mut weight: u32 = 1;
@@ -23,7 +23,7 @@ pub(crate) fn check_of(block: &[u8]) -> u32
 // Whether the stored check, as a value, is the block's.
 pub(crate) fn holds(block: &[u8]) -> bool
     requires { 512 ≤ length block.now }
-    ensures { result ≡ checkHolds block.now }
+    ensures { result ≡ check_holds block.now }
 {
     check_of(block) == bytes::two_bytes(block, 510)
 }

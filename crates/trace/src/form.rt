@@ -1,7 +1,7 @@
 // 8: "block kind, number, count, unused byte, place in the file, or end total wrong", in a block before the end block.
 ghost use Rattle.std.specs.Prelude.{false, ◌≡◌, ◌≤◌, length};
-ghost use Rattle.trace.specs.Blocks.{bodyEnd};
-ghost use Rattle.trace.specs.Rules.{kindWrong, numberWrong, countWrong, unusedWrong, orderWrong, totalWrong, formWrong};
+ghost use Rattle.trace.specs.Blocks.{end_of_body};
+ghost use Rattle.trace.specs.Rules.{has_wrong_kind, has_wrong_number, has_wrong_count, has_wrong_unused, has_wrong_order, has_wrong_total, form_wrong};
 
 use crate::{Place, bytes};
 
@@ -14,7 +14,7 @@ pub(crate) const END: u8 = 3;
 
 fn kind_wrong(block: &[u8]) -> bool
     requires { 512 ≤ length block.now }
-    ensures { result ≡ kindWrong block.now }
+    ensures { result ≡ has_wrong_kind block.now }
 {
     let kind = block[0];
     if kind < CONFIGURATION {
@@ -26,7 +26,7 @@ fn kind_wrong(block: &[u8]) -> bool
 // "bytes 2..5 block number from 0, big-endian"
 fn number_wrong(place: Place, block: &[u8]) -> bool
     requires { 512 ≤ length block.now }
-    ensures { result ≡ numberWrong place block.now }
+    ensures { result ≡ has_wrong_number place block.now }
 {
     bytes::four_bytes(block, 2) as u64 != place.number
 }
@@ -34,7 +34,7 @@ fn number_wrong(place: Place, block: &[u8]) -> bool
 // "byte 1 cycles held (1..7, only in kind 2, else 0)"
 fn count_wrong(block: &[u8]) -> bool
     requires { 512 ≤ length block.now }
-    ensures { result ≡ countWrong block.now }
+    ensures { result ≡ has_wrong_count block.now }
 {
     let kind = block[0];
     let held = block[1];
@@ -50,7 +50,7 @@ fn count_wrong(block: &[u8]) -> bool
 // Where the bytes of the body that have a use end.
 fn body_end(block: &[u8]) -> usize
     requires { 512 ≤ length block.now }
-    ensures { result ≡ bodyEnd block.now }
+    ensures { result ≡ end_of_body block.now }
 {
     let kind = block[0];
     if kind == CONFIGURATION {
@@ -64,8 +64,8 @@ fn body_end(block: &[u8]) -> usize
 
 // "Bytes without a use are zero."
 fn unused_wrong(block: &[u8]) -> bool
-    requires { (512 ≤ length block.now) × (countWrong block.now ≡ false) }
-    ensures { result ≡ unusedWrong block.now }
+    requires { (512 ≤ length block.now) × (has_wrong_count block.now ≡ false) }
+    ensures { result ≡ has_wrong_unused block.now }
 {
     if !bytes::are_zero(block, 6, 8) {
         return true;
@@ -76,7 +76,7 @@ fn unused_wrong(block: &[u8]) -> bool
 // "A file is one configuration block, any number of cycle blocks, one end block."
 fn order_wrong(place: Place, block: &[u8]) -> bool
     requires { 512 ≤ length block.now }
-    ensures { result ≡ orderWrong place block.now }
+    ensures { result ≡ has_wrong_order place block.now }
 {
     let kind = block[0];
     if kind == CONFIGURATION {
@@ -88,7 +88,7 @@ fn order_wrong(place: Place, block: &[u8]) -> bool
 // "End body: accepted cycles, bytes 8..11 big-endian."
 fn total_wrong(cycles: u64, block: &[u8]) -> bool
     requires { 512 ≤ length block.now }
-    ensures { result ≡ totalWrong cycles block.now }
+    ensures { result ≡ has_wrong_total cycles block.now }
 {
     let kind = block[0];
     if kind != END {
@@ -99,7 +99,7 @@ fn total_wrong(cycles: u64, block: &[u8]) -> bool
 
 pub(crate) fn is_wrong(place: Place, cycles: u64, block: &[u8]) -> bool
     requires { 512 ≤ length block.now }
-    ensures { result ≡ formWrong place cycles block.now }
+    ensures { result ≡ form_wrong place cycles block.now }
 {
     if kind_wrong(block) {
         return true;

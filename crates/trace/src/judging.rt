@@ -1,8 +1,8 @@
 // A block judged at its place in the file: "Order. Block: 9, 7, 8, then 1."
 ghost use Rattle.std.specs.Prelude.{false, ◌≡◌, ◌≤◌, length};
-ghost use Rattle.trace.specs.Blocks.{blockNumbers, configOf};
-ghost use Rattle.trace.specs.Rules.{fieldWrong};
-ghost use Rattle.trace.specs.Judged.{blockOutcome, refused, byField, judged};
+ghost use Rattle.trace.specs.Blocks.{block_numbers, config_of};
+ghost use Rattle.trace.specs.Rules.{field_wrong};
+ghost use Rattle.trace.specs.Judged.{block_outcome, refused, judged_by_field, judged};
 
 use crate::{Place, check, form, place};
 
@@ -24,7 +24,7 @@ pub struct Answer {
 }
 
 fn refused(place: Place, number: u8, field: u8) -> Answer
-    ensures { blockOutcome result ≡ refused number field place }
+    ensures { block_outcome result ≡ refused number field place }
 {
     Answer {
         place,
@@ -35,7 +35,7 @@ fn refused(place: Place, number: u8, field: u8) -> Answer
 // "Configuration body: P, V, D, E, F, B, arbiter code at bytes 8..14."
 fn configuration(block: &[u8]) -> base::Config
     requires { 512 ≤ length block.now }
-    ensures { result ≡ configOf block.now }
+    ensures { result ≡ config_of block.now }
 {
     base::Config {
         ports: block[8],
@@ -50,8 +50,8 @@ fn configuration(block: &[u8]) -> base::Config
 
 // What a block holds that no rule before 1 refuses, and the place after it.
 fn read(place: Place, block: &[u8]) -> Answer
-    requires { (place.ended ≡ false) × (place.number ≤ blockNumbers) × (512 ≤ length block.now) }
-    ensures { blockOutcome result ≡ byField (fieldWrong place block.now) place block.now }
+    requires { (place.ended ≡ false) × (place.number ≤ block_numbers) × (512 ≤ length block.now) }
+    ensures { block_outcome result ≡ judged_by_field (field_wrong place block.now) place block.now }
 {
     let kind = block[0];
     let next = Place {
@@ -83,7 +83,7 @@ fn read(place: Place, block: &[u8]) -> Answer
 
 // The next block at a place, where so many cycles are accepted. An empty block is the end of the input.
 pub fn judge(place: Place, cycles: u64, block: &[u8]) -> Answer
-    ensures { blockOutcome result ≡ judged place cycles block.now }
+    ensures { block_outcome result ≡ judged place cycles block.now }
 {
     if !place::is_good(place, cycles) {
         return refused(place, base::NOT_SOUND, 0);

@@ -1,7 +1,7 @@
 // A place in a file: what was read before the next block.
 ghost use Rattle.std.specs.Prelude.{◌≡◌, ◌≤◌};
-ghost use Rattle.trace.specs.Blocks.{blockNumbers};
-ghost use Rattle.trace.specs.Place.{start, mayHold, goodPlace};
+ghost use Rattle.trace.specs.Blocks.{block_numbers};
+ghost use Rattle.trace.specs.Place.{start, can_hold, good_place};
 
 // The number of the next block, and whether the configuration block and the end block were read.
 #[derive(Drop)]
@@ -29,8 +29,8 @@ const BLOCK_NUMBERS: u64 = 4_294_967_296;
 
 // Whether so many cycle blocks can have brought so many accepted cycles: of the seven at most in each any number.
 fn may_hold(blocks: u64, cycles: u64) -> bool
-    requires { blocks ≤ blockNumbers }
-    ensures { result ≡ mayHold blocks cycles }
+    requires { blocks ≤ block_numbers }
+    ensures { result ≡ can_hold blocks cycles }
 {
     if 7 * blocks < cycles {
         return false;
@@ -40,7 +40,7 @@ fn may_hold(blocks: u64, cycles: u64) -> bool
 
 // Whether some file leads here with so many cycles accepted, refused ones skipped.
 pub fn is_good(place: Place, cycles: u64) -> bool
-    ensures { result ≡ goodPlace place cycles }
+    ensures { result ≡ good_place place cycles }
 {
     if !place.configured {
         if place.ended {

@@ -6,9 +6,9 @@ use lib.ListN.{length-take, length-drop}
 use borrow.Author.Tests.{not-true, not-false}
 use borrow.Author.Rules.{rules}
 use Rattle.base.specs.Numbers.{room}
-use Rattle.listing.specs.Lines.{cycleLines}
-use Rattle.listing.proofs.Lengths.{cycle-length}
-use Rattle.listing.proofs.Outcomes.{room-there, written-out-of-range, written-no-room, written-lines}
+use Rattle.listing.specs.Lines.{cycle_lines}
+use Rattle.listing.proofs.Lengths.{cycle_length-law}
+use Rattle.listing.proofs.Outcomes.{room_there, written_out_of_range, written_no_room, written_lines}
 use Rattle.listing.proofs.write_cycle.Statement.{statement}
 use Rattle.listing.proofs.write_cycle.Tie as tie
 
@@ -40,7 +40,7 @@ cycle-requires c κs = search rules
 returns : tie.Need-returns
 returns c =
     let a = (before-cycle c.before).args in
-    written-out-of-range a.buf.now a.at (cycleLines a.cycle a.reply)
+    written_out_of_range a.buf.now a.at (cycle_lines a.cycle a.reply)
     (sym c.before.cycle.ensures ∙ not-true c.before.cycle.result c.if1.true)
 
 has-room-requires : tie.Need-has-room-requires
@@ -55,7 +55,7 @@ returns-2 c =
     let at-cycle = before-else1 at-else1 in
     let start = before-cycle at-cycle in
     let a = start.args in
-    written-no-room a.buf.now a.at (cycleLines a.cycle a.reply)
+    written_no_room a.buf.now a.at (cycle_lines a.cycle a.reply)
     (sym at-cycle.cycle.ensures ∙ not-false at-cycle.cycle.result at-else1.if1.left)
     (sym c.before.has_room.ensures ∙ not-true c.before.has_room.result c.if2.true)
 
@@ -64,7 +64,7 @@ sub-cycle c =
     let a = (before-cycle (cycle-else2 c)).args in
     omega (
       arith,
-      room-there room a.buf.now a.at (sym c.before.has_room.ensures
+      room_there room a.buf.now a.at (sym c.before.has_room.ensures
           ∙ not-false c.before.has_room.result c.if2.false),
     )
 
@@ -73,7 +73,7 @@ part-cycle-start c =
     let a = (before-cycle (cycle-else2 c)).args in
     omega (
       arith,
-      room-there room a.buf.now a.at (sym c.before.has_room.ensures
+      room_there room a.buf.now a.at (sym c.before.has_room.ensures
           ∙ not-false c.before.has_room.result c.if2.false),
     )
 
@@ -90,7 +90,7 @@ cycle-requires-2 c κs =
       simp (length-take, length-drop)
           (omega (
             arith,
-            room-there room a.buf.now a.at (sym c.before.before.has_room.ensures
+            room_there room a.buf.now a.at (sym c.before.before.has_room.ensures
                 ∙ not-false c.before.before.has_room.result c.before.if2.false),
           )),
     )
@@ -107,9 +107,9 @@ returns-3 c =
     let start = before-cycle at-cycle in
     let a = start.args in
     let ok = sym at-cycle.cycle.ensures ∙ not-false at-cycle.cycle.result at-else1.if1.left in
-    written-lines a.buf.now a.at (cycleLines a.cycle a.reply) c.before.before.cycle2.new.0
+    written_lines a.buf.now a.at (cycle_lines a.cycle a.reply) c.before.before.cycle2.new.0
     c.before.before.cycle2.result ok (sym at-has-room.has_room.ensures
-    ∙ not-false at-has-room.has_room.result at-else2.if2.left) (cycle-length a.cycle a.reply ok)
+    ∙ not-false at-has-room.has_room.result at-else2.if2.left) (cycle_length-law a.cycle a.reply ok)
     c.before.before.cycle2.ensures
 
 pub write-cycle-spec : {M : Type 1} → statement M

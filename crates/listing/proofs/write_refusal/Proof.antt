@@ -10,10 +10,10 @@ use lib.ListN.{length}
 use borrow.Author.Rules.{rules}
 use Rattle.base.specs.Numbers.{room}
 use Rattle.listing.specs.Lines.{refusal, text}
-use Rattle.listing.proofs.Ports.{text-one}
+use Rattle.listing.proofs.Ports.{text_one}
 use Rattle.listing.proofs.Stores.{laid_as}
-use Rattle.listing.proofs.Lengths.{refusal-length}
-use Rattle.listing.proofs.Outcomes.{room-there, written-out-of-range, written-no-room, written-lines}
+use Rattle.listing.proofs.Lengths.{refusal_length}
+use Rattle.listing.proofs.Outcomes.{room_there, written_out_of_range, written_no_room, written_lines}
 use Rattle.listing.proofs.write_refusal.Statement.{statement}
 use Rattle.listing.proofs.write_refusal.Tie as tie
 
@@ -45,7 +45,7 @@ refusal-requires c κs = search rules
 returns : tie.Need-returns
 returns c =
     let a = (before-refusal c.before).args in
-    written-out-of-range a.buf.now a.at (refusal a.number a.cycles a.place ∷ [])
+    written_out_of_range a.buf.now a.at (refusal a.number a.cycles a.place ∷ [])
     (sym c.before.refusal.ensures ∙ not-true c.before.refusal.result c.if1.true)
 
 has-room-requires : tie.Need-has-room-requires
@@ -60,7 +60,7 @@ returns-2 c =
     let at-refusal = before-else1 at-else1 in
     let start = before-refusal at-refusal in
     let a = start.args in
-    written-no-room a.buf.now a.at (refusal a.number a.cycles a.place ∷ [])
+    written_no_room a.buf.now a.at (refusal a.number a.cycles a.place ∷ [])
     (sym at-refusal.refusal.ensures ∙ not-false at-refusal.refusal.result at-else1.if1.left)
     (sym c.before.has_room.ensures ∙ not-true c.before.has_room.result c.if2.true)
 
@@ -69,7 +69,7 @@ sub-refusal c =
     let a = (before-refusal (refusal-else2 c)).args in
     omega (
       arith,
-      room-there room a.buf.now a.at (sym c.before.has_room.ensures
+      room_there room a.buf.now a.at (sym c.before.has_room.ensures
           ∙ not-false c.before.has_room.result c.if2.false),
     )
 
@@ -78,7 +78,7 @@ part-refusal-start c =
     let a = (before-refusal (refusal-else2 c)).args in
     omega (
       arith,
-      room-there room a.buf.now a.at (sym c.before.has_room.ensures
+      room_there room a.buf.now a.at (sym c.before.has_room.ensures
           ∙ not-false c.before.has_room.result c.if2.false),
     )
 
@@ -95,7 +95,7 @@ refusal-requires-2 c κs =
       simp (length-take, length-drop)
           (omega (
             arith,
-            room-there room a.buf.now a.at (sym c.before.before.has_room.ensures
+            room_there room a.buf.now a.at (sym c.before.before.has_room.ensures
                 ∙ not-false c.before.before.has_room.result c.before.if2.false),
           )),
     )
@@ -113,10 +113,10 @@ returns-3 c =
     let a = start.args in
     let line = refusal a.number a.cycles a.place in
     let ok = sym at-refusal.refusal.ensures ∙ not-false at-refusal.refusal.result at-else1.if1.left in
-    let short : length (text (line ∷ [])) ≤ 376 = rw (text-one line) (refusal-length a.number a.cycles a.place ok) in
-    written-lines a.buf.now a.at (line ∷ []) c.before.before.refusal2.new.0 c.before.before.refusal2.result ok
+    let short : length (text (line ∷ [])) ≤ 376 = rw (text_one line) (refusal_length a.number a.cycles a.place ok) in
+    written_lines a.buf.now a.at (line ∷ []) c.before.before.refusal2.new.0 c.before.before.refusal2.result ok
     (sym at-has-room.has_room.ensures ∙ not-false at-has-room.has_room.result at-else2.if2.left) short
-    (laid_as c.before.before.refusal2.ensures (sym (text-one line)))
+    (laid_as c.before.before.refusal2.ensures (sym (text_one line)))
 
 pub write-refusal-spec : {M : Type 1} → statement M
 write-refusal-spec =

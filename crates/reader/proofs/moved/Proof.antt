@@ -43,7 +43,7 @@ use denote.Triple.Table.{entered, cited}
 use denote.Triple.Walked.{says, Stays, stay_none, walk_of, Goes-none, Walks, ends_at, walked, walk_Meets}
 use denote.Exit.{yes}
 use denote.Triple.Clauses.{ensured, lasts}
-use Rattle.reader.specs.Reader.{nextCycle}
+use Rattle.reader.specs.Reader.{following_cycle}
 use Rattle.reader.specs.declared.Reader.{Reader}
 use Rattle.reader.specs.contracts.next_cycle as next
 use Rattle.reader.proofs.next_cycle.Symbol as next-def
@@ -52,7 +52,7 @@ use Rattle.reader.proofs.next_cycle.Met as next-thm
 use Rattle.reader.specs.contracts.Reader as T
 use Rattle.reader.proofs.Reader.TheLaws as T'
 use Rattle.reader.proofs.Apart.{B, Own, passed, Entry, Asked, twice, apart}
-use Rattle.reader.proofs.Operands.{opd, calls-with}
+use Rattle.reader.proofs.Operands.{opd, calls_with}
 use Rattle.reader.specs.contracts.moved.Key.{name as #reader·moved}
 use Rattle.reader.specs.contracts.moved as moved
 use Rattle.reader.proofs.moved.Statement as stated
@@ -84,15 +84,15 @@ module _ {M : Type 1} {𝓤 : Ura M} (𝓛 : Logic 𝓤) (mem : Memory → SProp
   goes n = qed 𝓛 (Asked 𝓤 κ q d n ∷ []) ∵ frame ! $ done !
 
   said : (n m : ℕ) → ent 𝓤 (ensured 𝓛 next.ended (next.clauses 𝓛 mem run) (κ, tt) (d.block, (n, tt)) tt m)
-      (fact 𝓤 (m ≡ nextCycle d.block.now n))
+      (fact 𝓤 (m ≡ following_cycle d.block.now n))
   said n m = ex_e 𝓤 _ (λ ws. snd∗ 𝓤 (sem 𝓛 (lasts next.ended (κ, tt) (d.block, (n, tt)) ws))
-      (fact 𝓤 (m ≡ nextCycle d.block.now n)))
+      (fact 𝓤 (m ≡ following_cycle d.block.now n)))
 
   -- the reader at the cycle m
   abbrev made : ℕ → Reader
   made m = record { block = d.block; cycle = m }
 
-  exits : (m : ℕ) → m < 2 ^ 64 → m ≡ nextCycle d.block.now d.cycle
+  exits : (m : ℕ) → m < 2 ^ 64 → m ≡ following_cycle d.block.now d.cycle
       → ent 𝓤 (⋆ 𝓛 ((‵ (flft κ q) ⊛ ‵ ftrue) ∷ ‵ (Own κ d) ∷ [])) (Post (T'.lowered (made m)))
   exits m fits e =
       qed 𝓛 ((‵ (flft κ q) ⊛ ‵ ftrue) ∷ ‵ (Own κ d) ∷ []) ∵
@@ -117,14 +117,14 @@ module _ {M : Type 1} {𝓤 : Ura M} (𝓛 : Logic 𝓤) (mem : Memory → SProp
         assigns ! (of_opd ! (load ! (from ! (fld ! refl (stop !))) (look_in ! 6 (sub ! 1 refl (whole !))))) (from ! (stop !))
         (init ! 2 refl (tt, wt.1.1.0)) $
         move ! (10 ∷ []) $
-        calls-with ! fm (Entry 𝓤 κ q d) (‵ (Own κ d)) (λ n. mean 𝓛 (Asked 𝓤 κ q d n)) (passed d)
+        calls_with ! fm (Entry 𝓤 κ q d) (‵ (Own κ d)) (λ n. mean 𝓛 (Asked 𝓤 κ q d n)) (passed d)
         (λ n. (NextCycle 𝓛 mem run).post (to n)) (apart 𝓛 κ q d)
         (λ n. via 𝓤 ((NextCycle 𝓛 mem run).pre (to n)) (goes n) (known (to n)))
         (and_then ! (opd ! 1 refl) (and_then ! (opd ! 1 refl) (no_more !))) (omega (arith, wt.1.1.0.fits)) (λ u.
         use1 𝓛 (later (some (λ (m : ℕ). ((‵ (flft κ q) ⊛ ‵ ftrue) ⊛ ‵ (usize.own_val m (u ∷ []))) ⊛ raw
         (ensured 𝓛 next.ended (next.clauses 𝓛 mem run) (κ, tt) (d.block, (_, tt)) tt m)))) (id⊢ 𝓤 _) $ await ! tt $ pick !
         (λ m.
-        split ! $ move ! (1 ∷ []) $ use1 𝓛 (raw (fact 𝓤 (m ≡ nextCycle d.block.now _))) (said _ m) $ heard ! _
+        split ! $ move ! (1 ∷ []) $ use1 𝓛 (raw (fact 𝓤 (m ≡ following_cycle d.block.now _))) (said _ m) $ heard ! _
         (λ e. split ! $ move ! (1 ∷ []) $
         -- [the number returned; the token; what the struct owns; room for _4; …; _3; …; _2; …; _1; …; room for _0; …]
         peeks ! usize (Is usize) (shows 𝓛 usize) m (u ∷ []) (λ is.

@@ -39,7 +39,7 @@ use denote.Triple.Table.{entered, cited}
 use denote.Triple.Walked.{says, Stays, stay_none, walk_of, Goes-none, Walks, ends_at, walked, walk_Meets}
 use denote.Exit.{yes}
 use denote.Triple.Clauses.{ensured, lasts}
-use Rattle.trace.specs.Cycles.{slice_of, cyclePart}
+use Rattle.trace.specs.Cycles.{slice_of, part_of_cycle}
 use Rattle.trace.specs.contracts.cycle_part as part
 use Rattle.trace.proofs.cycle_part.Symbol as part-def
 use Rattle.trace.proofs.cycle_part.Symbol.{name as #trace·cycle-part}
@@ -48,7 +48,7 @@ use Rattle.reader.specs.declared.Reader.{Reader}
 use Rattle.reader.specs.contracts.Reader as T
 use Rattle.reader.proofs.Reader.TheLaws as T'
 use Rattle.reader.proofs.Apart.{B, Own, passed, Entry, Asked, apart}
-use Rattle.reader.proofs.Operands.{opd, calls-with}
+use Rattle.reader.proofs.Operands.{opd, calls_with}
 use Rattle.reader.specs.contracts.shown.Key.{name as #reader·shown}
 use Rattle.reader.specs.contracts.shown as shown
 use Rattle.reader.proofs.shown.Statement as stated
@@ -80,11 +80,11 @@ module _ {M : Type 1} {𝓤 : Ura M} (𝓛 : Logic 𝓤) (mem : Memory → SProp
   goes n = qed 𝓛 (Asked 𝓤 κ q d n ∷ []) ∵ frame ! $ done !
 
   said : (n : ℕ) (s : Bor (List ℕ)) → ent 𝓤 (ensured 𝓛 part.ended (part.clauses 𝓛 mem run) (κ, tt) (d.block, (n, tt)) tt s)
-      (fact 𝓤 (slice_of s ≡ cyclePart (slice_of d.block) n))
+      (fact 𝓤 (slice_of s ≡ part_of_cycle (slice_of d.block) n))
   said n s = ex_e 𝓤 _ (λ ws. snd∗ 𝓤 (sem 𝓛 (lasts part.ended (κ, tt) (d.block, (n, tt)) ws))
-      (fact 𝓤 (slice_of s ≡ cyclePart (slice_of d.block) n)))
+      (fact 𝓤 (slice_of s ≡ part_of_cycle (slice_of d.block) n)))
 
-  exits : (s : Bor (List ℕ)) (u : Val) → slice_of s ≡ cyclePart (slice_of d.block) d.cycle
+  exits : (s : Bor (List ℕ)) (u : Val) → slice_of s ≡ part_of_cycle (slice_of d.block) d.cycle
       → ent 𝓤 (⋆ 𝓛 (‵ ((ShrSlice (named 0) κ u8).own_val s (u ∷ [])) ∷ (‵ (flft κ q) ⊛ ‵ ftrue) ∷ ‵ (Own κ d) ∷ [])) (Post u)
   exits s u e =
       qed 𝓛 (‵ ((ShrSlice (named 0) κ u8).own_val s (u ∷ [])) ∷ (‵ (flft κ q) ⊛ ‵ ftrue) ∷ ‵ (Own κ d) ∷ []) ∵
@@ -104,14 +104,14 @@ module _ {M : Type 1} {𝓤 : Ura M} (𝓛 : Logic 𝓤) (mem : Memory → SProp
         assigns ! (of_opd ! (load ! (from ! (fld ! refl (stop !))) (look_in ! 4 (sub ! 1 refl (whole !))))) (from ! (stop !))
         (init ! 0 refl (tt, wt.1.1.0)) $
         move ! (8 ∷ []) $
-        calls-with ! fm (Entry 𝓤 κ q d) (‵ (Own κ d)) (λ n. mean 𝓛 (Asked 𝓤 κ q d n)) (passed d)
+        calls_with ! fm (Entry 𝓤 κ q d) (‵ (Own κ d)) (λ n. mean 𝓛 (Asked 𝓤 κ q d n)) (passed d)
         (λ n. (CyclePart 𝓛 mem run).post (to n)) (apart 𝓛 κ q d)
         (λ n. via 𝓤 ((CyclePart 𝓛 mem run).pre (to n)) (goes n) (known (to n)))
         (and_then ! (opd ! 1 refl) (and_then ! (opd ! 1 refl) (no_more !))) (omega (arith, wt.1.1.0.fits)) (λ u.
         use1 𝓛 (later (some (λ (s : Bor (List ℕ)). ((‵ (flft κ q) ⊛ ‵ ftrue) ⊛ ‵ ((ShrSlice (named 0) κ u8).own_val s (u ∷ []))) ⊛ raw
         (ensured 𝓛 part.ended (part.clauses 𝓛 mem run) (κ, tt) (d.block, (_, tt)) tt s)))) (id⊢ 𝓤 _) $ await ! tt $ pick !
         (λ s.
-        split ! $ move ! (1 ∷ []) $ use1 𝓛 (raw (fact 𝓤 (slice_of s ≡ cyclePart (slice_of d.block) _))) (said _ s) $ heard ! _
+        split ! $ move ! (1 ∷ []) $ use1 𝓛 (raw (fact 𝓤 (slice_of s ≡ part_of_cycle (slice_of d.block) _))) (said _ s) $ heard ! _
         (λ e. split ! $ move ! (1 ∷ []) $
         -- [the result; the token; what the struct owns; _3; …; _2; …; _1; …; room for _0; …]
         peeks ! (ShrSlice (named 0) κ u8) (Is (ShrSlice (named 0) κ u8)) (shows 𝓛 (ShrSlice (named 0) κ u8)) s (u ∷ []) (λ is.

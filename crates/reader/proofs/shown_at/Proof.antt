@@ -41,12 +41,12 @@ use denote.Triple.Table.{entered, cited}
 use denote.Triple.Walked.{says, Stays, stay_none, stay_none_slice, walk_of, Goes-none, Goes-none_slice, Walks, ends_at, walked, walk_Meets}
 use denote.Exit.{yes}
 use denote.Triple.Clauses.{ensured, lasts}
-use Rattle.trace.specs.Cycles.{slice_of, cyclePart}
+use Rattle.trace.specs.Cycles.{slice_of, part_of_cycle}
 use Rattle.reader.specs.declared.Reader.{Reader}
 use Rattle.reader.specs.contracts.Reader as T
 use Rattle.reader.proofs.Reader.TheLaws as T'
 use Rattle.reader.proofs.Apart.{Own, Entry}
-use Rattle.reader.proofs.Operands.{opd, calls-with}
+use Rattle.reader.proofs.Operands.{opd, calls_with}
 use Rattle.reader.specs.contracts.shown as shown
 use Rattle.reader.proofs.shown.Symbol as shown-def
 use Rattle.reader.proofs.shown.Symbol.{name as #reader·shown}
@@ -108,10 +108,10 @@ module _ {M : Type 1} {𝓤 : Ura M} (𝓛 : Logic 𝓤) (mem : Memory → SProp
   goes n = qed 𝓛 (Entry 𝓤 κ q (made n) ∷ []) ∵ frame ! $ done !
 
   said : (n : ℕ) (r : Bor (List ℕ)) → ent 𝓤 (ensured 𝓛 shown.ended (shown.clauses 𝓛 mem run) (κ, tt) (made n, tt) tt r)
-      (fact 𝓤 (slice_of r ≡ cyclePart (slice_of s) n))
-  said n r = ex_e 𝓤 _ (λ ws. snd∗ 𝓤 (sem 𝓛 (lasts shown.ended (κ, tt) (made n, tt) ws)) (fact 𝓤 (slice_of r ≡ cyclePart (slice_of s) n)))
+      (fact 𝓤 (slice_of r ≡ part_of_cycle (slice_of s) n))
+  said n r = ex_e 𝓤 _ (λ ws. snd∗ 𝓤 (sem 𝓛 (lasts shown.ended (κ, tt) (made n, tt) ws)) (fact 𝓤 (slice_of r ≡ part_of_cycle (slice_of s) n)))
 
-  exits : (r : Bor (List ℕ)) (u : Val) → slice_of r ≡ cyclePart (slice_of s) k
+  exits : (r : Bor (List ℕ)) (u : Val) → slice_of r ≡ part_of_cycle (slice_of s) k
       → ent 𝓤 (⋆ 𝓛 (‵ ((ShrSlice (named 0) κ u8).own_val r (u ∷ [])) ∷ (‵ (flft κ q) ⊛ ‵ ftrue) ∷ ‵ Slice ∷ [])) (Post u)
   exits r u e =
       qed 𝓛 (‵ ((ShrSlice (named 0) κ u8).own_val r (u ∷ [])) ∷ (‵ (flft κ q) ⊛ ‵ ftrue) ∷ ‵ Slice ∷ []) ∵
@@ -137,12 +137,12 @@ module _ {M : Type 1} {𝓤 : Ura M} (𝓛 : Logic 𝓤) (mem : Memory → SProp
           ),
         )) $
         move ! (8 ∷ []) $
-        calls-with ! fm Had (‵ Slice) (λ n. mean 𝓛 (Entry 𝓤 κ q (made n))) (λ n. T'.lowered (made n) ∷ [])
+        calls_with ! fm Had (‵ Slice) (λ n. mean 𝓛 (Entry 𝓤 κ q (made n))) (λ n. T'.lowered (made n) ∷ [])
         (λ n. (Shown 𝓛 mem run).post (to n)) makes (λ n. via 𝓤 ((Shown 𝓛 mem run).pre (to n)) (goes n) (known (to n)))
         (and_then ! (opd ! 1 refl) (no_more !)) (omega (arith, ok)) (λ u.
         use1 𝓛 (later (some (λ (r : Bor (List ℕ)). ((‵ (flft κ q) ⊛ ‵ ftrue) ⊛ ‵ ((ShrSlice (named 0) κ u8).own_val r (u ∷ []))) ⊛ raw
         (ensured 𝓛 shown.ended (shown.clauses 𝓛 mem run) (κ, tt) (made _, tt) tt r)))) (id⊢ 𝓤 _) $ await ! tt $ pick ! (λ r.
-        split ! $ move ! (1 ∷ []) $ use1 𝓛 (raw (fact 𝓤 (slice_of r ≡ cyclePart (slice_of s) _))) (said _ r) $ heard ! _
+        split ! $ move ! (1 ∷ []) $ use1 𝓛 (raw (fact 𝓤 (slice_of r ≡ part_of_cycle (slice_of s) _))) (said _ r) $ heard ! _
         (λ e. split ! $ move ! (1 ∷ []) $
         -- [the result; the token; what s owns; _3; …; _2; …; _1; …; room for _0; …]
         peeks ! (ShrSlice (named 0) κ u8) (Is (ShrSlice (named 0) κ u8)) (shows 𝓛 (ShrSlice (named 0) κ u8)) r (u ∷ []) (λ is.

@@ -3,9 +3,9 @@
 use mathlib.Core.Path.{sym, ◌∙◌}
 use borrow.Author.Rules.{rules}
 use borrow.Author.Tests.{not-true, not-false}
-use Rattle.state.proofs.Exact.{passed-sound}
-use Rattle.state.proofs.Legal.{configuration-legal, sound-cycle}
-use Rattle.runs.proofs.Tests.{flits-fit, run-lost, run-unblank, run-unconfigured, run-unsound, run-few}
+use Rattle.state.proofs.Exact.{passed_sound}
+use Rattle.state.proofs.Legal.{configuration_legal-law, sound_cycle}
+use Rattle.runs.proofs.Tests.{flits_fit, run_lost, run_unblank, run_unconfigured, run_unsound, run_few}
 use Rattle.runs.proofs.is_sound.Statement.{statement}
 use Rattle.runs.proofs.is_sound.Tie as tie
 
@@ -42,7 +42,7 @@ is-place-right-is-sound c = is-place-right-else2 (before-is-sound c)
 
 returns : tie.Need-returns
 returns c =
-    run-lost (before-is-place-right c.before).args.run
+    run_lost (before-is-place-right c.before).args.run
     (sym c.before.is-place-right.ensures ∙ not-true c.before.is-place-right.result c.if1.true)
 
 returns-2 : tie.Need-returns-2
@@ -50,7 +50,7 @@ returns-2 c =
     let at-else1 = before-then2 c.before.before in
     let at-is-place-right = before-else1 at-else1 in
     let start = before-is-place-right at-is-place-right in
-    run-unblank start.args.run (sym at-is-place-right.is-place-right.ensures
+    run_unblank start.args.run (sym at-is-place-right.is-place-right.ensures
     ∙ not-false at-is-place-right.is-place-right.result at-else1.if1.left) (not-true _ c.before.before.if2.true)
     (sym c.before.is-blank.ensures ∙ not-true c.before.is-blank.result c.if3.true)
 
@@ -60,7 +60,7 @@ returns-3 c =
     let at-else1 = before-then2 at-then2 in
     let at-is-place-right = before-else1 at-else1 in
     let start = before-is-place-right at-is-place-right in
-    run-unconfigured start.args.run (sym at-is-place-right.is-place-right.ensures
+    run_unconfigured start.args.run (sym at-is-place-right.is-place-right.ensures
     ∙ not-false at-is-place-right.is-place-right.result at-else1.if1.left) (not-true _ at-then2.if2.taken)
     (sym c.before.before.is-blank.ensures ∙ not-false c.before.before.is-blank.result c.before.if3.false)
 
@@ -69,7 +69,7 @@ returns-4 c =
     let at-else1 = before-else2 (before-is-sound c.before) in
     let at-is-place-right = before-else1 at-else1 in
     let start = before-is-place-right at-is-place-right in
-    run-unsound start.args.run (sym at-is-place-right.is-place-right.ensures
+    run_unsound start.args.run (sym at-is-place-right.is-place-right.ensures
     ∙ not-false at-is-place-right.is-place-right.result at-else1.if1.left) (not-false _ c.before.before.if2.false)
     (sym c.before.is-sound.ensures ∙ not-true c.before.is-sound.result c.if4.true)
 
@@ -78,9 +78,9 @@ mul-result c =
     let at-else4 = before-struct-known4 c in
     let at-is-sound = before-else4 at-else4 in
     let start = before-is-place-right (is-place-right-is-sound at-is-sound) in
-    let s = passed-sound start.args.run.router (sym at-is-sound.is-sound.ensures
+    let s = passed_sound start.args.run.router (sym at-is-sound.is-sound.ensures
     ∙ not-false at-is-sound.is-sound.result at-else4.if4.left) in
-    record { fits = flits-fit (configuration-legal start.args.run.router.config s.sizes.configuration).ports.1 (sound-cycle s) }
+    record { fits = flits_fit (configuration_legal-law start.args.run.router.config s.sizes.configuration).ports.1 (sound_cycle s) }
 
 returns-5 : tie.Need-returns-5
 returns-5 c =
@@ -90,7 +90,7 @@ returns-5 c =
     let at-else1 = before-else2 at-else2 in
     let at-is-place-right = before-else1 at-else1 in
     let start = before-is-place-right at-is-place-right in
-    run-few start.args.run (sym at-is-place-right.is-place-right.ensures
+    run_few start.args.run (sym at-is-place-right.is-place-right.ensures
     ∙ not-false at-is-place-right.is-place-right.result at-else1.if1.left) (not-false _ at-else2.if2.left)
     (sym at-is-sound.is-sound.ensures ∙ not-false at-is-sound.is-sound.result at-else4.if4.left)
 

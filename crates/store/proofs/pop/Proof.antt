@@ -4,25 +4,25 @@ use mathlib.Core.Path.{◌≡◌, refl}
 use Prim.Native.Nat.{◌-◌, ◌≤◌}
 use native.Mathlib.Omega.{arith}
 use borrow.Author.Rules.{rules}
-use Rattle.store.specs.Store.{movedUp}
-use Rattle.store.proofs.Slots.{moved_more, pop-there, pop-beyond}
+use Rattle.store.specs.Store.{moved_up}
+use Rattle.store.proofs.Slots.{moved_more, pop_there, pop_beyond}
 use Rattle.store.proofs.pop.Statement.{statement}
 use Rattle.store.proofs.pop.Tie as tie
 
 abbrev invariant-loop : tie.invariant-loop
-invariant-loop channel store₀ base k₀ store k = (k ≤ 15) × (store ≡ movedUp k store₀ channel)
+invariant-loop channel store₀ base k₀ store k = (k ≤ 15) × (store ≡ moved_up k store₀ channel)
 
 abbrev decreases-loop : tie.decreases-loop
 decreases-loop channel store₀ base k₀ store k = 15 - k
 
 returns : tie.Need-returns invariant-loop decreases-loop
-returns c = pop-beyond c.before.args.store.now c.before.args.channel c.if1.true
+returns c = pop_beyond c.before.args.store.now c.before.args.channel c.if1.true
 
 mul-base : tie.Need-overflow-mul-base invariant-loop decreases-loop
 mul-base c = search rules
 
 loop-holds : tie.Need-loop-init invariant-loop decreases-loop
-unfolding movedUp
+unfolding moved_up
 loop-holds c = (search rules, refl)
 
 add-store : tie.Need-overflow-add-store invariant-loop decreases-loop
@@ -71,7 +71,7 @@ returns-2 : tie.Need-returns-2 invariant-loop decreases-loop
 returns-2 c =
     let l = c.before.loop in
     let a = c.before.before.before.args in
-    pop-there a.store.now a.channel l.k l.store (omega arith) (omega arith) l.invariant.1
+    pop_there a.store.now a.channel l.k l.store (omega arith) (omega arith) l.invariant.1
 
 pub pop_spec : {M : Type 1} → statement M
 pop_spec =

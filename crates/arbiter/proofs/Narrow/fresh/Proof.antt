@@ -1,7 +1,7 @@
 -- `arbiter::Narrow::fresh` meets its contract.
 -- Assumes nothing.
 use borrow.Author.Rules.{rules}
-use Rattle.arbiter.proofs.ByKind.{fresh-is}
+use Rattle.arbiter.proofs.ByKind.{fresh_is}
 use Rattle.arbiter.proofs.Narrow.fresh.Statement.{statement}
 use Rattle.arbiter.proofs.Narrow.fresh.Tie as tie
 
@@ -12,7 +12,7 @@ fill-requires : tie.Need-fill-requires
 fill-requires c κs = search rules
 
 returns : tie.Need-returns
-returns c = fresh-is 8 c.before.before.before.args.code c.before.before.before.args.n _ c.before.fill.ensures
+returns c = fresh_is 8 c.before.before.before.args.code c.before.before.before.args.n _ c.before.fill.ensures
 
 pub fresh-spec : {M : Type 1} → statement M
 fresh-spec = tie.close (tie.spec slice-aggregate-fill fill-requires returns)

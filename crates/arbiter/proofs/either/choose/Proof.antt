@@ -6,8 +6,8 @@ use native.Mathlib.Omega.{arith}
 use borrow.Author.Tests.{not-true, not-false}
 use borrow.Author.Rules.{rules}
 use Rattle.arbiter.specs.Requests.{asks}
-use Rattle.arbiter.specs.Arbiter.{usable, arbiterOf}
-use Rattle.arbiter.proofs.ByKind.{known_is, usable-is, masked-lt, choice-unusable, choice-turn, choice-champion}
+use Rattle.arbiter.specs.Arbiter.{usable, arbiter_of}
+use Rattle.arbiter.proofs.ByKind.{known_is, usable_is, masked_lt, choice_unusable, choice_turn, choice_champion}
 use Rattle.arbiter.proofs.either.choose.Statement.{statement}
 use Rattle.arbiter.proofs.either.choose.Tie as tie
 
@@ -23,7 +23,7 @@ returns : tie.Need-returns
 unfolding asks
 returns c =
     let a = c.before.before.before.args in
-    choice-unusable a.places a.code a.n a.requests.set (arbiterOf a.pointer a.rows.now)
+    choice_unusable a.places a.code a.n a.requests.set (arbiter_of a.pointer a.rows.now)
     (sym c.before.is-usable.ensures ∙ not-true c.before.is-usable.result c.if1.true)
 
 below-requires : tie.Need-below-requires
@@ -31,7 +31,7 @@ below-requires c κs =
     let a = c.before.before.before.args in
     let p = c.before.before.before.requires in
     let u = ok (c) in
-    let q = usable-is a.places a.code a.n a.pointer u in
+    let q = usable_is a.places a.code a.n a.pointer u in
     let k = known_is a.places a.code a.n q.0 in
     omega arith
 
@@ -40,9 +40,9 @@ choose-requires c κs =
     let a = c.before.before.before.before.before.args in
     let p = c.before.before.before.before.before.requires in
     let u = ok c.before.before in
-    let q = usable-is a.places a.code a.n a.pointer u in
+    let q = usable_is a.places a.code a.n a.pointer u in
     let k = known_is a.places a.code a.n q.0 in
-    let low = masked-lt a.n a.requests.set in
+    let low = masked_lt a.n a.requests.set in
     let e = c.before.below.ensures in
     (omega arith, q.1 c.if2.true, rw e low)
 
@@ -52,11 +52,11 @@ returns-2 c =
     let a = c.before.before.before.before.before.before.args in
     let p = c.before.before.before.before.before.before.requires in
     let u = ok c.before.before.before in
-    let q = usable-is a.places a.code a.n a.pointer u in
+    let q = usable_is a.places a.code a.n a.pointer u in
     let k = known_is a.places a.code a.n q.0 in
     c.choose.ensures
     ∙ rw c.before.before.below.ensures
-    (choice-turn a.places a.code a.n a.requests.set (arbiterOf a.pointer a.rows.now) u
+    (choice_turn a.places a.code a.n a.requests.set (arbiter_of a.pointer a.rows.now) u
     c.before.if2.true)
 
 choose-requires-2 : tie.Need-choose-requires-2
@@ -64,9 +64,9 @@ choose-requires-2 c κs =
     let a = c.before.before.before.before.before.args in
     let p = c.before.before.before.before.before.requires in
     let u = ok c.before.before in
-    let q = usable-is a.places a.code a.n a.pointer u in
+    let q = usable_is a.places a.code a.n a.pointer u in
     let k = known_is a.places a.code a.n q.0 in
-    let low = masked-lt a.n a.requests.set in
+    let low = masked_lt a.n a.requests.set in
     let e = c.before.below.ensures in
     (omega arith, omega arith, rw e low)
 
@@ -76,11 +76,11 @@ returns-3 c =
     let a = c.before.before.before.before.before.before.args in
     let p = c.before.before.before.before.before.before.requires in
     let u = ok c.before.before.before in
-    let q = usable-is a.places a.code a.n a.pointer u in
+    let q = usable_is a.places a.code a.n a.pointer u in
     let k = known_is a.places a.code a.n q.0 in
     c.choose2.ensures
     ∙ rw c.before.before.below.ensures
-    (choice-champion a.places a.code a.n a.requests.set (arbiterOf a.pointer a.rows.now) u
+    (choice_champion a.places a.code a.n a.requests.set (arbiter_of a.pointer a.rows.now) u
     c.before.if2.false)
 
 pub choose_spec : {M : Type 1} → statement M

@@ -6,8 +6,8 @@ use native.Mathlib.Omega.{arith}
 use lib.ListN.{length, length-replicate}
 use borrow.Author.Tests.{not-true, not-false}
 use borrow.Author.Rules.{rules}
-use Rattle.arbiter.specs.Matrix.{freshRows}
-use Rattle.arbiter.proofs.ByKind.{known_is, fresh-unknown, fresh-turn, fresh-order}
+use Rattle.arbiter.specs.Matrix.{fresh_rows}
+use Rattle.arbiter.proofs.ByKind.{known_is, fresh_unknown, fresh_turn, fresh_order}
 use Rattle.arbiter.proofs.either.fill.Statement.{statement}
 use Rattle.arbiter.proofs.either.fill.Tie as tie
 
@@ -18,13 +18,13 @@ returns : tie.Need-returns
 returns c =
     let a = c.before.before.before.args in
     c.before.before.before.requires.1
-    ∙ fresh-unknown a.places a.code a.n
+    ∙ fresh_unknown a.places a.code a.n
     (sym c.before.is_known.ensures ∙ not-true c.before.is_known.result c.if1.true)
 
 returns-2 : tie.Need-returns-2
 returns-2 c =
     let a = c.before.before.before.before.args in
-    c.before.before.before.before.requires.1 ∙ fresh-turn a.places a.code a.n c.if2.true
+    c.before.before.before.before.requires.1 ∙ fresh_turn a.places a.code a.n c.if2.true
 
 order-requires : tie.Need-order-requires
 order-requires c κs =
@@ -45,8 +45,8 @@ returns-3 c =
     let a = start.args in
     let p = start.requires in
     let long : length a.rows.now ≡ a.places = ap length p.1 ∙ length-replicate a.places 0 in
-    c.before.before.order.ensures ∙ ap (λ (k : ℕ). freshRows k a.n) long
-    ∙ fresh-order a.places a.code a.n (sym at-is-known.is_known.ensures
+    c.before.before.order.ensures ∙ ap (λ (k : ℕ). fresh_rows k a.n) long
+    ∙ fresh_order a.places a.code a.n (sym at-is-known.is_known.ensures
     ∙ not-false at-is-known.is_known.result c.before.before.before.before.before.if1.false)
     c.before.before.before.before.if2.false
 

@@ -4,7 +4,7 @@ use Prim.Native.Nat.{◌≤◌, ◌<◌, ◌^◌}
 use native.Mathlib.Omega.{arith}
 use lib.Count.{count_trailing_zeros}
 use lib.Pow.{pow_pos}
-use Rattle.arbiter.proofs.Champion.{covered, Trying, trying-all, trying-below, trying-own, trying-wins, trying-less, trying-none}
+use Rattle.arbiter.proofs.Champion.{covered, Trying, trying_all, trying-below, trying-own, trying-wins, trying-less, trying_none}
 use Rattle.arbiter.proofs.matrix.choose.Statement.{statement}
 use Rattle.arbiter.proofs.matrix.choose.Tie as tie
 
@@ -30,7 +30,7 @@ own-le c =
     (omega (arith, c.loop-test.true))
 
 loop-holds : tie.Need-loop-init invariant-loop decreases-loop
-loop-holds c = trying-all c.before.args.n c.before.args.asking c.before.args.rows.now c.before.requires.2
+loop-holds c = trying_all c.before.args.n c.before.args.asking c.before.args.rows.now c.before.requires.2
 
 only-requires : tie.Need-only-requires invariant-loop decreases-loop
 only-requires c κs = let l = tried c in omega arith
@@ -77,7 +77,7 @@ loop-again c =
 returns-2 : tie.Need-returns-2 invariant-loop decreases-loop
 returns-2 c =
     let a = c.before.before.before.args in
-    trying-none a.n a.asking a.rows.now c.before.loop.left c.before.loop.invariant c.loop-test.false
+    trying_none a.n a.asking a.rows.now c.before.loop.left c.before.loop.invariant c.loop-test.false
 
 pub choose_spec : {M : Type 1} → statement M
 choose_spec =

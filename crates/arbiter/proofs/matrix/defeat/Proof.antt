@@ -7,7 +7,7 @@ use native.Mathlib.Omega.{arith}
 use lib.ListN.{length, set, length-set}
 use borrow.Author.Rules.{rules}
 use Rattle.arbiter.specs.Matrix.{raised, defeated}
-use Rattle.arbiter.proofs.Rows.{raised-more}
+use Rattle.arbiter.proofs.Rows.{raised_more}
 use Rattle.arbiter.proofs.matrix.defeat.Statement.{statement}
 use Rattle.arbiter.proofs.matrix.defeat.Tie as tie
 
@@ -56,7 +56,7 @@ loop-again c =
       search rules,
       simp length-set i.1,
       rw c.before.before.before.only.ensures
-          (raised-more a.w c.before.before.loop.j a.rows.now c.before.before.loop.rows i.2),
+          (raised_more a.w c.before.before.loop.j a.rows.now c.before.before.loop.rows i.2),
     )
 
 mul-rows-3 : tie.Need-overflow-mul-rows-3 invariant-loop decreases-loop

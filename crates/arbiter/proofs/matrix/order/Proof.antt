@@ -6,7 +6,7 @@ use native.Mathlib.Omega.{arith}
 use lib.ListN.{length, take, length-set}
 use lib.Seq.{take-length}
 use borrow.Author.Rules.{rules}
-use Rattle.arbiter.specs.Matrix.{list_of, fresh_row, freshRows}
+use Rattle.arbiter.specs.Matrix.{list_of, fresh_row, fresh_rows}
 use Rattle.arbiter.proofs.Rows.{filled_more}
 use Rattle.arbiter.proofs.matrix.order.Statement.{statement}
 use Rattle.arbiter.proofs.matrix.order.Tie as tie
@@ -52,7 +52,7 @@ same_length : tie.Need-same-length invariant-loop decreases-loop
 same_length c = search rules
 
 returns : tie.Need-returns invariant-loop decreases-loop
-unfolding freshRows
+unfolding fresh_rows
 returns c =
     let i = c.before.loop.invariant in
     let end : c.before.loop.i ≡ length c.before.before.before.args.rows.now = omega arith in

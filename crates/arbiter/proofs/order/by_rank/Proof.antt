@@ -5,7 +5,7 @@ use native.Mathlib.Omega.{arith}
 use lib.Count.{ones, ones-le}
 use lib.ListN.{get_or}
 use borrow.Author.Rules.{rules}
-use Rattle.arbiter.proofs.Ranks.{Ranked, ranked-none, ranked-more}
+use Rattle.arbiter.proofs.Ranks.{Ranked, ranked_none, ranked_more}
 use Rattle.arbiter.proofs.order.by_rank.Statement.{statement}
 use Rattle.arbiter.proofs.order.by_rank.Tie as tie
 
@@ -24,7 +24,7 @@ small c =
     omega arith
 
 loop-holds : tie.Need-loop-init invariant-loop decreases-loop
-loop-holds c = (search rules, ranked-none c.args.n c.args.rows.now c.requires.0)
+loop-holds c = (search rules, ranked_none c.args.n c.args.rows.now c.requires.0)
 
 cast-rank : tie.Need-overflow-cast-rank invariant-loop decreases-loop
 cast-rank c = search rules
@@ -55,7 +55,7 @@ loop-again c =
     let b = c.before.before.loop in
     let a = c.before.before.before.args in (
       search rules,
-      ranked-more a.n a.rows.now b.at b.i c.before.before.before.requires.1 c.before.loop-test.true
+      ranked_more a.n a.rows.now b.at b.i c.before.before.before.requires.1 c.before.loop-test.true
           (small c) b.invariant.1,
     )
 

@@ -3,7 +3,7 @@
 use Prim.Native.Nat.{◌-◌}
 use native.Mathlib.Omega.{arith}
 use borrow.Author.Rules.{rules}
-use Rattle.arbiter.proofs.OrderTest.{Passed, entry, passed_none, passed-more, link_here, here-link, test-fails, test-passed}
+use Rattle.arbiter.proofs.OrderTest.{Passed, entry, passed_none, passed_more, link_here, here_link, test_fails, test_passed}
 use Rattle.arbiter.proofs.order.is_total.Statement.{statement}
 use Rattle.arbiter.proofs.order.is_total.Tie as tie
 
@@ -50,19 +50,19 @@ returns c =
     let a = c.before.before.before.before.before.before.before.args in
     let r = c.before.before.before.before.before.by_rank in
     let l = c.before.before.before.before.loop in
-    test-fails a.n a.rows.now (entry r.result) r.ensures.0 r.ensures.1 l.rank
+    test_fails a.n a.rows.now (entry r.result) r.ensures.0 r.ensures.1 l.rank
     c.before.before.before.loop-test.true
-    (λ link. c.if1.true (here-link a.n a.rows.now (entry r.result) l.lower l.rank l.invariant link).0)
+    (λ link. c.if1.true (here_link a.n a.rows.now (entry r.result) l.lower l.rank l.invariant link).0)
 
 returns-2 : tie.Need-returns-2 invariant-loop decreases-loop
 returns-2 c =
     let a = c.before.before.before.before.before.before.before.before.args in
     let r = c.before.before.before.before.before.before.by_rank in
     let l = c.before.before.before.before.before.loop in
-    test-fails a.n a.rows.now (entry r.result) r.ensures.0 r.ensures.1 l.rank
+    test_fails a.n a.rows.now (entry r.result) r.ensures.0 r.ensures.1 l.rank
     c.before.before.before.before.loop-test.true
     (λ link. c.if2.true (rw c.before.before.before.only.ensures
-    (here-link a.n a.rows.now (entry r.result) l.lower l.rank l.invariant link).1))
+    (here_link a.n a.rows.now (entry r.result) l.lower l.rank l.invariant link).1))
 
 add-rank : tie.Need-overflow-add-rank invariant-loop decreases-loop
 add-rank c = search rules
@@ -77,7 +77,7 @@ loop-again c =
     let l = c.before.before.before.before.before.loop in
     let own = c.before.before.before.only.ensures in
     rw own
-    (passed-more a.n a.rows.now (entry r.result) l.lower l.rank c.before.before.before.before.loop-test.true
+    (passed_more a.n a.rows.now (entry r.result) l.lower l.rank c.before.before.before.before.loop-test.true
     l.invariant
     (link_here a.n a.rows.now (entry r.result) l.lower l.rank l.invariant c.before.if1.false (rw own at c.if2.false)))
 
@@ -90,7 +90,7 @@ returns-3 c =
     let r = c.before.before.before.by_rank in
     let l = c.before.before.loop in
     rw c.all.ensures
-    (test-passed a.n a.rows.now (entry r.result) r.ensures.0 r.ensures.1 l.lower l.rank
+    (test_passed a.n a.rows.now (entry r.result) r.ensures.0 r.ensures.1 l.lower l.rank
     c.before.loop-test.false l.invariant)
 
 pub is-total-spec : {M : Type 1} → statement M

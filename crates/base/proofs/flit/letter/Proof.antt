@@ -1,20 +1,20 @@
 -- `base::letter` meets its contract.
 -- Assumes nothing.
 use borrow.Author.Tests.{eq-eqb, ne_eqb}
-use Rattle.base.specs.Flit.{letterOf}
+use Rattle.base.specs.Flit.{letter_of}
 use Rattle.base.proofs.flit.letter.Statement.{statement}
 use Rattle.base.proofs.flit.letter.Tie as tie
 
 returns : tie.Need-returns
-unfolding letterOf
+unfolding letter_of
 returns c = rw (eq-eqb c.before.args.kind 1 c.if1.true)
 
 returns-2 : tie.Need-returns-2
-unfolding letterOf
+unfolding letter_of
 returns-2 c = rw (ne_eqb c.before.before.args.kind 1 c.before.if1.false, eq-eqb c.before.before.args.kind 2 c.if2.true)
 
 returns-3 : tie.Need-returns-3
-unfolding letterOf
+unfolding letter_of
 returns-3 c =
     rw (
       ne_eqb c.before.before.before.args.kind 1 c.before.before.if1.false,
@@ -23,7 +23,7 @@ returns-3 c =
     )
 
 returns-4 : tie.Need-returns-4
-unfolding letterOf
+unfolding letter_of
 returns-4 c =
     rw (
       ne_eqb c.before.before.before.before.args.kind 1 c.before.before.before.if1.false,
@@ -33,7 +33,7 @@ returns-4 c =
     )
 
 returns-5 : tie.Need-returns-5
-unfolding letterOf
+unfolding letter_of
 returns-5 c =
     rw (
       ne_eqb c.before.before.before.before.args.kind 1 c.before.before.before.if1.false,

@@ -6,7 +6,7 @@ use native.Mathlib.Omega.{arith}
 use lib.ListN.{length, take, get_or, replicate, length-replicate}
 use borrow.Author.Rules.{rules}
 use Rattle.edges.specs.Same.{Tells}
-use Rattle.edges.proofs.Telling.{equal, numbers, grown-all, whole}
+use Rattle.edges.proofs.Telling.{equal, numbers, grown_all, whole}
 use Rattle.edges.proofs.answers.is_zero.Statement.{statement}
 use Rattle.edges.proofs.answers.is_zero.Tie as tie
 
@@ -21,7 +21,7 @@ loop-again c =
     let l = c.before.before.before.loop in
     let a = c.before.before.before.before.before.args.bytes.now in (
       search rules,
-      grown-all 0 a (length a) l.i (omega arith) (omega arith) c.both.result l.zero _ c.both.ensures l.invariant.1
+      grown_all 0 a (length a) l.i (omega arith) (omega arith) c.both.result l.zero _ c.both.ensures l.invariant.1
           (numbers (get_or a l.i 0) 0),
     )
 

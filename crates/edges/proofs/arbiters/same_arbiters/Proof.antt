@@ -2,7 +2,7 @@
 -- Assumes nothing.
 use borrow.Author.Rules.{rules}
 use Rattle.edges.proofs.Telling.{paired}
-use Rattle.edges.proofs.Structs.{arbiters-tell}
+use Rattle.edges.proofs.Structs.{arbiters_tell}
 use Rattle.edges.proofs.arbiters.same_arbiters.Statement.{statement}
 use Rattle.edges.proofs.arbiters.same_arbiters.Tie as tie
 
@@ -21,7 +21,7 @@ returns c =
     let at-same-narrows2 = before-both2 c in
     let at-same-narrows = before-same-narrows2 at-same-narrows2 in
     let start = before-same-narrows at-same-narrows in
-    arbiters-tell start.args.a start.args.b (paired _ _ _ c.both2.ensures c.before.same-wides.ensures
+    arbiters_tell start.args.a start.args.b (paired _ _ _ c.both2.ensures c.before.same-wides.ensures
     (paired _ _ _ c.before.before.both.ensures at-same-narrows.same-narrows.ensures
     at-same-narrows2.same-narrows2.ensures))
 

@@ -2,7 +2,7 @@
 -- Assumes nothing.
 use borrow.Author.Rules.{rules}
 use Rattle.edges.proofs.Telling.{numbers, paired}
-use Rattle.edges.proofs.Structs.{narrow-tells}
+use Rattle.edges.proofs.Structs.{narrow_tells}
 use Rattle.edges.proofs.arbiters.same_narrow.Statement.{statement}
 use Rattle.edges.proofs.arbiters.same_narrow.Tie as tie
 
@@ -11,7 +11,7 @@ returns c =
     let start = c.before.before.before.before.before.before.before.before in
     let x = start.args.a in
     let y = start.args.b in
-    narrow-tells x y (paired _ _ _ c.both.ensures (numbers x.pointer y.pointer) c.before.rows.ensures)
+    narrow_tells x y (paired _ _ _ c.both.ensures (numbers x.pointer y.pointer) c.before.rows.ensures)
 
 pub same-narrow-spec : {M : Type 1} → statement M
 same-narrow-spec =

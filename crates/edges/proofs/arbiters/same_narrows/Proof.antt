@@ -5,7 +5,7 @@ use Prim.Native.Nat.{◌≤◌, ◌-◌}
 use native.Mathlib.Omega.{arith}
 use lib.ListN.{length, take}
 use borrow.Author.Rules.{rules}
-use Rattle.state.specs.Fresh.{pastNarrow}
+use Rattle.state.specs.Fresh.{past_narrow}
 use Rattle.edges.specs.Same.{Tells}
 use Rattle.edges.proofs.Telling.{equal, grown, whole}
 use Rattle.edges.proofs.arbiters.same_narrows.Statement.{statement}
@@ -25,7 +25,7 @@ loop-again c =
     let la : length a ≡ 8 = search rules in
     let lb : length b ≡ 8 = search rules in (
       search rules,
-      grown pastNarrow a b l.i (omega arith) (omega arith) c.both.result l.same c.before.same-narrow.result
+      grown past_narrow a b l.i (omega arith) (omega arith) c.both.result l.same c.before.same-narrow.result
           c.both.ensures l.invariant.1
           c.before.same-narrow.ensures,
     )

@@ -5,7 +5,7 @@ use Prim.Native.Nat.{◌≤◌, ◌-◌}
 use native.Mathlib.Omega.{arith}
 use lib.ListN.{length, take}
 use borrow.Author.Rules.{rules}
-use Rattle.state.specs.Fresh.{pastWide}
+use Rattle.state.specs.Fresh.{past_wide}
 use Rattle.edges.specs.Same.{Tells}
 use Rattle.edges.proofs.Telling.{equal, grown, whole}
 use Rattle.edges.proofs.arbiters.same_wides.Statement.{statement}
@@ -25,7 +25,7 @@ loop-again c =
     let la : length a ≡ 8 = search rules in
     let lb : length b ≡ 8 = search rules in (
       search rules,
-      grown pastWide a b l.o (omega arith) (omega arith) c.both.result l.same c.before.same-wide.result
+      grown past_wide a b l.o (omega arith) (omega arith) c.both.result l.same c.before.same-wide.result
           c.both.ensures l.invariant.1
           c.before.same-wide.ensures,
     )

@@ -3,18 +3,18 @@
 use mathlib.Core.Path.{ap}
 use borrow.Author.Rules.{rules}
 use Rattle.arbiter.specs.Arbiter as arbiter
-use Rattle.arbiter.specs.Arbiter.{as_wide, ofWide, withPointer}
+use Rattle.arbiter.specs.Arbiter.{as_wide, of_wide, with_pointer}
 use Rattle.state.specs.declared.Router.{Router}
-use Rattle.state.specs.Fresh.{freshRouter}
-use Rattle.state.specs.Views.{vcArbiter}
-use Rattle.state.proofs.SoundStates.{withVcArbiter, pointerWide, turns, config}
+use Rattle.state.specs.Fresh.{fresh_router}
+use Rattle.state.specs.Views.{vc_arbiter}
+use Rattle.state.proofs.SoundStates.{with_vc_arbiter, pointer_wide, turns, config}
 use Rattle.edges.proofs.broken.arbiters.Statement.{statement}
 use Rattle.edges.proofs.broken.arbiters.Tie as tie
 
 returns : tie.Need-returns
-unfolding withVcArbiter pointerWide turns config freshRouter arbiter.fresh arbiter.known
+unfolding with_vc_arbiter pointer_wide turns config fresh_router arbiter.fresh arbiter.known
 returns c =
-    ap (λ (s : Router). withVcArbiter 0 (as_wide (withPointer 4 (ofWide (vcArbiter s.arbiters 0)))) s)
+    ap (λ (s : Router). with_vc_arbiter 0 (as_wide (with_pointer 4 (of_wide (vc_arbiter s.arbiters 0)))) s)
     c.before.before.before.turns.ensures
 
 pub arbiters-spec : {M : Type 1} → statement M

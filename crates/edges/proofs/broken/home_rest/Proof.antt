@@ -2,13 +2,13 @@
 -- Assumes nothing.
 use mathlib.Core.Path.{ap}
 use borrow.Author.Rules.{rules}
-use Rattle.state.proofs.SoundStates.{withHomePlace}
+use Rattle.state.proofs.SoundStates.{with_home_place}
 use Rattle.edges.proofs.broken.home_rest.Statement.{statement}
 use Rattle.edges.proofs.broken.home_rest.Tie as tie
 
 returns : tie.Need-returns
-unfolding withHomePlace
-returns c = ap (withHomePlace 0 2 1) c.turns.ensures
+unfolding with_home_place
+returns c = ap (with_home_place 0 2 1) c.turns.ensures
 
 pub home-rest-spec : {M : Type 1} → statement M
 home-rest-spec = tie.close (tie.spec (λ c κs. search rules) (λ c. search rules) returns)

@@ -3,16 +3,16 @@
 use mathlib.Core.Path.{ap, ◌∙◌}
 use borrow.Author.Rules.{rules}
 use Rattle.state.specs.declared.Holder.TheVariants.{Held}
-use Rattle.state.specs.Setters.{withHolder}
-use Rattle.state.proofs.SoundStates.{withOutput, held}
+use Rattle.state.specs.Setters.{set_holder}
+use Rattle.state.proofs.SoundStates.{with_output, held}
 use Rattle.edges.proofs.broken.names.Statement.{statement}
 use Rattle.edges.proofs.broken.names.Tie as tie
 
 returns : tie.Need-returns
-unfolding withOutput held
+unfolding with_output held
 returns c =
-    let holds = withHolder (Held (record { input = 0; vc = 0 })) in
-    λ t. withOutput 2 ((c.with-holder.ensures ∙ ap holds c.before.output.ensures) t) (c.before.before.turns.ensures t)
+    let holds = set_holder (Held (record { input = 0; vc = 0 })) in
+    λ t. with_output 2 ((c.with-holder.ensures ∙ ap holds c.before.output.ensures) t) (c.before.before.turns.ensures t)
 
 pub names-spec : {M : Type 1} → statement M
 names-spec = tie.close (tie.spec (λ c κs. search rules) (λ c κs. search rules) (λ c κs. search rules) (λ c. search rules) returns)

@@ -2,18 +2,18 @@
 -- Assumes nothing.
 use mathlib.Core.Path.{ap}
 use borrow.Author.Rules.{rules}
-use Rattle.arbiter.specs.Arbiter.{asNarrow, ofNarrow, withPointer}
+use Rattle.arbiter.specs.Arbiter.{as_narrow, of_narrow, with_pointer}
 use Rattle.state.specs.declared.Router.{Router}
-use Rattle.state.specs.Fresh.{freshRouter}
-use Rattle.state.specs.Views.{inputArbiter}
-use Rattle.state.proofs.SoundStates.{withInputArbiter, pointerNarrow, turns, config}
+use Rattle.state.specs.Fresh.{fresh_router}
+use Rattle.state.specs.Views.{input_arbiter}
+use Rattle.state.proofs.SoundStates.{with_input_arbiter, pointer_narrow, turns, config}
 use Rattle.edges.proofs.broken.other_arbiters.Statement.{statement}
 use Rattle.edges.proofs.broken.other_arbiters.Tie as tie
 
 returns : tie.Need-returns
-unfolding withInputArbiter pointerNarrow turns config freshRouter
+unfolding with_input_arbiter pointer_narrow turns config fresh_router
 returns c =
-    ap (λ (s : Router). withInputArbiter 2 (asNarrow (withPointer 1 (ofNarrow (inputArbiter s.arbiters 2)))) s)
+    ap (λ (s : Router). with_input_arbiter 2 (as_narrow (with_pointer 1 (of_narrow (input_arbiter s.arbiters 2)))) s)
     c.before.before.before.turns.ensures
 
 pub other-arbiters-spec : {M : Type 1} → statement M

@@ -1,13 +1,13 @@
 -- `edges::broken::packets` meets its contract: the fresh router with one part changed.
 -- Assumes nothing.
 use borrow.Author.Rules.{rules}
-use Rattle.state.proofs.SoundStates.{withInput}
+use Rattle.state.proofs.SoundStates.{with_input}
 use Rattle.edges.proofs.broken.packets.Statement.{statement}
 use Rattle.edges.proofs.broken.packets.Tie as tie
 
 returns : tie.Need-returns
-unfolding withInput
-returns c = λ t. withInput 0 (c.unbound.ensures t) (c.before.turns.ensures t)
+unfolding with_input
+returns c = λ t. with_input 0 (c.unbound.ensures t) (c.before.turns.ensures t)
 
 pub packets-spec : {M : Type 1} → statement M
 packets-spec = tie.close (tie.spec (λ c κs. search rules) (λ c κs. search rules) (λ c. search rules) returns)

@@ -2,27 +2,27 @@
 -- Assumes nothing.
 use mathlib.Core.Path.{ap, ◌∙◌}
 use borrow.Author.Rules.{rules}
-use Rattle.base.specs.Flit.{flitOf}
+use Rattle.base.specs.Flit.{flit_of}
 use Rattle.state.specs.declared.Binding.TheVariants.{Bound}
 use Rattle.state.specs.declared.Holder.TheVariants.{Held}
 use Rattle.state.specs.declared.InputVc.{InputVc}
 use Rattle.state.specs.declared.OutputVc.{OutputVc}
 use Rattle.state.specs.declared.Router.{Router}
-use Rattle.state.specs.Setters.{withBinding, withHolder}
-use Rattle.state.proofs.SoundStates.{withInput, withOutput, withSlot, withWirePlace, withHomePlace, unbound, bound, held, head, single}
+use Rattle.state.specs.Setters.{set_binding, set_holder}
+use Rattle.state.proofs.SoundStates.{with_input, with_output, with_slot, with_wire_place, with_home_place, unbound, bound, held, head, single}
 use Rattle.state.proofs.SoundStates.{body, on}
-use Rattle.edges.specs.States.{busy, busyFrom}
+use Rattle.edges.specs.States.{busy, busy_from}
 use Rattle.edges.proofs.building.busy.Statement.{statement}
 use Rattle.edges.proofs.building.busy.Tie as tie
 
 -- the router that is made of these VCs
 abbrev made_of : Router → InputVc → OutputVc → InputVc → InputVc → Router
 made_of s waiting holds landing paid =
-    withHomePlace 0 1 2 (withInput 3 paid (withWirePlace 0 0 (on 1 (single 1)) (withInput 1 landing
-    (withOutput 2 holds (withSlot 2 body (withSlot 1 body (withSlot 0 (head 1) (withInput 0 waiting s))))))))
+    with_home_place 0 1 2 (with_input 3 paid (with_wire_place 0 0 (on 1 (single 1)) (with_input 1 landing
+    (with_output 2 holds (with_slot 2 body (with_slot 1 body (with_slot 0 (head 1) (with_input 0 waiting s))))))))
 
 returns : tie.Need-returns
-unfolding busy busyFrom withInput withOutput withSlot withWirePlace withHomePlace unbound bound held head single body on flitOf
+unfolding busy busy_from with_input with_output with_slot with_wire_place with_home_place unbound bound held head single body on flit_of
 returns c =
     let at-landing = c.before in
     let at-holder = at-landing.before in
@@ -31,8 +31,8 @@ returns c =
     let at-waiting = at-binding.before in
     λ t.
     made_of (at-waiting.before.turns.ensures t)
-    ((at-binding.with-binding.ensures ∙ ap (withBinding (Bound (record { output = 1; vc = 0 }))) at-waiting.unbound.ensures) t)
-    ((at-holder.with-holder.ensures ∙ ap (withHolder (Held (record { input = 0; vc = 0 }))) at-output.output.ensures) t)
+    ((at-binding.with-binding.ensures ∙ ap (set_binding (Bound (record { output = 1; vc = 0 }))) at-waiting.unbound.ensures) t)
+    ((at-holder.with-holder.ensures ∙ ap (set_holder (Held (record { input = 0; vc = 0 }))) at-output.output.ensures) t)
     (at-landing.unbound2.ensures t) (c.unbound3.ensures t)
 
 pub busy-spec : {M : Type 1} → statement M

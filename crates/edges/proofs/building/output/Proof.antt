@@ -4,16 +4,16 @@ use mathlib.Core.Path.{ap}
 use lib.ListN.{get_or}
 use borrow.Author.Rules.{rules}
 use Rattle.state.specs.declared.Router.{Router}
-use Rattle.state.specs.Fresh.{freshOutput, freshRouter}
-use Rattle.state.specs.Setters.{withOutputCredit}
+use Rattle.state.specs.Fresh.{fresh_output, fresh_router}
+use Rattle.state.specs.Setters.{with_output_credit}
 use Rattle.state.proofs.SoundStates.{turns, config}
 use Rattle.edges.proofs.building.output.Statement.{statement}
 use Rattle.edges.proofs.building.output.Tie as tie
 
 returns : tie.Need-returns
-unfolding turns config freshRouter
+unfolding turns config fresh_router
 returns c =
-    ap (λ (s : Router). withOutputCredit c.before.before.before.args.credit (get_or s.outputs 0 (freshOutput 0)))
+    ap (λ (s : Router). with_output_credit c.before.before.before.args.credit (get_or s.outputs 0 (fresh_output 0)))
     c.before.before.turns.ensures
 
 pub output-spec : {M : Type 1} → statement M

@@ -4,17 +4,17 @@ use mathlib.Core.Path.{ap}
 use lib.ListN.{get_or}
 use borrow.Author.Rules.{rules}
 use Rattle.state.specs.declared.Router.{Router}
-use Rattle.state.specs.Fresh.{freshInput, freshRouter}
-use Rattle.state.specs.Setters.{withSenderCredit, withOpened, withQueued}
+use Rattle.state.specs.Fresh.{fresh_input, fresh_router}
+use Rattle.state.specs.Setters.{with_sender_credit, with_opened, with_queued}
 use Rattle.state.proofs.SoundStates.{turns, config, unbound}
 use Rattle.edges.proofs.building.unbound.Statement.{statement}
 use Rattle.edges.proofs.building.unbound.Tie as tie
 
 returns : tie.Need-returns
-unfolding turns config freshRouter unbound
+unfolding turns config fresh_router unbound
 returns c =
     let a = c.before.before.before.args in
-    ap (λ (s : Router). withQueued a.queued (withOpened a.opened (withSenderCredit a.credit (get_or s.inputs 0 (freshInput 0)))))
+    ap (λ (s : Router). with_queued a.queued (with_opened a.opened (with_sender_credit a.credit (get_or s.inputs 0 (fresh_input 0)))))
     c.before.before.turns.ensures
 
 pub unbound-spec : {M : Type 1} → statement M

@@ -2,26 +2,26 @@
 -- Assumes nothing.
 use mathlib.Core.Path.{sym, ap, ◌∙◌}
 use borrow.Author.Rules.{rules}
-use Rattle.state.specs.Sound.{isUnbound}
+use Rattle.state.specs.Sound.{is_unbound}
 use Rattle.edges.proofs.Telling.{equal, apart, apart'}
-use Rattle.edges.proofs.Variants.{bound-tells}
+use Rattle.edges.proofs.Variants.{bound_tells}
 use Rattle.edges.proofs.channels.same_binding.Statement.{statement}
 use Rattle.edges.proofs.channels.same_binding.Tie as tie
 
 returns : tie.Need-returns
-returns c = apart isUnbound (ap isUnbound c.before.before.enum_told.given.1) (ap isUnbound c.enum-told3.given.1)
+returns c = apart is_unbound (ap is_unbound c.before.before.enum_told.given.1) (ap is_unbound c.enum-told3.given.1)
 
 returns-2 : tie.Need-returns-2
 returns-2 c = equal (c.before.before.enum_told.given.1 ∙ sym c.enum-told2.given.1)
 
 returns-3 : tie.Need-returns-3
-returns-3 c = apart' isUnbound (ap isUnbound c.before.before.before.a.given.1) (ap isUnbound c.enum-told4.given.1)
+returns-3 c = apart' is_unbound (ap is_unbound c.before.before.before.a.given.1) (ap is_unbound c.enum-told4.given.1)
 
 returns-4 : tie.Need-returns-4
 returns-4 c =
     let b = c.before.before.before.before.before.before in
     let a = b.before.before.before in
-    bound-tells a.before.before.args.a a.before.before.args.b a.a.given.0.0 b.b.given.0.0 c.both.result
+    bound_tells a.before.before.args.a a.before.before.args.b a.a.given.0.0 b.b.given.0.0 c.both.result
     a.a.given.1
     b.b.given.1 c.both.ensures
 

@@ -5,7 +5,7 @@ use Prim.Native.Nat.{◌≤◌, ◌-◌}
 use native.Mathlib.Omega.{arith}
 use lib.ListN.{length, take}
 use borrow.Author.Rules.{rules}
-use Rattle.state.specs.Fresh.{freshInput}
+use Rattle.state.specs.Fresh.{fresh_input}
 use Rattle.edges.specs.Same.{Tells}
 use Rattle.edges.proofs.Telling.{equal, grown, whole}
 use Rattle.edges.proofs.channels.same_inputs.Statement.{statement}
@@ -25,7 +25,7 @@ loop-again c =
     let la : length a ≡ 32 = search rules in
     let lb : length b ≡ 32 = search rules in (
       search rules,
-      grown (freshInput 0) a b l.x (omega arith) (omega arith) c.both.result l.same c.before.same-input.result
+      grown (fresh_input 0) a b l.x (omega arith) (omega arith) c.both.result l.same c.before.same-input.result
           c.both.ensures l.invariant.1
           c.before.same-input.ensures,
     )

@@ -2,7 +2,7 @@
 -- Assumes nothing.
 use borrow.Author.Rules.{rules}
 use Rattle.edges.proofs.Telling.{numbers, paired}
-use Rattle.edges.proofs.Structs.{output-tells}
+use Rattle.edges.proofs.Structs.{output_tells}
 use Rattle.edges.proofs.channels.same_output.Statement.{statement}
 use Rattle.edges.proofs.channels.same_output.Tie as tie
 
@@ -10,7 +10,7 @@ returns : tie.Need-returns
 returns c =
     let x = c.before.before.before.before.args.a in
     let y = c.before.before.before.before.args.b in
-    output-tells x y (paired _ _ _ c.both.ensures c.before.before.before.same-holder.ensures (numbers x.credit y.credit))
+    output_tells x y (paired _ _ _ c.both.ensures c.before.before.before.same-holder.ensures (numbers x.credit y.credit))
 
 pub same-output-spec : {M : Type 1} → statement M
 same-output-spec = tie.close (tie.spec (λ c κs. search rules) (λ c κs. search rules) returns)

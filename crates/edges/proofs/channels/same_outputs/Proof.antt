@@ -5,7 +5,7 @@ use Prim.Native.Nat.{◌≤◌, ◌-◌}
 use native.Mathlib.Omega.{arith}
 use lib.ListN.{length, take}
 use borrow.Author.Rules.{rules}
-use Rattle.state.specs.Fresh.{freshOutput}
+use Rattle.state.specs.Fresh.{fresh_output}
 use Rattle.edges.specs.Same.{Tells}
 use Rattle.edges.proofs.Telling.{equal, grown, whole}
 use Rattle.edges.proofs.channels.same_outputs.Statement.{statement}
@@ -25,7 +25,7 @@ loop-again c =
     let la : length a ≡ 32 = search rules in
     let lb : length b ≡ 32 = search rules in (
       search rules,
-      grown (freshOutput 0) a b l.y (omega arith) (omega arith) c.both.result l.same c.before.same-output.result
+      grown (fresh_output 0) a b l.y (omega arith) (omega arith) c.both.result l.same c.before.same-output.result
           c.both.ensures l.invariant.1
           c.before.same-output.ensures,
     )

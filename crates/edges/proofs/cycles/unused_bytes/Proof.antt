@@ -1,24 +1,24 @@
 -- `edges::cycles::unused_bytes` meets its contract.
 -- Assumes nothing.
 use borrow.Author.Rules.{rules}
-use Rattle.edges.proofs.Limits.{bytes-refused}
+use Rattle.edges.proofs.Limits.{bytes_refused}
 use Rattle.edges.proofs.cycles.unused_bytes.Statement.{statement}
 use Rattle.edges.proofs.cycles.unused_bytes.Tie as tie
 
 refused-requires : tie.Need-refused-requires
-refused-requires c κs = (bytes-refused c.before.busy.result c.before.busy.ensures).0
+refused-requires c κs = (bytes_refused c.before.busy.result c.before.busy.ensures).0
 
 refused-requires-2 : tie.Need-refused-requires-2
-refused-requires-2 c κs = (bytes-refused c.before.busy2.result c.before.busy2.ensures).1
+refused-requires-2 c κs = (bytes_refused c.before.busy2.result c.before.busy2.ensures).1
 
 refused-requires-3 : tie.Need-refused-requires-3
-refused-requires-3 c κs = (bytes-refused c.before.busy3.result c.before.busy3.ensures).2
+refused-requires-3 c κs = (bytes_refused c.before.busy3.result c.before.busy3.ensures).2
 
 refused-requires-4 : tie.Need-refused-requires-4
-refused-requires-4 c κs = (bytes-refused c.before.busy4.result c.before.busy4.ensures).3
+refused-requires-4 c κs = (bytes_refused c.before.busy4.result c.before.busy4.ensures).3
 
 refused-requires-5 : tie.Need-refused-requires-5
-refused-requires-5 c κs = (bytes-refused c.before.busy5.result c.before.busy5.ensures).4
+refused-requires-5 c κs = (bytes_refused c.before.busy5.result c.before.busy5.ensures).4
 
 pub unused-bytes-spec : {M : Type 1} → statement M
 unused-bytes-spec =

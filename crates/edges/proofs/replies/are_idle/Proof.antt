@@ -5,13 +5,13 @@ use Prim.Native.Nat.{◌≤◌, ◌-◌}
 use native.Mathlib.Omega.{arith}
 use lib.ListN.{length, take, replicate}
 use borrow.Author.Rules.{rules}
-use Rattle.edges.specs.Same.{Tells, nothingLeft}
-use Rattle.edges.proofs.Telling.{equal, grown-all, whole}
+use Rattle.edges.specs.Same.{Tells, nothing_left}
+use Rattle.edges.proofs.Telling.{equal, grown_all, whole}
 use Rattle.edges.proofs.replies.are_idle.Statement.{statement}
 use Rattle.edges.proofs.replies.are_idle.Tie as tie
 
 abbrev invariant-loop : tie.invariant-loop
-invariant-loop a same₀ o₀ same o = (o ≤ 8) × Tells same (take o a) (take o (replicate 8 nothingLeft))
+invariant-loop a same₀ o₀ same o = (o ≤ 8) × Tells same (take o a) (take o (replicate 8 nothing_left))
 
 abbrev decreases-loop : tie.decreases-loop
 decreases-loop a same₀ o₀ same o = 8 - o
@@ -22,7 +22,7 @@ loop-again c =
     let a = c.before.before.before.before.before.args.t1 in
     let la : length a ≡ 8 = search rules in (
       search rules,
-      grown-all nothingLeft a 8 l.o (omega arith) (omega arith) c.both.result l.same c.before.is-idle.result
+      grown_all nothing_left a 8 l.o (omega arith) (omega arith) c.both.result l.same c.before.is-idle.result
           c.both.ensures l.invariant.1
           c.before.is-idle.ensures,
     )
@@ -32,7 +32,7 @@ returns c =
     let a = c.before.before.args.t1 in
     let la : length a ≡ 8 = search rules in
     let end : c.before.loop.o ≡ 8 = omega arith in
-    whole a (replicate 8 nothingLeft) 8 la refl (rw end at c.before.loop.invariant.1)
+    whole a (replicate 8 nothing_left) 8 la refl (rw end at c.before.loop.invariant.1)
 
 pub are-idle-spec : {M : Type 1} → statement M
 are-idle-spec =

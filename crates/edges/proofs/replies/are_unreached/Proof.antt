@@ -6,7 +6,7 @@ use native.Mathlib.Omega.{arith}
 use lib.ListN.{length, take, replicate}
 use borrow.Author.Rules.{rules}
 use Rattle.edges.specs.Same.{Tells, unreached}
-use Rattle.edges.proofs.Telling.{equal, grown-all, whole}
+use Rattle.edges.proofs.Telling.{equal, grown_all, whole}
 use Rattle.edges.proofs.replies.are_unreached.Statement.{statement}
 use Rattle.edges.proofs.replies.are_unreached.Tie as tie
 
@@ -22,7 +22,7 @@ loop-again c =
     let a = c.before.before.before.before.before.args.t1 in
     let la : length a ≡ 8 = search rules in (
       search rules,
-      grown-all unreached a 8 l.i (omega arith) (omega arith) c.both.result l.same c.before.is-unreached.result
+      grown_all unreached a 8 l.i (omega arith) (omega arith) c.both.result l.same c.before.is-unreached.result
           c.both.ensures l.invariant.1
           c.before.is-unreached.ensures,
     )

@@ -5,12 +5,12 @@ use borrow.Author.Rules.{rules}
 use Rattle.base.specs.declared.reply.Left.{Left}
 use Rattle.base.specs.declared.reply.Output.{Output}
 use Rattle.edges.proofs.Telling.{equal, apart'}
-use Rattle.edges.proofs.Variants.{noFlit}
+use Rattle.edges.proofs.Variants.{no_flit}
 use Rattle.edges.proofs.replies.is_idle.Statement.{statement}
 use Rattle.edges.proofs.replies.is_idle.Tie as tie
 
 returns : tie.Need-returns
-returns c = apart' (λ (x : Output). noFlit x.left) (ap noFlit c.enum-told2.given.1) refl
+returns c = apart' (λ (x : Output). no_flit x.left) (ap no_flit c.enum-told2.given.1) refl
 
 returns-2 : tie.Need-returns-2
 returns-2 c = equal (ap (λ (x : Left). record { left = x }) c.enum_told.given.1)

@@ -3,17 +3,17 @@
 use borrow.Author.Rules.{rules}
 use mathlib.Core.Path.{ap, refl}
 use Rattle.edges.proofs.Telling.{apart}
-use Rattle.edges.proofs.Variants.{isAccepted, refused-tells}
+use Rattle.edges.proofs.Variants.{is_accepted, refused_tells}
 use Rattle.edges.proofs.replies.is_refusal.Statement.{statement}
 use Rattle.edges.proofs.replies.is_refusal.Tie as tie
 
 returns : tie.Need-returns
-returns c = apart isAccepted (ap isAccepted c.enum_told.given.1) refl
+returns c = apart is_accepted (ap is_accepted c.enum_told.given.1) refl
 
 returns-2 : tie.Need-returns-2
 returns-2 c =
     let a = c.before.before.before.before.before.before.args in
-    refused-tells a.verdict c.before.before.before.before.verdict.given.0.0 (record { number = a.number; port = a.port })
+    refused_tells a.verdict c.before.before.before.before.verdict.given.0.0 (record { number = a.number; port = a.port })
     c.both.result c.before.before.before.before.verdict.given.1
     c.both.ensures
 

@@ -5,12 +5,12 @@ use borrow.Author.Rules.{rules}
 use Rattle.base.specs.declared.reply.Reached.{Reached}
 use Rattle.base.specs.declared.reply.Sender.{Sender}
 use Rattle.edges.proofs.Telling.{equal, apart'}
-use Rattle.edges.proofs.Variants.{noCredit}
+use Rattle.edges.proofs.Variants.{no_credit}
 use Rattle.edges.proofs.replies.is_unreached.Statement.{statement}
 use Rattle.edges.proofs.replies.is_unreached.Tie as tie
 
 returns : tie.Need-returns
-returns c = apart' (λ (x : Sender). noCredit x.reached) (ap noCredit c.enum-told2.given.1) refl
+returns c = apart' (λ (x : Sender). no_credit x.reached) (ap no_credit c.enum-told2.given.1) refl
 
 returns-2 : tie.Need-returns-2
 returns-2 c = equal (ap (λ (x : Reached). record { reached = x }) c.enum_told.given.1)

@@ -2,7 +2,7 @@
 -- Assumes nothing.
 use borrow.Author.Rules.{rules}
 use Rattle.edges.proofs.Telling.{numbers, paired}
-use Rattle.edges.proofs.Structs.{config-tells}
+use Rattle.edges.proofs.Structs.{config_tells}
 use Rattle.edges.proofs.routers.same_config.Statement.{statement}
 use Rattle.edges.proofs.routers.same_config.Tie as tie
 
@@ -31,7 +31,7 @@ returns c =
     let start = before-both at_both in
     let x = start.args.a in
     let y = start.args.b in
-    config-tells x y (paired _ _ _ c.both6.ensures (paired _ _ _ at-both4.both4.ensures
+    config_tells x y (paired _ _ _ c.both6.ensures (paired _ _ _ at-both4.both4.ensures
     (paired _ _ _ at_both.both.ensures (numbers x.ports y.ports) (numbers x.vcs y.vcs))
     (paired _ _ _ at-both2.both2.ensures (numbers x.depth y.depth) (numbers x.downstream y.downstream)))
     (paired _ _ _ c.before.both5.ensures (paired _ _ _ at-both3.both3.ensures (numbers x.forward y.forward)

@@ -2,7 +2,7 @@
 -- Assumes nothing.
 use borrow.Author.Rules.{rules}
 use Rattle.edges.proofs.Telling.{numbers, paired}
-use Rattle.edges.proofs.Structs.{router-tells}
+use Rattle.edges.proofs.Structs.{router_tells}
 use Rattle.edges.proofs.routers.same_router.Statement.{statement}
 use Rattle.edges.proofs.routers.same_router.Tie as tie
 
@@ -14,7 +14,7 @@ returns c =
     let heads = channels.before.before.before.before.before.before.before in
     let x = heads.before.before.before.before.before.before.args.a in
     let y = heads.before.before.before.before.before.before.args.b in
-    router-tells x y
+    router_tells x y
     (paired _ _ _ c.both7.ensures
     (paired _ _ _ c.before.before.both5.ensures
     (paired _ _ _ heads.both.ensures heads.before.before.before.same-config.ensures (numbers x.cycle y.cycle))

@@ -1,14 +1,14 @@
 -- `edges::writer::refusal_line` meets its contract.
 -- Assumes nothing.
 use borrow.Author.Rules.{rules}
-use Rattle.edges.proofs.Answering.{outcome-answers}
+use Rattle.edges.proofs.Answering.{outcome_answers}
 use Rattle.edges.proofs.writer.refusal_line.Statement.{statement}
 use Rattle.edges.proofs.writer.refusal_line.Tie as tie
 
 answered-requires : tie.Need-answered-requires
 answered-requires c κs =
     let start = c.before.before.before.before.before in
-    outcome-answers _ _ start.args.number start.args.line.now c.before.before.write-refusal.ensures start.requires
+    outcome_answers _ _ start.args.number start.args.line.now c.before.before.write-refusal.ensures start.requires
 
 pub refusal-line-spec : {M : Type 1} → statement M
 refusal-line-spec =

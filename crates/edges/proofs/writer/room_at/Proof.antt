@@ -1,20 +1,20 @@
 -- `edges::writer::room_at` meets its contract.
 -- Assumes nothing.
 use borrow.Author.Rules.{rules}
-use Rattle.edges.proofs.Answering.{number-checks, bytes-check}
+use Rattle.edges.proofs.Answering.{number_checks, bytes_check}
 use Rattle.edges.proofs.writer.room_at.Statement.{statement}
 use Rattle.edges.proofs.writer.room_at.Tie as tie
 
 expect-requires : tie.Need-expect-requires
 expect-requires c κs =
     let s = c.before.before.before.before in
-    number-checks c.before.before.write-refusal.result _ _ c.before.before.write-refusal.ensures s.args.number
+    number_checks c.before.before.write-refusal.result _ _ c.before.before.write-refusal.ensures s.args.number
     c.number_of_lem.result c.number_of_lem.ensures s.requires.0
 
 expect-requires-2 : tie.Need-expect-requires-2
 expect-requires-2 c κs =
     let s = c.before.before.before.before.before.before in
-    bytes-check c.before.before.before.before.write-refusal.result _ _
+    bytes_check c.before.before.before.before.write-refusal.result _ _
     c.before.before.before.before.write-refusal.ensures s.args.bytes c.bytes_of.result c.bytes_of.ensures
     s.requires.1
 

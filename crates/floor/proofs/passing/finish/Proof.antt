@@ -6,7 +6,7 @@ use native.Mathlib.Omega.{arith}
 use borrow.Author.Rules.{rules}
 use borrow.Author.Tests.{not-true, not-false}
 use Rattle.floor.specs.Handing.{Finishes, stopped, over, ends}
-use Rattle.floor.proofs.Calls.{passes-few}
+use Rattle.floor.proofs.Calls.{passes_few}
 use Rattle.floor.proofs.passing.finish.Statement.{statement}
 use Rattle.floor.proofs.passing.finish.Tie as tie
 
@@ -35,7 +35,7 @@ add-t13 : tie.Need-overflow-add-t13
 add-t13 c =
     let at-pass = before-struct-known2 c in
     let start = before-is-whole (before-else2 (before-pass at-pass)).before in
-    record { fits = omega (arith, start.pre, passes-few [] _ _ _ _ at-pass.pass.ensures) }
+    record { fits = omega (arith, start.pre, passes_few [] _ _ _ _ at-pass.pass.ensures) }
 
 returns-3 : tie.Need-returns-3
 returns-3 c =

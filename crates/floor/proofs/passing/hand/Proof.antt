@@ -11,8 +11,8 @@ use borrow.Author.Rules.{rules}
 use borrow.Author.Tests.{not-true, not-false}
 use Rattle.trace.specs.Bytes.{AreBytes}
 use Rattle.router.proofs.Going.{piece_bytes}
-use Rattle.floor.specs.Handing.{Passes, holdsBlocks, uneven, fills, last, beyond, hands}
-use Rattle.floor.proofs.Calls.{passes-few}
+use Rattle.floor.specs.Handing.{Passes, is_whole_blocks, uneven, fills, last, beyond, hands}
+use Rattle.floor.proofs.Calls.{passes_few}
 use Rattle.floor.proofs.passing.hand.Statement.{statement}
 use Rattle.floor.proofs.passing.hand.Tie as tie
 
@@ -47,7 +47,7 @@ are c =
     let known = (before-holds-blocks (before-else2 c)).before.before in
     piece_bytes (start-else2 c).args.bytes 0 (start-else2 c).args.buf.now (λ i. (known.shared-slice-known.given i).fits)
 
-even : (c : tie.Else2) → holdsBlocks (length (start-else2 c).args.buf.now) ≡ true
+even : (c : tie.Else2) → is_whole_blocks (length (start-else2 c).args.buf.now) ≡ true
 even c = sym c.before.holds-blocks.ensures ∙ not-false c.before.holds-blocks.result c.if2.false
 
 long : (c : tie.Else2) → length (piece c) ≡ (start-else2 c).args.bytes
@@ -87,7 +87,7 @@ finish-requires c κs =
     let at-pass = before-slice-known2 (before-else3 c.before) in
     let at-else2 = before-pass at-pass in
     let l = (before-holds-blocks (before-else2 at-else2)).if1.false in
-    omega (arith, passes-few (piece at-else2) _ _ _ _ (passed at-pass), long at-else2, l, short (start-else2 at-else2))
+    omega (arith, passes_few (piece at-else2) _ _ _ _ (passed at-pass), long at-else2, l, short (start-else2 at-else2))
 
 returns-4 : tie.Need-returns-4
 returns-4 c =

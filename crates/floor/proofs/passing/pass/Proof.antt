@@ -11,10 +11,10 @@ use lib.Seq.{drop-drop}
 use borrow.Author.Rules.{rules}
 use borrow.Author.Tests.{not-true, not-false}
 use Rattle.base.proofs.Lists.{rest_of}
-use Rattle.router.specs.Running.{CallOutcome, ranOf}
+use Rattle.router.specs.Running.{CallOutcome, ran_of}
 use Rattle.floor.specs.declared.passing.Stop.{Stop}
-use Rattle.floor.specs.Handing.{Handed, called, handedBy, Passes}
-use Rattle.floor.proofs.Calls.{call-most, refused-passes, unwritten-passes, whole-passes, full-passes, more-passes}
+use Rattle.floor.specs.Handing.{Handed, called, handed_by, Passes}
+use Rattle.floor.proofs.Calls.{call_most, refused_passes, unwritten-passes, whole-passes, full-passes, more-passes}
 use Rattle.floor.proofs.passing.pass.Statement.{statement}
 use Rattle.floor.proofs.passing.pass.Tie as tie
 
@@ -92,7 +92,7 @@ outcome c = record { ran = c.run.result; buffer = c.run.new.1.1.0 }
 is_call : (c : tie.After-run invariant-loop decreases-loop) → outcome c ≡ called (left (loop-run c)) (sofar (loop-run c))
 is_call c =
     let at-loop = loop-run c in
-    c.run.ensures ∙ ap (λ (l : List ℕ). ranOf at-loop.loop.run l at-loop.loop.out 0)
+    c.run.ensures ∙ ap (λ (l : List ℕ). ran_of at-loop.loop.run l at-loop.loop.out 0)
     (rest_of at-loop.loop.from (before-loop at-loop).args.part.now)
 
 -- it was not refused
@@ -108,7 +108,7 @@ returns : tie.Need-returns invariant-loop decreases-loop
 returns c =
     let at-run = before-struct-known c.before in
     (loop-run at-run).loop.inv.3 1 _ _
-    (refused-passes (left (loop-run at-run)) (sofar (loop-run at-run)) (outcome at-run) (is_call at-run) c.if1.true)
+    (refused_passes (left (loop-run at-run)) (sofar (loop-run at-run)) (outcome at-run) (is_call at-run) c.if1.true)
 
 returns-2 : tie.Need-returns-2 invariant-loop decreases-loop
 returns-2 c =
@@ -151,7 +151,7 @@ inside c =
     let at-loop = loop-run c in
     omega (
       arith,
-      call-most (left at-loop) (sofar at-loop) (outcome c) (is_call c),
+      call_most (left at-loop) (sofar at-loop) (outcome c) (is_call c),
       length-drop at-loop.loop.from (before-loop at-loop).args.part.now,
       at-loop.loop.inv.0,
     )
@@ -185,7 +185,7 @@ loop-again c =
           (more-passes (left at-loop) (sofar at-loop) (outcome at-run) (is_call at-run) (fine (else1-else3 at-else3)) at-else3.if3.left
           u
           k s g
-          (subst (λ (l : List ℕ). Passes l (handedBy (outcome at-run)) k s g)
+          (subst (λ (l : List ℕ). Passes l (handed_by (outcome at-run)) k s g)
           (sym (drop-drop at-run.run.result.used at-loop.loop.from start.args.part.now)) p)))),
     )
 

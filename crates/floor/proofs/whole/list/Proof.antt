@@ -10,8 +10,8 @@ use borrow.Author.Tests.{not-true, not-false}
 use Rattle.floor.specs.declared.whole.Ended.{Ended}
 use Rattle.runs.specs.declared.Run.{Run}
 use Rattle.runs.specs.Run.{started}
-use Rattle.floor.specs.Handing.{Handed, isWhole, HandsOver, Lists, unread, stopped, over, goes}
-use Rattle.floor.proofs.Calls.{handing-piece}
+use Rattle.floor.specs.Handing.{Handed, is_whole_list, HandsOver, Lists, unread, stopped, over, goes}
+use Rattle.floor.proofs.Calls.{handing_piece}
 use Rattle.floor.proofs.whole.list.Statement.{statement}
 use Rattle.floor.proofs.whole.list.Tie as tie
 
@@ -63,10 +63,10 @@ handed : (c : tie.After-hand invariant-loop decreases-loop) → HandsOver (lengt
 handed c =
     subst (λ (n : ℕ). HandsOver n (piece c) (record { run = (loop-hand c).loop.run; buffer = (loop-hand c).loop.out })
     c.hand.result.calls c.hand.result.stop (after c)) (kept (fill-hand c))
-    (handing-piece (fill-hand c).fill.new.1.0 (fill-hand c).fill.result.bytes _ _ _ _ (fill-hand c).fill.ensures.0
+    (handing_piece (fill-hand c).fill.new.1.0 (fill-hand c).fill.result.bytes _ _ _ _ (fill-hand c).fill.ensures.0
     c.hand.ensures)
 
-whole : (c : tie.Else2 invariant-loop decreases-loop) → isWhole (before-is-whole c.before).hand.result.stop ≡ true
+whole : (c : tie.Else2 invariant-loop decreases-loop) → is_whole_list (before-is-whole c.before).hand.result.stop ≡ true
 whole c = sym c.before.is_whole.ensures ∙ not-false c.before.is_whole.result c.if2.false
 
 loop-holds : tie.Need-loop-init invariant-loop decreases-loop

@@ -7,7 +7,7 @@ use native.Mathlib.Omega.{arith}
 use lib.ListN.{length, drop, length-set, length-drop, drop_of_length-le}
 use lib.Seq.{sets}
 use borrow.Author.Rules.{rules}
-use Rattle.listing.proofs.Stores.{rest-stored}
+use Rattle.listing.proofs.Stores.{rest_stored}
 use Rattle.listing.proofs.digits.copy.Statement.{statement}
 use Rattle.listing.proofs.digits.copy.Tie as tie
 
@@ -41,7 +41,7 @@ loop-again c = (
   omega arith,
   omega arith,
   simp length-set c.before.before.loop.invariant.2,
-  rest-stored c.before.before.loop.out c.before.before.loop.next c.before.before.before.args.digits.now
+  rest_stored c.before.before.loop.out c.before.before.loop.next c.before.before.before.args.digits.now
       c.before.before.loop.i (omega arith) ∙ c.before.before.loop.invariant.3,
 )
 

@@ -5,7 +5,7 @@ use native.Mathlib.Omega.{arith}
 use lib.ListN.{length, drop}
 use borrow.Author.Rules.{rules}
 use Rattle.listing.specs.Digits.{decimal}
-use Rattle.listing.proofs.Decimals.{decimal-length}
+use Rattle.listing.proofs.Decimals.{decimal_length}
 use Rattle.listing.proofs.Stores.{laid_as}
 use Rattle.listing.proofs.digits.decimal.Statement.{statement}
 use Rattle.listing.proofs.digits.decimal.Tie as tie
@@ -31,7 +31,7 @@ returns c =
     ap (drop c.before.before.before.zeros.result) c.before.before.before.before.before.before.ten.ensures
     ∙ c.before.before.before.zeros.ensures.stands (search rules) in (
       laid_as copied.ensures shown,
-      omega (arith, copied.ensures.ahead, ap length shown, decimal-length 9 a.n (search rules)),
+      omega (arith, copied.ensures.ahead, ap length shown, decimal_length 9 a.n (search rules)),
     )
 
 pub decimal-spec : {M : Type 1} → statement M

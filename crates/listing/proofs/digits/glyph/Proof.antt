@@ -1,7 +1,7 @@
 -- `listing::digits::glyph` meets its contract.
 -- Assumes nothing.
 use borrow.Author.Rules.{rules}
-use Rattle.listing.proofs.Decimals.{glyph-sum}
+use Rattle.listing.proofs.Decimals.{glyph_sum}
 use Rattle.listing.proofs.digits.glyph.Statement.{statement}
 use Rattle.listing.proofs.digits.glyph.Tie as tie
 
@@ -21,7 +21,7 @@ cast-result : tie.Need-overflow-cast-result
 cast-result c = search rules
 
 returns : tie.Need-returns
-returns c = glyph-sum c.args.d (search rules)
+returns c = glyph_sum c.args.d (search rules)
 
 pub glyph-spec : {M : Type 1} → statement M
 glyph-spec =

@@ -5,16 +5,16 @@ use native.Mathlib.Omega.{arith}
 use mathlib.Core.Bool.{and-true}
 use borrow.Author.Tests.{lt-leb, le-leb}
 use Rattle.base.specs.Sizes.{in_range}
-use Rattle.listing.specs.Lines.{values_of, allInRange, printable}
+use Rattle.listing.specs.Lines.{values_of, all_in_range, printable}
 use Rattle.listing.proofs.judge.credit.Statement.{statement}
 use Rattle.listing.proofs.judge.credit.Tie as tie
 
 returns : tie.Need-returns
-unfolding values_of allInRange printable in_range
+unfolding values_of all_in_range printable in_range
 returns c = rw (leb-zero c.before.args.cycle, lt-leb c.before.args.cycle 999999999 (omega arith))
 
 returns-2 : tie.Need-returns-2
-unfolding values_of allInRange printable in_range
+unfolding values_of all_in_range printable in_range
 returns-2 c = rw (
   leb-zero c.before.before.args.cycle,
   le-leb c.before.before.args.cycle 999999999 (omega arith),
@@ -24,7 +24,7 @@ returns-2 c = rw (
 )
 
 returns-3 : tie.Need-returns-3
-unfolding values_of allInRange printable in_range
+unfolding values_of all_in_range printable in_range
 returns-3 c = rw (
   leb-zero c.before.before.args.cycle,
   le-leb c.before.before.args.cycle 999999999 (omega arith),

@@ -6,19 +6,19 @@ use Prim.Native.Nat.{ℕ, ◌-◌, ◌≤◌}
 use native.Mathlib.Omega.{arith}
 use borrow.Author.Tests.{not-true, not-false}
 use borrow.Author.Rules.{rules}
-use Rattle.listing.specs.Lines.{printable, byPort, creditLine}
-use Rattle.listing.proofs.Ports.{printable-more, printable-stops, no-credit, one-credit}
+use Rattle.listing.specs.Lines.{printable, by_port, credit_line}
+use Rattle.listing.proofs.Ports.{printable_more, printable_stops, no_credit, one_credit}
 use Rattle.listing.proofs.judge.credits.Statement.{statement}
 use Rattle.listing.proofs.judge.credits.Tie as tie
 
 abbrev invariant-loop : tie.invariant-loop
-invariant-loop cycle reply i₀ i = (i ≤ 8) × (printable (byPort (creditLine cycle reply) i) ≡ true)
+invariant-loop cycle reply i₀ i = (i ≤ 8) × (printable (by_port (credit_line cycle reply) i) ≡ true)
 
 abbrev decreases-loop : tie.decreases-loop
 decreases-loop cycle reply i₀ i = 8 - i
 
 loop-holds : tie.Need-loop-init invariant-loop decreases-loop
-unfolding byPort printable
+unfolding by_port printable
 loop-holds c = (search rules, refl)
 
 cast-sender : tie.Need-overflow-cast-sender invariant-loop decreases-loop
@@ -47,9 +47,9 @@ unfolding printable
 loop-again c =
     let a = c.before.before.before.before.before.args in
     let i = c.before.before.before.before.loop.i in
-    let here : printable (creditLine a.cycle a.t2 i) ≡ true = ap printable
-    (no-credit a.cycle a.t2 i c.enum_told.given.1) in
-    (omega arith, printable-more (creditLine a.cycle a.t2) i c.before.before.before.before.loop.invariant.1 here)
+    let here : printable (credit_line a.cycle a.t2 i) ≡ true = ap printable
+    (no_credit a.cycle a.t2 i c.enum_told.given.1) in
+    (omega arith, printable_more (credit_line a.cycle a.t2) i c.before.before.before.before.loop.invariant.1 here)
 
 credit-requires : tie.Need-credit-requires invariant-loop decreases-loop
 credit-requires c κs = search rules
@@ -58,11 +58,11 @@ returns : tie.Need-returns invariant-loop decreases-loop
 returns c =
     let a = c.before.before.before.before.before.before.before.before.args in
     let i = c.before.before.before.before.before.before.before.loop.i in
-    let here : printable (creditLine a.cycle a.t2 i) ≡ false =
-    ap printable (one-credit a.cycle a.t2 i c.before.before.before.reached.given.0.0
+    let here : printable (credit_line a.cycle a.t2 i) ≡ false =
+    ap printable (one_credit a.cycle a.t2 i c.before.before.before.reached.given.0.0
     c.before.before.before.reached.given.1) ∙ sym c.before.credit.ensures
     ∙ not-true c.before.credit.result c.if1.true in
-    sym (printable-stops (creditLine a.cycle a.t2) i 8 (omega arith) here)
+    sym (printable_stops (credit_line a.cycle a.t2) i 8 (omega arith) here)
 
 loop-less-2 : tie.Need-loop-smaller-2 invariant-loop decreases-loop
 loop-less-2 c = search rules
@@ -72,17 +72,17 @@ loop-again-2 c =
     let at-loop = c.before.before.before.before.before.before.before in
     let a = c.before.before.before.before.before.before.before.before.args in
     let i = at-loop.loop.i in
-    let here : printable (creditLine a.cycle a.t2 i) ≡ true = ap printable
-    (one-credit a.cycle a.t2 i c.before.before.before.reached.given.0.0
+    let here : printable (credit_line a.cycle a.t2 i) ≡ true = ap printable
+    (one_credit a.cycle a.t2 i c.before.before.before.reached.given.0.0
     c.before.before.before.reached.given.1) ∙ sym c.before.credit.ensures
     ∙ not-false c.before.credit.result c.if1.false in
-    (omega arith, printable-more (creditLine a.cycle a.t2) i at-loop.loop.invariant.1 here)
+    (omega arith, printable_more (credit_line a.cycle a.t2) i at-loop.loop.invariant.1 here)
 
 returns-2 : tie.Need-returns-2 invariant-loop decreases-loop
 returns-2 c =
     let a = c.before.before.args in
     let all : c.before.loop.i ≡ 8 = omega arith in
-    sym (subst (λ (n : ℕ). printable (byPort (creditLine a.cycle a.t2) n) ≡ true) all c.before.loop.invariant.1)
+    sym (subst (λ (n : ℕ). printable (by_port (credit_line a.cycle a.t2) n) ≡ true) all c.before.loop.invariant.1)
 
 pub credits-spec : {M : Type 1} → statement M
 credits-spec =

@@ -5,7 +5,7 @@ use native.Mathlib.Omega.{arith}
 use mathlib.Core.Bool.{and-true}
 use borrow.Author.Tests.{lt-leb, le-leb}
 use Rattle.base.specs.Sizes.{in_range}
-use Rattle.listing.specs.Lines.{values_of, allInRange, printable}
+use Rattle.listing.specs.Lines.{values_of, all_in_range, printable}
 use Rattle.listing.proofs.judge.flit.Statement.{statement}
 use Rattle.listing.proofs.judge.flit.Tie as tie
 
@@ -29,11 +29,11 @@ abbrev before-struct-known5 : tie.After-struct-known5 → tie.Start
 before-struct-known5 c = before-else3 c.before.before.before.before.before.before.before
 
 returns : tie.Need-returns
-unfolding values_of allInRange printable in_range
+unfolding values_of all_in_range printable in_range
 returns c = rw (leb-zero c.before.args.cycle, lt-leb c.before.args.cycle 999999999 (omega arith))
 
 returns-2 : tie.Need-returns-2
-unfolding values_of allInRange printable in_range
+unfolding values_of all_in_range printable in_range
 returns-2 c = rw (
   leb-zero c.before.before.args.cycle,
   le-leb c.before.before.args.cycle 999999999 (omega arith),
@@ -43,7 +43,7 @@ returns-2 c = rw (
 )
 
 returns-3 : tie.Need-returns-3
-unfolding values_of allInRange printable in_range
+unfolding values_of all_in_range printable in_range
 returns-3 c =
     let start = before-then3 c in
     rw (
@@ -57,7 +57,7 @@ returns-3 c =
     )
 
 returns-4 : tie.Need-returns-4
-unfolding values_of allInRange printable in_range
+unfolding values_of all_in_range printable in_range
 returns-4 c =
     let start = before-then4 c in
     rw (
@@ -74,7 +74,7 @@ returns-4 c =
     )
 
 returns-5 : tie.Need-returns-5
-unfolding values_of allInRange printable in_range
+unfolding values_of all_in_range printable in_range
 returns-5 c =
     let start = before-then5 c in
     rw (
@@ -94,7 +94,7 @@ returns-5 c =
     )
 
 returns-6 : tie.Need-returns-6
-unfolding values_of allInRange printable in_range
+unfolding values_of all_in_range printable in_range
 returns-6 c =
     let start = before-then6 c in
     rw (
@@ -115,7 +115,7 @@ returns-6 c =
     )
 
 returns-7 : tie.Need-returns-7
-unfolding values_of allInRange printable in_range
+unfolding values_of all_in_range printable in_range
 returns-7 c =
     let start = before-struct-known5 c in
     rw (

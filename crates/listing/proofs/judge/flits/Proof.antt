@@ -6,19 +6,19 @@ use Prim.Native.Nat.{ℕ, ◌-◌, ◌≤◌}
 use native.Mathlib.Omega.{arith}
 use borrow.Author.Tests.{not-true, not-false}
 use borrow.Author.Rules.{rules}
-use Rattle.listing.specs.Lines.{printable, byPort, flitLine}
-use Rattle.listing.proofs.Ports.{printable-more, printable-stops, no-flit, one-flit}
+use Rattle.listing.specs.Lines.{printable, by_port, flit_line}
+use Rattle.listing.proofs.Ports.{printable_more, printable_stops, no_flit, one_flit}
 use Rattle.listing.proofs.judge.flits.Statement.{statement}
 use Rattle.listing.proofs.judge.flits.Tie as tie
 
 abbrev invariant-loop : tie.invariant-loop
-invariant-loop cycle reply i₀ i = (i ≤ 8) × (printable (byPort (flitLine cycle reply) i) ≡ true)
+invariant-loop cycle reply i₀ i = (i ≤ 8) × (printable (by_port (flit_line cycle reply) i) ≡ true)
 
 abbrev decreases-loop : tie.decreases-loop
 decreases-loop cycle reply i₀ i = 8 - i
 
 loop-holds : tie.Need-loop-init invariant-loop decreases-loop
-unfolding byPort printable
+unfolding by_port printable
 loop-holds c = (search rules, refl)
 
 cast-output : tie.Need-overflow-cast-output invariant-loop decreases-loop
@@ -47,8 +47,8 @@ unfolding printable
 loop-again c =
     let a = c.before.before.before.before.before.args in
     let i = c.before.before.before.before.loop.i in
-    let here : printable (flitLine a.cycle a.t2 i) ≡ true = ap printable (no-flit a.cycle a.t2 i c.enum_told.given.1) in
-    (omega arith, printable-more (flitLine a.cycle a.t2) i c.before.before.before.before.loop.invariant.1 here)
+    let here : printable (flit_line a.cycle a.t2 i) ≡ true = ap printable (no_flit a.cycle a.t2 i c.enum_told.given.1) in
+    (omega arith, printable_more (flit_line a.cycle a.t2) i c.before.before.before.before.loop.invariant.1 here)
 
 flit-requires : tie.Need-flit-requires invariant-loop decreases-loop
 flit-requires c κs = search rules
@@ -57,11 +57,11 @@ returns : tie.Need-returns invariant-loop decreases-loop
 returns c =
     let a = c.before.before.before.before.before.before.before.before.args in
     let i = c.before.before.before.before.before.before.before.loop.i in
-    let here : printable (flitLine a.cycle a.t2 i) ≡ false =
-    ap printable (one-flit a.cycle a.t2 i c.before.before.before.left.given.0.0
+    let here : printable (flit_line a.cycle a.t2 i) ≡ false =
+    ap printable (one_flit a.cycle a.t2 i c.before.before.before.left.given.0.0
     c.before.before.before.left.given.1) ∙ sym c.before.flit.ensures
     ∙ not-true c.before.flit.result c.if1.true in
-    sym (printable-stops (flitLine a.cycle a.t2) i 8 (omega arith) here)
+    sym (printable_stops (flit_line a.cycle a.t2) i 8 (omega arith) here)
 
 loop-less-2 : tie.Need-loop-smaller-2 invariant-loop decreases-loop
 loop-less-2 c = search rules
@@ -71,16 +71,16 @@ loop-again-2 c =
     let at-loop = c.before.before.before.before.before.before.before in
     let a = c.before.before.before.before.before.before.before.before.args in
     let i = at-loop.loop.i in
-    let here : printable (flitLine a.cycle a.t2 i) ≡ true = ap printable
-    (one-flit a.cycle a.t2 i c.before.before.before.left.given.0.0 c.before.before.before.left.given.1)
+    let here : printable (flit_line a.cycle a.t2 i) ≡ true = ap printable
+    (one_flit a.cycle a.t2 i c.before.before.before.left.given.0.0 c.before.before.before.left.given.1)
     ∙ sym c.before.flit.ensures ∙ not-false c.before.flit.result c.if1.false in
-    (omega arith, printable-more (flitLine a.cycle a.t2) i at-loop.loop.invariant.1 here)
+    (omega arith, printable_more (flit_line a.cycle a.t2) i at-loop.loop.invariant.1 here)
 
 returns-2 : tie.Need-returns-2 invariant-loop decreases-loop
 returns-2 c =
     let a = c.before.before.args in
     let all : c.before.loop.i ≡ 8 = omega arith in
-    sym (subst (λ (n : ℕ). printable (byPort (flitLine a.cycle a.t2) n) ≡ true) all c.before.loop.invariant.1)
+    sym (subst (λ (n : ℕ). printable (by_port (flit_line a.cycle a.t2) n) ≡ true) all c.before.loop.invariant.1)
 
 pub flits-spec : {M : Type 1} → statement M
 flits-spec =

@@ -5,20 +5,20 @@ use native.Mathlib.Omega.{arith}
 use mathlib.Core.Bool.{and-true}
 use borrow.Author.Tests.{lt-leb, le-leb}
 use Rattle.base.specs.Sizes.{in_range}
-use Rattle.listing.specs.Lines.{values_of, allInRange, printable}
+use Rattle.listing.specs.Lines.{values_of, all_in_range, printable}
 use Rattle.listing.proofs.judge.refusal.Statement.{statement}
 use Rattle.listing.proofs.judge.refusal.Tie as tie
 
 returns : tie.Need-returns
-unfolding values_of allInRange printable in_range
+unfolding values_of all_in_range printable in_range
 returns c = rw (lt-leb 1 c.before.args.number (omega arith))
 
 returns-2 : tie.Need-returns-2
-unfolding values_of allInRange printable in_range
+unfolding values_of all_in_range printable in_range
 returns-2 c = rw (le-leb 1 c.before.before.args.number (omega arith), lt-leb c.before.before.args.number 10 (omega arith))
 
 returns-3 : tie.Need-returns-3
-unfolding values_of allInRange printable in_range
+unfolding values_of all_in_range printable in_range
 returns-3 c = rw (
   le-leb 1 c.before.before.before.args.number (omega arith),
   le-leb c.before.before.before.args.number 10
@@ -29,7 +29,7 @@ returns-3 c = rw (
 )
 
 returns-4 : tie.Need-returns-4
-unfolding values_of allInRange printable in_range
+unfolding values_of all_in_range printable in_range
 returns-4 c = rw (
   le-leb 1 c.before.before.before.args.number (omega arith),
   le-leb c.before.before.before.args.number 10

@@ -6,15 +6,15 @@ use native.Mathlib.Omega.{arith}
 use lib.ListN.{length}
 use borrow.Author.Rules.{rules}
 use Rattle.listing.specs.Inside.{Laid}
-use Rattle.listing.specs.Lines.{credit, text, printable, byPort, creditLine}
-use Rattle.listing.proofs.Laying.{ports-none, ports-same, ports-line}
-use Rattle.listing.proofs.Ports.{printable-at, no-credit, one-credit}
+use Rattle.listing.specs.Lines.{credit, text, printable, by_port, credit_line}
+use Rattle.listing.proofs.Laying.{ports_none, ports_same, ports_line}
+use Rattle.listing.proofs.Ports.{printable_at, no_credit, one_credit}
 use Rattle.listing.proofs.lines.credits.Statement.{statement}
 use Rattle.listing.proofs.lines.credits.Tie as tie
 
 abbrev invariant-loop : tie.invariant-loop
 invariant-loop out₀ cycle digits zeros reply at₀ i₀ out at i = (i ≤ 8) × (at ≤ 16 * i) × (length out ≡ length out₀)
-    × Laid out₀ 0 (text (byPort (creditLine cycle reply) i)) out at
+    × Laid out₀ 0 (text (by_port (credit_line cycle reply) i)) out at
 
 abbrev decreases-loop : tie.decreases-loop
 decreases-loop out₀ cycle digits zeros reply at₀ i₀ out at i = 8 - i
@@ -37,7 +37,7 @@ loop-holds c = (
   search rules,
   search rules,
   refl,
-  ports-none (creditLine c.before.args.cycle c.before.args.t5)
+  ports_none (credit_line c.before.args.cycle c.before.args.t5)
       c.before.args.out.now 0,
 )
 
@@ -71,8 +71,8 @@ loop-again c =
       omega arith,
       omega arith,
       turn.inv.2,
-      ports-same (creditLine a.cycle a.t5) turn.i
-          (no-credit a.cycle a.t5 turn.i c.enum_told.given.1) turn.inv.3,
+      ports_same (credit_line a.cycle a.t5) turn.i
+          (no_credit a.cycle a.t5 turn.i c.enum_told.given.1) turn.inv.3,
     )
 
 credit-requires : tie.Need-credit-requires invariant-loop decreases-loop
@@ -83,8 +83,8 @@ credit-requires c κs =
     let p = start.pre in
     let turn = at-loop.loop in
     let found = c.before.before.reached.given in (
-      sym (ap printable (one-credit a.cycle a.t5 turn.i found.0.0 found.1))
-          ∙ printable-at (creditLine a.cycle a.t5) turn.i 8 (omega arith) p.0,
+      sym (ap printable (one_credit a.cycle a.t5 turn.i found.0.0 found.1))
+          ∙ printable_at (credit_line a.cycle a.t5) turn.i 8 (omega arith) p.0,
       p.1,
       omega arith,
     )
@@ -104,8 +104,8 @@ loop-again-2 c =
       omega arith,
       omega arith,
       wrote.auto.0 ∙ turn.inv.2,
-      ports-line (creditLine a.cycle a.t5) turn.i
-          (credit a.cycle turn.i found.0.0) (one-credit a.cycle a.t5 turn.i found.0.0 found.1) turn.inv.3
+      ports_line (credit_line a.cycle a.t5) turn.i
+          (credit a.cycle turn.i found.0.0) (one_credit a.cycle a.t5 turn.i found.0.0 found.1) turn.inv.3
           wrote.ensures.0,
     )
 
@@ -116,7 +116,7 @@ returns : tie.Need-returns invariant-loop decreases-loop
 returns c =
     let a = (before-loop c.before).args in
     let all : c.before.loop.i ≡ 8 = omega arith in (
-      subst (λ (n : ℕ). Laid a.out.now 0 (text (byPort (creditLine a.cycle a.t5) n)) c.before.loop.out
+      subst (λ (n : ℕ). Laid a.out.now 0 (text (by_port (credit_line a.cycle a.t5) n)) c.before.loop.out
           c.before.loop.at) all c.before.loop.invariant.3,
       omega arith,
     )

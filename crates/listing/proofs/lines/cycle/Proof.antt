@@ -6,7 +6,7 @@ use Prim.Native.Nat.{ℕ}
 use native.Mathlib.Omega.{arith}
 use borrow.Author.Rules.{rules}
 use Rattle.listing.specs.Inside.{Spelled}
-use Rattle.listing.proofs.Ports.{cycle-text, cycle-parts}
+use Rattle.listing.proofs.Ports.{cycle_text, cycle_parts}
 use Rattle.listing.proofs.Stores.{laid_as, laid_more}
 use Rattle.listing.proofs.lines.cycle.Statement.{statement}
 use Rattle.listing.proofs.lines.cycle.Tie as tie
@@ -46,7 +46,7 @@ credits-requires c κs =
     let a = start.args in
     let digits = at-ten.ten in
     let zeros = c.before.before.zeros in (
-      (cycle-parts a.cycle a.reply start.pre.0).0,
+      (cycle_parts a.cycle a.reply start.pre.0).0,
       subst (λ (ds : List ℕ). Spelled a.cycle ds zeros.result)
           (sym digits.ensures) zeros.ensures,
       omega arith,
@@ -62,7 +62,7 @@ flits-requires c κs =
     let digits = at-ten.ten in
     let zeros = at-zeros.zeros in
     let wrote = at-credits.credits in (
-      (cycle-parts a.cycle a.reply start.pre.0).1,
+      (cycle_parts a.cycle a.reply start.pre.0).1,
       subst (λ (ds : List ℕ). Spelled a.cycle ds zeros.result)
           (sym digits.ensures) zeros.ensures,
       omega (arith, wrote.kept.0),
@@ -76,7 +76,7 @@ returns c =
     let at-credits = before-digits2 (before-slice-known3 c) in
     let start = start-credits at-credits in
     let a = start.args in
-    laid_as (laid_more at-credits.credits.ensures.0 c.before.before.flits.ensures) (cycle-text a.cycle a.reply)
+    laid_as (laid_more at-credits.credits.ensures.0 c.before.before.flits.ensures) (cycle_text a.cycle a.reply)
 
 pub cycle-spec : {M : Type 1} → statement M
 cycle-spec =

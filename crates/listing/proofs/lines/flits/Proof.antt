@@ -6,15 +6,15 @@ use native.Mathlib.Omega.{arith}
 use lib.ListN.{length}
 use borrow.Author.Rules.{rules}
 use Rattle.listing.specs.Inside.{Laid}
-use Rattle.listing.specs.Lines.{flit, text, printable, byPort, flitLine}
-use Rattle.listing.proofs.Laying.{ports-none, ports-same, ports-line}
-use Rattle.listing.proofs.Ports.{printable-at, no-flit, one-flit}
+use Rattle.listing.specs.Lines.{flit, text, printable, by_port, flit_line}
+use Rattle.listing.proofs.Laying.{ports_none, ports_same, ports_line}
+use Rattle.listing.proofs.Ports.{printable_at, no_flit, one_flit}
 use Rattle.listing.proofs.lines.flits.Statement.{statement}
 use Rattle.listing.proofs.lines.flits.Tie as tie
 
 abbrev invariant-loop : tie.invariant-loop
 invariant-loop out₀ from cycle digits zeros reply at₀ i₀ out at i = (i ≤ 8) × (at ≤ from + 31 * i) × (length out ≡ length out₀)
-    × Laid out₀ from (text (byPort (flitLine cycle reply) i)) out at
+    × Laid out₀ from (text (by_port (flit_line cycle reply) i)) out at
 
 abbrev decreases-loop : tie.decreases-loop
 decreases-loop out₀ from cycle digits zeros reply at₀ i₀ out at i = 8 - i
@@ -37,7 +37,7 @@ loop-holds c = (
   search rules,
   search rules,
   refl,
-  ports-none (flitLine c.before.args.cycle c.before.args.t6)
+  ports_none (flit_line c.before.args.cycle c.before.args.t6)
       c.before.args.out.now c.before.args.from,
 )
 
@@ -71,8 +71,8 @@ loop-again c =
       omega arith,
       omega arith,
       turn.inv.2,
-      ports-same (flitLine a.cycle a.t6) turn.i
-          (no-flit a.cycle a.t6 turn.i c.enum_told.given.1) turn.inv.3,
+      ports_same (flit_line a.cycle a.t6) turn.i
+          (no_flit a.cycle a.t6 turn.i c.enum_told.given.1) turn.inv.3,
     )
 
 flit-requires : tie.Need-flit-requires invariant-loop decreases-loop
@@ -83,8 +83,8 @@ flit-requires c κs =
     let p = start.pre in
     let turn = at-loop.loop in
     let found = c.before.before.left.given in (
-      sym (ap printable (one-flit a.cycle a.t6 turn.i found.0.0 found.1))
-          ∙ printable-at (flitLine a.cycle a.t6) turn.i 8 (omega arith) p.0,
+      sym (ap printable (one_flit a.cycle a.t6 turn.i found.0.0 found.1))
+          ∙ printable_at (flit_line a.cycle a.t6) turn.i 8 (omega arith) p.0,
       p.1,
       omega arith,
     )
@@ -104,8 +104,8 @@ loop-again-2 c =
       omega arith,
       omega arith,
       wrote.auto.0 ∙ turn.inv.2,
-      ports-line (flitLine a.cycle a.t6) turn.i
-          (flit a.cycle turn.i found.0.0) (one-flit a.cycle a.t6 turn.i found.0.0 found.1) turn.inv.3
+      ports_line (flit_line a.cycle a.t6) turn.i
+          (flit a.cycle turn.i found.0.0) (one_flit a.cycle a.t6 turn.i found.0.0 found.1) turn.inv.3
           wrote.ensures.0,
     )
 
@@ -116,7 +116,7 @@ returns : tie.Need-returns invariant-loop decreases-loop
 returns c =
     let a = (before-loop c.before).args in
     let all : c.before.loop.i ≡ 8 = omega arith in
-    subst (λ (n : ℕ). Laid a.out.now a.from (text (byPort (flitLine a.cycle a.t6) n)) c.before.loop.out
+    subst (λ (n : ℕ). Laid a.out.now a.from (text (by_port (flit_line a.cycle a.t6) n)) c.before.loop.out
     c.before.loop.at) all c.before.loop.invariant.3
 
 pub flits-spec : {M : Type 1} → statement M

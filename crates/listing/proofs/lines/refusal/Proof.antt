@@ -8,9 +8,9 @@ use lib.ListN.{length, set, length-set}
 use borrow.Author.Rules.{rules}
 use Rattle.listing.specs.Inside.{Laid}
 use Rattle.listing.specs.Lines.{refusal, print}
-use Rattle.listing.proofs.Bytes.{refusal-bytes}
-use Rattle.listing.proofs.Ranges.{refusal-in}
-use Rattle.listing.proofs.Stores.{stores, laid_as, laid_more, laid-stores, laid-length}
+use Rattle.listing.proofs.Bytes.{refusal_bytes}
+use Rattle.listing.proofs.Ranges.{refusal_in}
+use Rattle.listing.proofs.Stores.{stores, laid_as, laid_more, laid_stores, laid_length}
 use Rattle.listing.proofs.lines.refusal.Statement.{statement}
 use Rattle.listing.proofs.lines.refusal.Tie as tie
 
@@ -21,7 +21,7 @@ slice-write-out-2 : tie.Need-slice-write-out-2
 slice-write-out-2 c = simp length-set (omega arith)
 
 decimal-requires : tie.Need-decimal-requires
-decimal-requires c κs = let bounds = refusal-in c.before.before.args.number c.before.before.args.cycles
+decimal-requires c κs = let bounds = refusal_in c.before.before.args.number c.before.before.args.cycles
     c.before.before.args.place c.before.before.requires.0 in (omega arith, simp length-set (omega arith))
 
 slice-write-out-3 : tie.Need-slice-write-out-3
@@ -36,7 +36,7 @@ add-decimal c = search rules
 decimal-requires-2 : tie.Need-decimal-requires-2
 decimal-requires-2 c κs =
     let start = c.before.before.before.before.before.before in
-    let bounds = refusal-in start.args.number start.args.cycles start.args.place start.requires.0 in
+    let bounds = refusal_in start.args.number start.args.cycles start.args.place start.requires.0 in
     let kept : length c.before.before.before.decimal.new.0
     ≡ length start.args.out.now = c.before.before.before.decimal.auto.0 ∙ simp length-set in
     (omega arith, simp length-set (omega arith))
@@ -52,7 +52,7 @@ slice-write-out-4 c =
 add-out : tie.Need-overflow-add-out
 add-out c =
     let start = c.before.before.before.before.before.before.before.before.before in
-    let bounds = refusal-in start.args.number start.args.cycles start.args.place start.requires.0 in
+    let bounds = refusal_in start.args.number start.args.cycles start.args.place start.requires.0 in
     omega arith
 
 add-out-2 : tie.Need-overflow-add-out-2
@@ -94,14 +94,14 @@ laid c =
     let a = start.args in
     let first = c.before.before.before.before.before.before.decimal in
     let second = c.before.before.decimal2 in
-    laid_as (laid_more (laid-stores a.out.now 0 82 (32 ∷ []))
-    (laid_more first.ensures.0 (laid_more (laid-stores first.new.0 first.result 32 [])
-    (laid_more second.ensures.0 (laid-stores second.new.0 second.result 32 ((48 + a.place) ∷ 10 ∷ []))))))
-    (refusal-bytes a.number a.cycles a.place (refusal-in start.args.number start.args.cycles start.args.place
+    laid_as (laid_more (laid_stores a.out.now 0 82 (32 ∷ []))
+    (laid_more first.ensures.0 (laid_more (laid_stores first.new.0 first.result 32 [])
+    (laid_more second.ensures.0 (laid_stores second.new.0 second.result 32 ((48 + a.place) ∷ 10 ∷ []))))))
+    (refusal_bytes a.number a.cycles a.place (refusal_in start.args.number start.args.cycles start.args.place
     start.requires.0).2)
 
 same_length : tie.Need-same-length
-same_length c = laid-length (laid c)
+same_length c = laid_length (laid c)
 
 returns : tie.Need-returns
 returns c = laid c

@@ -5,8 +5,8 @@ use lib.ListN.{length}
 use borrow.Author.Rules.{rules}
 use Rattle.rules.specs.Intake.{Queues}
 use Rattle.router.proofs.Landing.{store_long}
-use Rattle.router.proofs.SoundFits.{legal-channels}
-use Rattle.router.proofs.WholeCycle.{router-is, reply-is, router-rests, reply-rests}
+use Rattle.router.proofs.SoundFits.{legal_channels}
+use Rattle.router.proofs.WholeCycle.{router_is, reply_is, router-rests, reply-rests}
 use borrow.Author.Rules.{rules}
 use Rattle.router.proofs.acting.act.Statement.{statement}
 use Rattle.router.proofs.acting.act.Tie as tie
@@ -142,7 +142,7 @@ asking-requires : tie.Need-asking-requires
 asking-requires c κs =
     let at-land = land-take-offers c.before in
     let start = start-land at-land in (
-      legal-channels start.pre.0,
+      legal_channels start.pre.0,
       ap (λ (q : Queues). length q.store) at-land.land.ensures ∙ store_long _ _ _
           ∙ start.pre.4,
     )
@@ -161,7 +161,7 @@ move-on-requires : tie.Need-move-on-requires
 move-on-requires c κs = ((start-land (land-bind c)).requires.0.ports.1, (start-land (land-bind c)).requires.0.vcs.1)
 
 ready-requires : tie.Need-ready-requires
-ready-requires c κs = legal-channels (start-land (land-move-on c.before.before)).requires.0
+ready-requires c κs = legal_channels (start-land (land-move-on c.before.before)).requires.0
 
 -- nobody is ready
 returns : tie.Need-returns
@@ -237,7 +237,7 @@ returns-2 c =
     let at-report = before-advance-home at-advance-home in
     let at-land = before-advance-wire at-advance-wire in
     let start = start-report at-report in (
-      router-is start.args.config start.pre.0.ports.1 start.args.parts start.args.part.now start.args.store.now
+      router_is start.args.config start.pre.0.ports.1 start.args.parts start.args.part.now start.args.store.now
           start.args.wire.now start.args.home.now _ _ _ _ _ _ _ at-advance-home.advance-home.ensures
           at-pay-outputs.pay-outputs.ensures at-land.land.ensures at-advance-wire.advance-wire.ensures
           at-take-offers.take-offers.ensures _ at-grants.grants.result _ _ _ at-asking.asking.ensures
@@ -245,7 +245,7 @@ returns-2 c =
           at-pick-outputs.pick-outputs.result at-table-of.table_of.result _ _ _ at_ready.ready.ensures
           at-pick-inputs.pick-inputs.ensures at-table-of.table_of.ensures.0 at-pick-outputs.pick-outputs.ensures
           at-move-on2.move-on2.ensures at-move-on3.move-on3.ensures at-leave.leave.ensures,
-      reply-is start.args.config
+      reply_is start.args.config
           start.pre.0.ports.1 start.args.parts start.args.part.now start.args.store.now start.args.wire.now
           start.args.home.now _ _ _ _ _ _ _ at-advance-home.advance-home.ensures at-pay-outputs.pay-outputs.ensures
           at-land.land.ensures at-advance-wire.advance-wire.ensures at-take-offers.take-offers.ensures _

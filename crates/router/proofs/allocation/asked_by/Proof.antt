@@ -6,8 +6,8 @@ use lib.Dec.{eqb}
 use borrow.Author.Tests.{not-true, not-false}
 use borrow.Author.Rules.{rules}
 use Rattle.base.specs.declared.flit.Flit.{Flit}
-use Rattle.base.specs.Flit.{kind_of, destinationOf, startsKind}
-use Rattle.router.proofs.Asking.{asks-bound, asks-empty, asks-inside, asks-front}
+use Rattle.base.specs.Flit.{kind_of, destination_of, starts_kind}
+use Rattle.router.proofs.Asking.{asks_bound, asks_empty, asks-inside, asks-front}
 use Rattle.router.proofs.allocation.asked_by.Statement.{statement}
 use Rattle.router.proofs.allocation.asked_by.Tie as tie
 
@@ -37,12 +37,12 @@ returns : tie.Need-returns
 returns c =
     let a = c.before.before.args in
     let e = c.enum-told2.given in
-    asks-bound a.input.binding a.store.now a.x a.input.queued e.0.0 e.1
+    asks_bound a.input.binding a.store.now a.x a.input.queued e.0.0 e.1
 
 returns-2 : tie.Need-returns-2
 returns-2 c =
     let a = (before-enum-told c.before.before).args in
-    asks-empty a.input.binding a.store.now a.x a.input.queued c.if1.true
+    asks_empty a.input.binding a.store.now a.x a.input.queued c.if1.true
 
 returns-3 : tie.Need-returns-3
 returns-3 c =
@@ -51,8 +51,8 @@ returns-3 c =
     let start = start-else1 at-else1 in
     let a = start.args in
     let p = start.pre in
-    let starting = ap (λ (f : Flit). startsKind (kind_of f)) (sym at_front.front.ensures)
-    ∙ ap startsKind (sym c.before.before.kind.ensures) ∙ sym c.before.starts.ensures in
+    let starting = ap (λ (f : Flit). starts_kind (kind_of f)) (sym at_front.front.ensures)
+    ∙ ap starts_kind (sym c.before.before.kind.ensures) ∙ sym c.before.starts.ensures in
     asks-inside a.input.binding a.store.now a.x a.input.queued p.0 p.1 at-else1.if1.left
     (starting ∙ not-true c.before.starts.result c.if2.true)
 
@@ -66,9 +66,9 @@ returns-4 c =
     let start = before-enum-told at-enum-told in
     let a = start.args in
     let p = start.pre in
-    let starting = ap (λ (f : Flit). startsKind (kind_of f)) (sym at_front.front.ensures)
-    ∙ ap startsKind (sym at-kind.kind.ensures) ∙ sym at-starts.starts.ensures in
-    λ o h. ap (λ (d : ℕ). eqb d o) (c.wide.ensures.0 ∙ c.before.destination.ensures ∙ ap destinationOf at_front.front.ensures)
+    let starting = ap (λ (f : Flit). starts_kind (kind_of f)) (sym at_front.front.ensures)
+    ∙ ap starts_kind (sym at-kind.kind.ensures) ∙ sym at-starts.starts.ensures in
+    λ o h. ap (λ (d : ℕ). eqb d o) (c.wide.ensures.0 ∙ c.before.destination.ensures ∙ ap destination_of at_front.front.ensures)
     ∙ asks-front a.input.binding a.store.now a.x a.input.queued p.0 p.1 at-else1.if1.left
     at-enum-told.enum_told.given.1 (starting ∙ not-false at-starts.starts.result c.before.before.if2.false) o
 

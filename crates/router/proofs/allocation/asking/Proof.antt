@@ -4,7 +4,7 @@ use mathlib.Core.Path.{◌≡◌, ap, ◌∙◌}
 use Prim.Native.Nat.{◌*◌, ◌-◌, ◌≤◌}
 use native.Mathlib.Omega.{arith}
 use borrow.Author.Rules.{rules}
-use Rattle.router.proofs.Asking.{askers, askers-none, askers-same, askers-more}
+use Rattle.router.proofs.Asking.{askers, askers_none, askers_same, askers_more}
 use Rattle.router.proofs.allocation.asking.Statement.{statement}
 use Rattle.router.proofs.allocation.asking.Tie as tie
 
@@ -15,7 +15,7 @@ abbrev decreases-loop : tie.decreases-loop
 decreases-loop config store inputs sets₀ next₀ sets next = config.ports * config.vcs - next
 
 loop-holds : tie.Need-loop-init invariant-loop decreases-loop
-loop-holds c = (search rules, askers-none c.args.t2 c.args.store.now)
+loop-holds c = (search rules, askers_none c.args.t2 c.args.store.now)
 
 mul-if1 : tie.Need-overflow-mul-if1 invariant-loop decreases-loop
 mul-if1 c =
@@ -27,7 +27,7 @@ loop-again c =
     let l = c.before.before.before.before.before.before.loop in
     let a = c.before.before.before.before.before.before.before.args in (
       search rules,
-      askers-same a.t2 a.store.now l.next c.before.asked_by.result c.before.asked_by.ensures l.sets l.invariant.1
+      askers_same a.t2 a.store.now l.next c.before.asked_by.result c.before.asked_by.ensures l.sets l.invariant.1
           c.if2.true,
     )
 
@@ -36,7 +36,7 @@ loop-again-2 c =
     let l = c.before.before.before.before.before.before.loop in
     let a = c.before.before.before.before.before.before.before.args in (
       search rules,
-      askers-more a.t2 a.store.now l.next c.before.asked_by.result c.before.asked_by.ensures l.sets l.invariant.1
+      askers_more a.t2 a.store.now l.next c.before.asked_by.result c.before.asked_by.ensures l.sets l.invariant.1
           (search rules) c.if2.false,
     )
 

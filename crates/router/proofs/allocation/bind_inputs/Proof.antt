@@ -6,19 +6,19 @@ use native.Mathlib.Omega.{arith}
 use lib.ListN.{length, get_or, set}
 use borrow.Author.Rules.{rules}
 use Rattle.state.specs.declared.InputVc.{InputVc}
-use Rattle.state.specs.Fresh.{freshInput}
-use Rattle.state.proofs.Exact.{length-any}
-use Rattle.rules.specs.Ports.{overPorts}
-use Rattle.rules.specs.Allocation.{bindTo}
-use Rattle.rules.proofs.Folds.{over_none, over-again}
-use Rattle.router.specs.Grants.{inputsBound}
-use Rattle.router.proofs.Binding.{inputTurn, inputs_long, input_none, input-some, input-out, recordAt}
+use Rattle.state.specs.Fresh.{fresh_input}
+use Rattle.state.proofs.Exact.{length_any}
+use Rattle.rules.specs.Ports.{over_ports}
+use Rattle.rules.specs.Allocation.{bind_to}
+use Rattle.rules.proofs.Folds.{over_none, over_again}
+use Rattle.router.specs.Grants.{inputs_bound}
+use Rattle.router.proofs.Binding.{input_turn, inputs_long, input_none, input_some, input_out, record_at}
 use Rattle.router.proofs.Numbers.{fewer, more}
 use Rattle.router.proofs.allocation.bind_inputs.Statement.{statement}
 use Rattle.router.proofs.allocation.bind_inputs.Tie as tie
 
 abbrev invariant-loop : tie.invariant-loop
-invariant-loop config made inputs₀ next₀ inputs next = (next ≤ config.ports) × (inputs ≡ overPorts next (inputTurn made) inputs₀)
+invariant-loop config made inputs₀ next₀ inputs next = (next ≤ config.ports) × (inputs ≡ over_ports next (input_turn made) inputs₀)
 
 abbrev decreases-loop : tie.decreases-loop
 decreases-loop config made inputs₀ next₀ inputs next = config.ports - next
@@ -49,7 +49,7 @@ abbrev then1-bound : tie.After-bound invariant-loop decreases-loop → tie.Then1
 then1-bound c = then1-wide (before-bound c)
 
 loop-holds : tie.Need-loop-init invariant-loop decreases-loop
-loop-holds c = (search rules, over_none (inputTurn c.args.t3) c.args.before)
+loop-holds c = (search rules, over_none (input_turn c.args.t3) c.args.before)
 
 loop-again : tie.Need-loop-preserved invariant-loop decreases-loop
 loop-again c =
@@ -59,14 +59,14 @@ loop-again c =
     let l = at-loop.loop in
     let a = start.args in (
       more start.args.config.ports at-loop.loop.next at-then1.if1.taken,
-      over-again l.next (inputTurn a.t3)
-          a.before l.inputs l.inputs l.inv.1 (input_none (recordAt a.t3 l.next) l.next l.inputs
+      over_again l.next (input_turn a.t3)
+          a.before l.inputs l.inputs l.inv.1 (input_none (record_at a.t3 l.next) l.next l.inputs
           c.if2.true),
     )
 
 -- the array that it starts with has its length
 given : (c : tie.Start invariant-loop decreases-loop) → length c.args.before ≡ 32
-given c = search (rules, length-any)
+given c = search (rules, length_any)
 
 loop-again-2 : tie.Need-loop-preserved-2 invariant-loop decreases-loop
 loop-again-2 c =
@@ -76,12 +76,12 @@ loop-again-2 c =
     let start = before-loop at-loop in
     let l = at-loop.loop in
     let a = start.args in
-    let g = recordAt a.t3 l.next in
+    let g = record_at a.t3 l.next in
     let long : length l.inputs ≡ 32 = ap length l.inv.1 ∙ inputs_long a.t3 a.before l.next ∙ given start in
     let far : length l.inputs ≤ g.requester - 1 = let t = c.if3.true in rw (long, sym c.before.wide.ensures.0) t in (
       more start.args.config.ports at-loop.loop.next at-then1.if1.taken,
-      over-again l.next (inputTurn a.t3)
-          a.before l.inputs l.inputs l.inv.1 (input-out g l.next l.inputs at-else2.if2.left far),
+      over_again l.next (input_turn a.t3)
+          a.before l.inputs l.inputs l.inv.1 (input_out g l.next l.inputs at-else2.if2.left far),
     )
 
 loop-again-3 : tie.Need-loop-preserved-3 invariant-loop decreases-loop
@@ -93,22 +93,22 @@ loop-again-3 c =
     let start = before-loop at-loop in
     let l = at-loop.loop in
     let a = start.args in
-    let g = recordAt a.t3 l.next in
+    let g = record_at a.t3 l.next in
     let made = ap (λ (y : InputVc). set l.inputs at_wide.wide.result y) c.bound.ensures
-    ∙ ap (λ (x : ℕ). set l.inputs x (bindTo l.next g.vc (get_or l.inputs x (freshInput 0))))
+    ∙ ap (λ (x : ℕ). set l.inputs x (bind_to l.next g.vc (get_or l.inputs x (fresh_input 0))))
     at_wide.wide.ensures.0 in (
       more start.args.config.ports at-loop.loop.next at-then1.if1.taken,
-      over-again l.next (inputTurn a.t3)
-          a.before l.inputs _ l.inv.1 (made ∙ input-some g l.next l.inputs at-else2.if2.left),
+      over_again l.next (input_turn a.t3)
+          a.before l.inputs _ l.inv.1 (made ∙ input_some g l.next l.inputs at-else2.if2.left),
     )
 
 returns : tie.Need-returns invariant-loop decreases-loop
-unfolding inputsBound
+unfolding inputs_bound
 returns c =
     let l = c.before.before.loop in
     let a = (before-loop c.before.before).args in
     let e : l.next ≡ a.config.ports = omega arith in
-    l.invariant.1 ∙ ap (λ (n : ℕ). overPorts n (inputTurn a.t3) a.before) e
+    l.invariant.1 ∙ ap (λ (n : ℕ). over_ports n (input_turn a.t3) a.before) e
 
 add-next : tie.Need-overflow-add-next invariant-loop decreases-loop
 add-next c =

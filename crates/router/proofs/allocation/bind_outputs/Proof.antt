@@ -7,20 +7,20 @@ use lib.ListN.{length, get_or, set}
 use borrow.Author.Rules.{rules}
 use Rattle.state.specs.declared.InVc.{InVc}
 use Rattle.state.specs.declared.OutputVc.{OutputVc}
-use Rattle.state.specs.Views.{channelNumber}
-use Rattle.state.specs.Fresh.{freshOutput}
-use Rattle.state.proofs.Exact.{length-any}
-use Rattle.rules.specs.Ports.{overPorts}
-use Rattle.rules.specs.Allocation.{heldBy}
-use Rattle.rules.proofs.Folds.{over_none, over-again}
-use Rattle.router.specs.Grants.{outputsHeld}
-use Rattle.router.proofs.Binding.{outputTurn, outputs-long, output-none, output-some, output-out, recordAt}
+use Rattle.state.specs.Views.{channel_number}
+use Rattle.state.specs.Fresh.{fresh_output}
+use Rattle.state.proofs.Exact.{length_any}
+use Rattle.rules.specs.Ports.{over_ports}
+use Rattle.rules.specs.Allocation.{held_by}
+use Rattle.rules.proofs.Folds.{over_none, over_again}
+use Rattle.router.specs.Grants.{outputs_held}
+use Rattle.router.proofs.Binding.{output_turn, outputs_long, output_none, output_some, output_out, record_at}
 use Rattle.router.proofs.Numbers.{fewer, more}
 use Rattle.router.proofs.allocation.bind_outputs.Statement.{statement}
 use Rattle.router.proofs.allocation.bind_outputs.Tie as tie
 
 abbrev invariant-loop : tie.invariant-loop
-invariant-loop config made outputs₀ next₀ outputs next = (next ≤ config.ports) × (outputs ≡ overPorts next (outputTurn config made) outputs₀)
+invariant-loop config made outputs₀ next₀ outputs next = (next ≤ config.ports) × (outputs ≡ over_ports next (output_turn config made) outputs₀)
 
 abbrev decreases-loop : tie.decreases-loop
 decreases-loop config made outputs₀ next₀ outputs next = config.ports - next
@@ -57,7 +57,7 @@ abbrev wide-held : tie.After-held invariant-loop decreases-loop → tie.After-wi
 wide-held c = wide-else3 (before-held c)
 
 loop-holds : tie.Need-loop-init invariant-loop decreases-loop
-loop-holds c = (search rules, over_none (outputTurn c.args.config c.args.t3) c.args.before)
+loop-holds c = (search rules, over_none (output_turn c.args.config c.args.t3) c.args.before)
 
 loop-again : tie.Need-loop-preserved invariant-loop decreases-loop
 loop-again c =
@@ -67,14 +67,14 @@ loop-again c =
     let l = at-loop.loop in
     let a = start.args in (
       more start.args.config.ports at-loop.loop.next at-then1.if1.taken,
-      over-again l.next
-          (outputTurn a.config a.t3) a.before l.outputs l.outputs l.inv.1
-          (output-none a.config (recordAt a.t3 l.next) l.next l.outputs c.if2.true),
+      over_again l.next
+          (output_turn a.config a.t3) a.before l.outputs l.outputs l.inv.1
+          (output_none a.config (record_at a.t3 l.next) l.next l.outputs c.if2.true),
     )
 
 -- the array that it starts with has its length
 given : (c : tie.Start invariant-loop decreases-loop) → length c.args.before ≡ 32
-given c = search (rules, length-any)
+given c = search (rules, length_any)
 
 loop-again-2 : tie.Need-loop-preserved-2 invariant-loop decreases-loop
 loop-again-2 c =
@@ -84,16 +84,16 @@ loop-again-2 c =
     let start = before-loop at-loop in
     let l = at-loop.loop in
     let a = start.args in
-    let g = recordAt a.t3 l.next in
-    let long : length l.outputs ≡ 32 = ap length l.inv.1 ∙ outputs-long a.config a.t3 a.before l.next
+    let g = record_at a.t3 l.next in
+    let long : length l.outputs ≡ 32 = ap length l.inv.1 ∙ outputs_long a.config a.t3 a.before l.next
     ∙ given start in
-    let e : c.before.number.result ≡ channelNumber a.config l.next g.vc = c.before.number.ensures
-    ∙ ap (channelNumber a.config l.next) c.before.before.wide.ensures.0 in
-    let far : length l.outputs ≤ channelNumber a.config l.next g.vc = let t = c.if3.true in rw (long, sym e) t in (
+    let e : c.before.number.result ≡ channel_number a.config l.next g.vc = c.before.number.ensures
+    ∙ ap (channel_number a.config l.next) c.before.before.wide.ensures.0 in
+    let far : length l.outputs ≤ channel_number a.config l.next g.vc = let t = c.if3.true in rw (long, sym e) t in (
       more start.args.config.ports at-loop.loop.next at-then1.if1.taken,
-      over-again l.next
-          (outputTurn a.config a.t3) a.before l.outputs l.outputs l.inv.1
-          (output-out a.config g l.next l.outputs at-else2.if2.left far),
+      over_again l.next
+          (output_turn a.config a.t3) a.before l.outputs l.outputs l.inv.1
+          (output_out a.config g l.next l.outputs at-else2.if2.left far),
     )
 
 loop-again-3 : tie.Need-loop-preserved-3 invariant-loop decreases-loop
@@ -106,27 +106,27 @@ loop-again-3 c =
     let start = before-loop at-loop in
     let l = at-loop.loop in
     let a = start.args in
-    let g = recordAt a.t3 l.next in
+    let g = record_at a.t3 l.next in
     let n = at-number.number.result in
-    let e : n ≡ channelNumber a.config l.next g.vc = at-number.number.ensures
-    ∙ ap (channelNumber a.config l.next) at_wide.wide.ensures.0 in
+    let e : n ≡ channel_number a.config l.next g.vc = at-number.number.ensures
+    ∙ ap (channel_number a.config l.next) at_wide.wide.ensures.0 in
     let made = ap (λ (y : OutputVc). set l.outputs n y) c.held.ensures
-    ∙ ap (λ (x : InVc). set l.outputs n (heldBy x.input x.vc (get_or l.outputs n (freshOutput 0))))
+    ∙ ap (λ (x : InVc). set l.outputs n (held_by x.input x.vc (get_or l.outputs n (fresh_output 0))))
     c.before.requester.ensures ∙ ap (λ (y : ℕ). set l.outputs y
-    (heldBy ((g.requester - 1) / a.config.vcs) ((g.requester - 1) % a.config.vcs) (get_or l.outputs y (freshOutput 0)))) e in (
+    (held_by ((g.requester - 1) / a.config.vcs) ((g.requester - 1) % a.config.vcs) (get_or l.outputs y (fresh_output 0)))) e in (
       more start.args.config.ports at-loop.loop.next at-then1.if1.taken,
-      over-again l.next
-          (outputTurn a.config a.t3) a.before l.outputs _ l.inv.1
-          (made ∙ output-some a.config g l.next l.outputs at-else2.if2.left),
+      over_again l.next
+          (output_turn a.config a.t3) a.before l.outputs _ l.inv.1
+          (made ∙ output_some a.config g l.next l.outputs at-else2.if2.left),
     )
 
 returns : tie.Need-returns invariant-loop decreases-loop
-unfolding outputsHeld
+unfolding outputs_held
 returns c =
     let l = c.before.before.loop in
     let a = (before-loop c.before.before).args in
     let e : l.next ≡ a.config.ports = omega arith in
-    l.invariant.1 ∙ ap (λ (n : ℕ). overPorts n (outputTurn a.config a.t3) a.before) e
+    l.invariant.1 ∙ ap (λ (n : ℕ). over_ports n (output_turn a.config a.t3) a.before) e
 
 add-next : tie.Need-overflow-add-next invariant-loop decreases-loop
 add-next c =

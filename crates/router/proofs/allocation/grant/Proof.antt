@@ -4,11 +4,11 @@ use Prim.Native.Nat.{◌*◌}
 use native.Mathlib.Omega.{arith}
 use borrow.Author.Rules.{rules}
 use Rattle.base.specs.Bits.{bit}
-use Rattle.arbiter.specs.Arbiter.{ofWide, choice}
+use Rattle.arbiter.specs.Arbiter.{of_wide, choice}
 use Rattle.arbiter.specs.Requests.{asks}
-use Rattle.state.proofs.Made.{channels-fit}
-use Rattle.rules.specs.Allocation.{freeVc}
-use Rattle.router.proofs.Granting.{grant-full, grant-nobody, grant-winner, winner-below}
+use Rattle.state.proofs.Made.{channels_fit}
+use Rattle.rules.specs.Allocation.{lowest_free_vc}
+use Rattle.router.proofs.Granting.{grant_full, grant_nobody, grant_winner, winner_below}
 use Rattle.router.proofs.allocation.grant.Statement.{statement}
 use Rattle.router.proofs.allocation.grant.Tie as tie
 
@@ -16,14 +16,14 @@ returns : tie.Need-returns
 returns c =
     let a = c.before.before.before.args in
     let f = c.before.before.free-vc in
-    let winner = (choice 32 a.config.arbiter (a.config.ports * a.config.vcs) (bit a.set) (ofWide a.arbiter)) in
-    grant-full a.config.vcs f.result (freeVc a.config a.outputs a.o) f.ensures winner c.if1.true
+    let winner = (choice 32 a.config.arbiter (a.config.ports * a.config.vcs) (bit a.set) (of_wide a.arbiter)) in
+    grant_full a.config.vcs f.result (lowest_free_vc a.config a.outputs a.o) f.ensures winner c.if1.true
 
 mul-n : tie.Need-overflow-mul-n
 mul-n c =
     let a = c.before.before.before.before.before.args in
     let p = c.before.before.before.before.before.requires in
-    let l = channels-fit a.config.ports a.config.vcs p.1 p.2 in
+    let l = channels_fit a.config.ports a.config.vcs p.1 p.2 in
     record { fits = omega arith }
 
 returns-2 : tie.Need-returns-2
@@ -31,9 +31,9 @@ unfolding asks
 returns-2 c =
     let a = c.before.before.before.before.before.before.before.before.args in
     let f = c.before.before.before.before.before.before.before.free-vc in
-    let winner = (choice 32 a.config.arbiter (a.config.ports * a.config.vcs) (bit a.set) (ofWide a.arbiter)) in
+    let winner = (choice 32 a.config.arbiter (a.config.ports * a.config.vcs) (bit a.set) (of_wide a.arbiter)) in
     let s = c.before.before.choose in
-    grant-nobody a.config.vcs f.result (freeVc a.config a.outputs a.o) f.ensures s.result winner s.ensures
+    grant_nobody a.config.vcs f.result (lowest_free_vc a.config a.outputs a.o) f.ensures s.result winner s.ensures
     c.enum_told.given.1
     c.before.before.before.before.before.if1.false
 
@@ -45,8 +45,8 @@ add-t11 c =
     let p = start.requires in
     let e = c.before.pick.given in
     let s = c.before.before.before.choose in
-    let few = channels-fit a.config.ports a.config.vcs p.1 p.2 in
-    let w = winner-below a.config.arbiter (a.config.ports * a.config.vcs) a.set (ofWide a.arbiter) s.result e.0.0
+    let few = channels_fit a.config.ports a.config.vcs p.1 p.2 in
+    let w = winner_below a.config.arbiter (a.config.ports * a.config.vcs) a.set (of_wide a.arbiter) s.result e.0.0
     s.ensures e.1 in
     record { fits = omega arith }
 
@@ -58,8 +58,8 @@ cast-t14 c =
     let p = start.requires in
     let e = c.before.pick.given in
     let s = c.before.before.before.choose in
-    let few = channels-fit a.config.ports a.config.vcs p.1 p.2 in
-    let w = winner-below a.config.arbiter (a.config.ports * a.config.vcs) a.set (ofWide a.arbiter) s.result e.0.0
+    let few = channels_fit a.config.ports a.config.vcs p.1 p.2 in
+    let w = winner_below a.config.arbiter (a.config.ports * a.config.vcs) a.set (of_wide a.arbiter) s.result e.0.0
     s.ensures e.1 in
     record { fits = omega arith }
 
@@ -68,10 +68,10 @@ unfolding asks
 returns-3 c =
     let a = c.before.before.before.before.before.before.before.before.before.args in
     let f = c.before.before.before.before.before.before.before.before.free-vc in
-    let winner = (choice 32 a.config.arbiter (a.config.ports * a.config.vcs) (bit a.set) (ofWide a.arbiter)) in
+    let winner = (choice 32 a.config.arbiter (a.config.ports * a.config.vcs) (bit a.set) (of_wide a.arbiter)) in
     let s = c.before.before.before.choose in
     let e = c.before.pick.given in
-    grant-winner a.config.vcs f.result (freeVc a.config a.outputs a.o) f.ensures s.result winner e.0.0
+    grant_winner a.config.vcs f.result (lowest_free_vc a.config a.outputs a.o) f.ensures s.result winner e.0.0
     s.ensures e.1
     c.before.before.before.before.before.before.if1.false
 

@@ -5,15 +5,15 @@ use Prim.Native.Nat.{ℕ, ◌-◌, ◌≤◌, ◌<◌}
 use native.Mathlib.Omega.{arith}
 use lib.ListN.{length, length-set}
 use borrow.Author.Rules.{rules}
-use Rattle.router.specs.Grants.{grantAt}
-use Rattle.router.proofs.Granting.{grantTo, grant-unasked, granted-more}
+use Rattle.router.specs.Grants.{grant_at}
+use Rattle.router.proofs.Granting.{grant_to, grant_unasked, granted_more}
 use Rattle.router.proofs.Numbers.{more}
 use Rattle.router.proofs.allocation.grants.Statement.{statement}
 use Rattle.router.proofs.allocation.grants.Tie as tie
 
 abbrev invariant-loop : tie.invariant-loop
 invariant-loop config outputs vcs sets made₀ o₀ made o =
-    (o ≤ config.ports) × (length made ≡ 8) × ((k : ℕ) → k < o → grantAt made k ≡ grantTo config outputs vcs sets k)
+    (o ≤ config.ports) × (length made ≡ 8) × ((k : ℕ) → k < o → grant_at made k ≡ grant_to config outputs vcs sets k)
 
 abbrev decreases-loop : tie.decreases-loop
 decreases-loop config outputs vcs sets made₀ o₀ made o = config.ports - o
@@ -28,8 +28,8 @@ loop-again c =
     let a = c.before.before.before.before.before.args in (
       more a.config.ports l.o c.before.before.if1.true,
       length-set l.made l.o c.no-grant.result ∙ l.invariant.1,
-      granted-more (grantTo a.config a.outputs a.t3 a.t4) l.made l.o c.no-grant.result (search rules) l.invariant.2
-          (grant-unasked a.config a.outputs a.t3 a.t4 l.o c.no-grant.result c.no-grant.ensures
+      granted_more (grant_to a.config a.outputs a.t3 a.t4) l.made l.o c.no-grant.result (search rules) l.invariant.2
+          (grant_unasked a.config a.outputs a.t3 a.t4 l.o c.no-grant.result c.no-grant.ensures
           c.before.if2.true),
     )
 
@@ -39,7 +39,7 @@ loop-again-2 c =
     let a = c.before.before.before.before.before.before.args in (
       more a.config.ports l.o c.before.before.before.if1.true,
       length-set l.made l.o c.grant.result ∙ l.invariant.1,
-      granted-more (grantTo a.config a.outputs a.t3 a.t4) l.made l.o c.grant.result (search rules) l.invariant.2
+      granted_more (grant_to a.config a.outputs a.t3 a.t4) l.made l.o c.grant.result (search rules) l.invariant.2
           c.grant.ensures,
     )
 

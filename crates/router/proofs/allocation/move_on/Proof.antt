@@ -4,17 +4,17 @@ use mathlib.Core.Path.{◌≡◌, ap, ◌∙◌}
 use Prim.Native.Nat.{ℕ, ◌*◌, ◌-◌, ◌≤◌}
 use native.Mathlib.Omega.{arith}
 use borrow.Author.Rules.{rules}
-use Rattle.state.proofs.Made.{channels-fit}
-use Rattle.rules.specs.Ports.{overPorts}
-use Rattle.rules.specs.Allocation.{wideMoved}
-use Rattle.rules.proofs.Folds.{over_none, over-again}
-use Rattle.router.proofs.Binding.{arbiterTurn, arbiter-none, arbiter-some, recordAt}
+use Rattle.state.proofs.Made.{channels_fit}
+use Rattle.rules.specs.Ports.{over_ports}
+use Rattle.rules.specs.Allocation.{wide_moved}
+use Rattle.rules.proofs.Folds.{over_none, over_again}
+use Rattle.router.proofs.Binding.{arbiter_turn, arbiter_none, arbiter_some, record_at}
 use Rattle.router.proofs.Numbers.{fewer, more}
 use Rattle.router.proofs.allocation.move_on.Statement.{statement}
 use Rattle.router.proofs.allocation.move_on.Tie as tie
 
 abbrev invariant-loop : tie.invariant-loop
-invariant-loop config made n vcs₀ next₀ vcs next = (next ≤ config.ports) × (vcs ≡ overPorts next (arbiterTurn config n made) vcs₀)
+invariant-loop config made n vcs₀ next₀ vcs next = (next ≤ config.ports) × (vcs ≡ over_ports next (arbiter_turn config n made) vcs₀)
 
 abbrev decreases-loop : tie.decreases-loop
 decreases-loop config made n vcs₀ next₀ vcs next = config.ports - next
@@ -39,13 +39,13 @@ mul-n : tie.Need-overflow-mul-n invariant-loop decreases-loop
 mul-n c =
     let a = c.before.before.args in
     let p = c.before.before.requires in
-    let l = channels-fit a.config.ports a.config.vcs p.0 p.1 in
+    let l = channels_fit a.config.ports a.config.vcs p.0 p.1 in
     record { fits = omega arith }
 
 loop-holds : tie.Need-loop-init invariant-loop decreases-loop
 loop-holds c =
     let a = c.before.before.args in
-    (search rules, over_none (arbiterTurn a.config (a.config.ports * a.config.vcs) a.t3) a.before)
+    (search rules, over_none (arbiter_turn a.config (a.config.ports * a.config.vcs) a.t3) a.before)
 
 loop-again : tie.Need-loop-preserved invariant-loop decreases-loop
 loop-again c =
@@ -55,9 +55,9 @@ loop-again c =
     let l = at-loop.loop in
     let a = start.args in (
       more start.args.config.ports at-loop.loop.next at-then1.if1.taken,
-      over-again l.next
-          (arbiterTurn a.config (a.config.ports * a.config.vcs) a.t3) a.before l.vcs l.vcs l.inv.1
-          (arbiter-none a.config.arbiter (a.config.ports * a.config.vcs) (recordAt a.t3 l.next) l.next l.vcs
+      over_again l.next
+          (arbiter_turn a.config (a.config.ports * a.config.vcs) a.t3) a.before l.vcs l.vcs l.inv.1
+          (arbiter_none a.config.arbiter (a.config.ports * a.config.vcs) (record_at a.t3 l.next) l.next l.vcs
           c.if2.true),
     )
 
@@ -70,19 +70,19 @@ loop-again-2 c =
     let l = at-loop.loop in
     let a = start.args in (
       more start.args.config.ports at-loop.loop.next at-then1.if1.taken,
-      over-again l.next
-          (arbiterTurn a.config (a.config.ports * a.config.vcs) a.t3) a.before l.vcs _ l.inv.1
-          (arbiter-some a.config.arbiter (a.config.ports * a.config.vcs) (recordAt a.t3 l.next) l.next l.vcs
+      over_again l.next
+          (arbiter_turn a.config (a.config.ports * a.config.vcs) a.t3) a.before l.vcs _ l.inv.1
+          (arbiter_some a.config.arbiter (a.config.ports * a.config.vcs) (record_at a.t3 l.next) l.next l.vcs
           c.moved.result at-else2.if2.left c.moved.ensures),
     )
 
 returns : tie.Need-returns invariant-loop decreases-loop
-unfolding wideMoved
+unfolding wide_moved
 returns c =
     let l = c.before.before.loop in
     let a = (before-loop c.before.before).args in
     let e : l.next ≡ a.config.ports = omega arith in
-    l.invariant.1 ∙ ap (λ (n : ℕ). overPorts n (arbiterTurn a.config (a.config.ports * a.config.vcs) a.t3) a.before) e
+    l.invariant.1 ∙ ap (λ (n : ℕ). over_ports n (arbiter_turn a.config (a.config.ports * a.config.vcs) a.t3) a.before) e
 
 add-next : tie.Need-overflow-add-next invariant-loop decreases-loop
 add-next c =

@@ -8,10 +8,10 @@ use native.Mathlib.Omega.{arith}
 use lib.ListN.{length}
 use borrow.Author.Rules.{rules}
 use borrow.Author.Tests.{not-true, not-false}
-use Rattle.router.specs.Running.{Writing, block_at, blockTaken, Call, goesOn}
-use Rattle.router.specs.Inside.{GoesOn, Ongoing, writingOf}
-use Rattle.router.proofs.Going.{piece_bytes, block-goes-on}
-use Rattle.router.proofs.Onward.{goes_none, goes_over, goes-full, goes-more, piece_is}
+use Rattle.router.specs.Running.{Writing, block_at, block_taken, Call, going_on}
+use Rattle.router.specs.Inside.{GoesOn, Ongoing, writing_of}
+use Rattle.router.proofs.Going.{piece_bytes, block_goes_on}
+use Rattle.router.proofs.Onward.{goes_none, goes_over, goes_full, goes_more, piece_is}
 use Rattle.router.proofs.Rooms.{full, roomy}
 use Rattle.router.proofs.blocks.blocks.Statement.{statement}
 use Rattle.router.proofs.blocks.blocks.Tie as tie
@@ -19,9 +19,9 @@ use Rattle.router.proofs.blocks.blocks.Tie as tie
 abbrev invariant-loop : tie.invariant-loop
 invariant-loop config part first count store₀ wire₀ home₀ out₀ went₀ from₀ left₀ store wire home out run from left =
     (from ≤ length part)
-    × (goesOn part left (record { used = from; asks = 0; writing = writingOf config run store wire home out })
-    ≡ goesOn part count (record { used = first; asks = 0; writing = writingOf config went₀ store₀ wire₀ home₀ out₀ }))
-    × Ongoing (writingOf config run store wire home out) × (length out ≡ length out₀)
+    × (going_on part left (record { used = from; asks = 0; writing = writing_of config run store wire home out })
+    ≡ going_on part count (record { used = first; asks = 0; writing = writing_of config went₀ store₀ wire₀ home₀ out₀ }))
+    × Ongoing (writing_of config run store wire home out) × (length out ≡ length out₀)
 
 abbrev decreases-loop : tie.decreases-loop
 decreases-loop config part first count store₀ wire₀ home₀ out₀ went₀ from₀ left₀ store wire home out run from left = left
@@ -72,7 +72,7 @@ sofar c =
     record {
       used = c.loop.from;
       asks = 0;
-      writing = writingOf (start_loop c).args.config c.loop.run c.loop.store c.loop.wire c.loop.home c.loop.out;
+      writing = writing_of (start_loop c).args.config c.loop.run c.loop.store c.loop.wire c.loop.home c.loop.out;
     }
 
 loop-holds : tie.Need-loop-init invariant-loop decreases-loop
@@ -88,7 +88,7 @@ returns-2 c =
     let at-else1 = before-has-room c.before in
     let at-loop = loop-else1 at-else1 in
     let start = start_loop at-loop in
-    sym (goes-full start.args.part.now at-loop.loop.left (sofar at-loop) (before-else1 at-else1).loop-test.taken
+    sym (goes_full start.args.part.now at-loop.loop.left (sofar at-loop) (before-else1 at-else1).loop-test.taken
     at-else1.if1.left
     (full _ _ (not-false _ (sym c.before.has_room.ensures ∙ not-true c.before.has_room.result c.if2.true))))
     ∙ at-loop.loop.inv.1
@@ -118,16 +118,16 @@ loop-again c =
     let w = (sofar at-loop).writing in
     let o = at-loop.loop.inv.2 at-else1.if1.left in
     let e = at-block-end.block-end.ensures.0 in
-    let f = c.before.before.block.ensures ∙ ap (λ (block : List ℕ). blockTaken block w)
+    let f = c.before.before.block.ensures ∙ ap (λ (block : List ℕ). block_taken block w)
     (piece_is part at-loop.loop.from at-block-end.block-end.result e) in (
       at-block-end.block-end.ensures.1.0,
-      ap₂ (λ (used : ℕ) (v : Writing). goesOn part (at-loop.loop.left - 1)
-          (record { used = used; asks = 0; writing = v })) e f ∙ goes-more part at-loop.loop.left (sofar at-loop)
+      ap₂ (λ (used : ℕ) (v : Writing). going_on part (at-loop.loop.left - 1)
+          (record { used = used; asks = 0; writing = v })) e f ∙ goes_more part at-loop.loop.left (sofar at-loop)
           at-in-loop.loop-test.taken at-else1.if1.left (roomy _ _ (not-true _
           (sym at-has-room.has_room.ensures ∙ not-false at-has-room.has_room.result at-else2.if2.left)))
           ∙ at-loop.loop.inv.1,
       λ _. subst (λ (v : Writing). GoesOn v × (v.run.place.configured ≡ true)) (sym f)
-          (block-goes-on (block_at part at-loop.loop.from) (piece_bytes 512 at-loop.loop.from part
+          (block_goes_on (block_at part at-loop.loop.from) (piece_bytes 512 at-loop.loop.from part
           (λ i. (at-shared-slice-known.shared-slice-known.given i).fits)) w o.1 o.0),
       (let l = at-loop.loop.inv.3 in search rules),
     )

@@ -9,14 +9,14 @@ use borrow.Author.Rules.{rules}
 use Rattle.base.proofs.Configurations.{Legal}
 use Rattle.state.specs.declared.Router.{Router}
 use Rattle.state.specs.Sound.{sound}
-use Rattle.state.proofs.Exact.{sound-passes}
+use Rattle.state.proofs.Exact.{sound_passes}
 use Rattle.rules.specs.declared.Verdict.{Verdict}
 use Rattle.rules.specs.declared.Verdict.TheVariants.{Accepted}
 use Rattle.rules.specs.Numbers.{first_of}
-use Rattle.rules.proofs.Facts.{sound-lengths, sound-legal}
-use Rattle.router.specs.Whole.{routerOf}
-use Rattle.router.proofs.SoundFits.{credits-fit, queues-fit, output-credits-fit}
-use Rattle.router.proofs.StepLaws.{rest, refused-steps, accepted-steps, accepted-early, accepted-long, rest_gives, after_is, said-is}
+use Rattle.rules.proofs.Facts.{sound_lengths, sound_legal}
+use Rattle.router.specs.Whole.{router_of}
+use Rattle.router.proofs.SoundFits.{credits_fit, queues_fit, output_credits_fit-law}
+use Rattle.router.proofs.StepLaws.{rest, refused_steps, accepted_steps, accepted_early, accepted_long, rest_gives, after_is, said-is}
 use Rattle.router.proofs.cycle.inner_step.Statement.{statement}
 use Rattle.router.proofs.cycle.inner_step.Tie as tie
 
@@ -53,16 +53,16 @@ start-enum-told c = start-judge (before-enum-told c)
 
 -- the router that is handed in, and the part
 abbrev given : tie.Start → Router
-given c = routerOf c.args.config c.args.cycle c.args.before c.args.store.now c.args.wire.now c.args.home.now
+given c = router_of c.args.config c.args.cycle c.args.before c.args.store.now c.args.wire.now c.args.home.now
 
 abbrev bytes : tie.Start → List ℕ
 bytes c = c.args.part.now
 
 passes : (c : tie.Start) → sound (given c) ≡ true
-passes c = sound-passes (given c) c.requires
+passes c = sound_passes (given c) c.requires
 
 legal : (c : tie.Start) → Legal c.args.config
-legal c = sound-legal (given c) c.requires
+legal c = sound_legal (given c) c.requires
 
 -- what the rules after 2 say
 says : (c : tie.After-judge) (v : Verdict) → c.judge.result ≡ v → first_of (rest (given (start-judge c)) (bytes (start-judge c))) ≡ v
@@ -73,7 +73,7 @@ says c v e =
 pay-senders-requires : tie.Need-pay-senders-requires
 pay-senders-requires c κs =
     let start = before-pay-senders-arg c in
-    ((legal start).ports.1, credits-fit (given start) start.pre)
+    ((legal start).ports.1, credits_fit (given start) start.pre)
 
 judge-requires : tie.Need-judge-requires
 judge-requires c κs = (legal (start-pay-senders c)).ports.1
@@ -82,7 +82,7 @@ returns : tie.Need-returns
 returns c =
     let at-judge = before-empty c in
     let start = start-judge at-judge in
-    rw c.empty.ensures (refused-steps (given start) (bytes start) (passes start) c.before.before.verdict.given.0.0
+    rw c.empty.ensures (refused_steps (given start) (bytes start) (passes start) c.before.before.verdict.given.0.0
     (says at-judge _ c.before.before.verdict.given.1))
 
 -- an accepted cycle
@@ -94,12 +94,12 @@ act-requires c κs =
     let at-enum-told = before-act-arg3 c in
     let at-pay-senders = before-judge (before-enum-told at-enum-told) in
     let start = start-pay-senders at-pay-senders in
-    let l = sound-lengths (given start) start.pre in (
+    let l = sound_lengths (given start) start.pre in (
       legal start,
-      accepted-long (given start) (bytes start) (taken at-enum-told),
+      accepted_long (given start) (bytes start) (taken at-enum-told),
       rw at-pay-senders.pay-senders.ensures
-          (queues-fit (given start) start.pre),
-      output-credits-fit (given start) start.pre,
+          (queues_fit (given start) start.pre),
+      output_credits_fit-law (given start) start.pre,
       l.store,
       l.wire,
       l.home,
@@ -109,7 +109,7 @@ add-t27 : tie.Need-overflow-add-t27
 add-t27 c =
     let at-enum-told = before-act-arg3 (before-reply c) in
     let start = start-enum-told at-enum-told in
-    let l = accepted-early (given start) (bytes start) (taken at-enum-told) in
+    let l = accepted_early (given start) (bytes start) (taken at-enum-told) in
     record { fits = omega arith }
 
 returns-2 : tie.Need-returns-2
@@ -117,7 +117,7 @@ returns-2 c =
     let at-enum-told = before-act-arg3 (before-reply c) in
     let at-pay-senders = before-judge (before-enum-told at-enum-told) in
     let start = start-pay-senders at-pay-senders in
-    accepted-steps (given start) (bytes start) (passes start) (taken at-enum-told) _ _
+    accepted_steps (given start) (bytes start) (passes start) (taken at-enum-told) _ _
     (after_is (given start) (bytes start) at-pay-senders.pay-senders.result at-pay-senders.pay-senders.ensures _
     (c.before.before.act.ensures.0 start.args.cycle))
     (said-is (given start) (bytes start) at-pay-senders.pay-senders.result at-pay-senders.pay-senders.ensures _

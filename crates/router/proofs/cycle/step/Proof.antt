@@ -5,9 +5,9 @@ use mathlib.Core.Bool.{true}
 use borrow.Author.Rules.{rules}
 use borrow.Author.Tests.{not-true, not-false}
 use Rattle.state.specs.Sound.{sound}
-use Rattle.state.proofs.Exact.{passed-sound}
-use Rattle.router.proofs.Packing.{parts-sound, parts-step}
-use Rattle.router.proofs.StepLaws.{unsound-steps}
+use Rattle.state.proofs.Exact.{passed_sound}
+use Rattle.router.proofs.Packing.{parts_sound, parts_step}
+use Rattle.router.proofs.StepLaws.{unsound_steps}
 use Rattle.router.proofs.cycle.step.Statement.{statement}
 use Rattle.router.proofs.cycle.step.Tie as tie
 
@@ -32,7 +32,7 @@ tested c = sym c.before.is-sound.ensures ∙ not-false c.before.is-sound.result 
 
 returns : tie.Need-returns
 returns c =
-    rw c.empty.ensures (unsound-steps (before-is-sound c.before.before).args.router
+    rw c.empty.ensures (unsound_steps (before-is-sound c.before.before).args.router
     (before-is-sound c.before.before).args.part.now
     (sym c.before.before.is-sound.ensures ∙ not-true c.before.before.is-sound.result c.before.if1.true))
 
@@ -40,14 +40,14 @@ inner-step-requires : tie.Need-inner-step-requires
 inner-step-requires c κs =
     let at-unpack = c.before.before.before in
     let s = (start-unpack at-unpack).args.router in
-    parts-sound s at-unpack.unpack.result at-unpack.unpack.ensures (passed-sound s (tested (before-unpack at-unpack)))
+    parts_sound s at-unpack.unpack.result at-unpack.unpack.ensures (passed_sound s (tested (before-unpack at-unpack)))
 
 returns-2 : tie.Need-returns-2
 returns-2 c =
     let at-inner-step = before-pack c in
     let at-unpack = before-inner-step at-inner-step in
     let start = start-unpack at-unpack in
-    parts-step start.args.router at-unpack.unpack.result at-unpack.unpack.ensures start.args.part.now _ _ _ _
+    parts_step start.args.router at-unpack.unpack.result at-unpack.unpack.ensures start.args.part.now _ _ _ _
     c.pack.ensures at-inner-step.inner-step.ensures
 
 pub step_spec : {M : Type 1} → statement M

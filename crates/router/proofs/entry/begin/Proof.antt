@@ -7,12 +7,12 @@ use Prim.Native.Nat.{ℕ}
 use native.Mathlib.Omega.{arith}
 use borrow.Author.Rules.{rules}
 use Rattle.trace.specs.declared.judging.Found.{Found}
-use Rattle.trace.specs.Judged.{someCycles, theEnd, no_more, meaning, judged}
+use Rattle.trace.specs.Judged.{some_cycles, the_end, no_more, meaning, judged}
 use Rattle.listing.specs.Lines.{refusal}
 use Rattle.router.specs.Running.{Writing}
-use Rattle.router.proofs.Writes.{place-fits, refusal-fits}
-use Rattle.router.proofs.Taken.{taken_refused, taken-configuration, configuration-first, others-follow}
-use Rattle.router.proofs.Beginning.{built-router, first-refused}
+use Rattle.router.proofs.Writes.{place_fits, refusal_fits}
+use Rattle.router.proofs.Taken.{taken_refused, taken_configuration, configuration_first, others_follow}
+use Rattle.router.proofs.Beginning.{built_router, first_refused}
 use Rattle.router.proofs.entry.begin.Statement.{statement}
 use Rattle.router.proofs.entry.begin.Tie as tie
 
@@ -72,36 +72,36 @@ returns c =
     let at-judge = before-found at-found in
     let start = before-judge at-judge in
     let e = outcome at-judge _ at-found.found.given.1 in
-    built-router (given start) at-judge.judge.result.place c.before.fresh.result _ c.before.fresh.ensures
-    (configuration-first (bytes start) (given start) _ _ e).1 ∙ taken-configuration (bytes start) (given start) _ _ e
+    built_router (given start) at-judge.judge.result.place c.before.fresh.result _ c.before.fresh.ensures
+    (configuration_first (bytes start) (given start) _ _ e).1 ∙ taken_configuration (bytes start) (given start) _ _ e
 
 returns-2 : tie.Need-returns-2
 returns-2 c =
     let at-judge = before-enum-told c in
     let start = before-judge at-judge in
-    absurd (true≢false (sym (others-follow (bytes start) (given start) (someCycles _) _ (λ q. omega (arith, q))
+    absurd (true≢false (sym (others_follow (bytes start) (given start) (some_cycles _) _ (λ q. omega (arith, q))
     (outcome at-judge _ c.enum_told.given.1)) ∙ start.pre.0))
 
 returns-3 : tie.Need-returns-3
 returns-3 c =
     let at-judge = before-enum-told2 c in
     let start = before-judge at-judge in
-    absurd (true≢false (sym (others-follow (bytes start) (given start) theEnd _ (λ q. omega (arith, q))
+    absurd (true≢false (sym (others_follow (bytes start) (given start) the_end _ (λ q. omega (arith, q))
     (outcome at-judge _ c.enum-told2.given.1)) ∙ start.pre.0))
 
 returns-4 : tie.Need-returns-4
 returns-4 c =
     let at-judge = before-enum-told3 c in
     let start = before-judge at-judge in
-    absurd (true≢false (sym (others-follow (bytes start) (given start) no_more _ (λ q. omega (arith, q))
+    absurd (true≢false (sym (others_follow (bytes start) (given start) no_more _ (λ q. omega (arith, q))
     (outcome at-judge _ c.enum-told3.given.1)) ∙ start.pre.0))
 
 add-t20 : tie.Need-overflow-add-t20
 add-t20 c =
     let at-write-refusal = before-size c in
     let start = start-write-refusal at-write-refusal in
-    let l = place-fits start.args.buf.now start.args.at (refusal _ 0 _ ∷ []) at-write-refusal.write-refusal.result _
-    c.size.result at-write-refusal.write-refusal.ensures c.size.ensures (refusal-fits _ _ _) start.pre.3 in
+    let l = place_fits start.args.buf.now start.args.at (refusal _ 0 _ ∷ []) at-write-refusal.write-refusal.result _
+    c.size.result at-write-refusal.write-refusal.ensures c.size.ensures (refusal_fits _ _ _) start.pre.3 in
     record { fits = omega (arith, l) }
 
 returns-5 : tie.Need-returns-5
@@ -110,7 +110,7 @@ returns-5 c =
     let at-found2 = before-write-refusal at-write-refusal in
     let at-judge = before-found2 at-found2 in
     let start = before-judge at-judge in
-    first-refused (given start) _ _ start.pre.2 at-write-refusal.write-refusal.result _ c.size.result
+    first_refused (given start) _ _ start.pre.2 at-write-refusal.write-refusal.result _ c.size.result
     at-write-refusal.write-refusal.ensures c.size.ensures
     ∙ taken_refused (bytes start) (given start) _ _ _ (outcome at-judge _ at-found2.found2.given.1)
 

@@ -6,7 +6,7 @@ use native.Mathlib.Nat.{le_trans}
 use borrow.Author.Rules.{rules}
 use Rattle.router.specs.Running.{Call}
 use Rattle.router.proofs.Onward.{goes_on}
-use Rattle.router.proofs.Packing.{parts-ongoing, parts-answer}
+use Rattle.router.proofs.Packing.{parts_ongoing, parts_answer}
 use Rattle.router.proofs.entry.go.Statement.{statement}
 use Rattle.router.proofs.entry.go.Tie as tie
 
@@ -27,7 +27,7 @@ blocks-requires : tie.Need-blocks-requires
 blocks-requires c κs =
     let at-unpack = before-blocks-arg c in
     let start = before-unpack at-unpack in
-    (parts-ongoing start.args.run at-unpack.unpack.result at-unpack.unpack.ensures _ _ start.pre.0, start.pre.1)
+    (parts_ongoing start.args.run at-unpack.unpack.result at-unpack.unpack.ensures _ _ start.pre.0, start.pre.1)
 
 sub-t30 : tie.Need-overflow-sub-t30
 sub-t30 c =
@@ -42,7 +42,7 @@ returns c =
     let at-blocks2 = before-pack c.before in
     let at-unpack = before-blocks-arg at-blocks2.before in
     let start = before-unpack at-unpack in
-    parts-answer start.args.run at-unpack.unpack.result at-unpack.unpack.ensures _ _ start.args.start _ _
+    parts_answer start.args.run at-unpack.unpack.result at-unpack.unpack.ensures _ _ start.args.start _ _
     start.args.count start.args.first start.args.part.now _ _ _ _ _ _ c.before.pack.ensures at-blocks2.blocks2.ensures
 
 pub go-spec : {M : Type 1} → statement M

@@ -9,15 +9,15 @@ use native.Mathlib.Omega.{arith}
 use lib.ListN.{length}
 use borrow.Author.Rules.{rules}
 use borrow.Author.Tests.{not-true, not-false}
-use Rattle.listing.specs.Writing.{lacksRoom}
-use Rattle.runs.specs.Run.{runSound}
+use Rattle.listing.specs.Writing.{lacks_room}
+use Rattle.runs.specs.Run.{run_sound}
 use Rattle.router.specs.declared.entry.Ran.{Ran}
-use Rattle.router.specs.Running.{Writing, lacksBlockRoom, block_at, blockTaken, begins, goesOn, CallOutcome, answered}
+use Rattle.router.specs.Running.{Writing, lacks_block_room, block_at, block_taken, begins, going_on, CallOutcome, answered}
 use Rattle.router.specs.Inside.{Within, Ongoing}
-use Rattle.router.proofs.Onward.{goes-more, piece_is, block_on}
+use Rattle.router.proofs.Onward.{goes_more, piece_is, block_on}
 use Rattle.router.proofs.Rooms.{full, roomy}
-use Rattle.router.proofs.RunLaws.{run-unsound, run-full, run-goes, run-asks, room_within}
-use Rattle.router.proofs.RunLaws.{configured-ongoing, unconfigured-none, begun-ongoing}
+use Rattle.router.proofs.RunLaws.{run_unsound, run_full, run_goes, run_asks, room_within}
+use Rattle.router.proofs.RunLaws.{configured_ongoing, unconfigured_none, begun_ongoing}
 use Rattle.router.proofs.entry.run.Statement.{statement}
 use Rattle.router.proofs.entry.run.Tie as tie
 
@@ -91,20 +91,20 @@ returns c =
     let at-is-sound = c.before.before in
     let start = before-is-sound at-is-sound in
     ap (beside start) c.unmoved.ensures
-    ∙ run-unsound start.args.run start.args.part.now start.args.buf.now start.args.at
+    ∙ run_unsound start.args.run start.args.part.now start.args.buf.now start.args.at
     (sym at-is-sound.is-sound.ensures ∙ not-true at-is-sound.is-sound.result c.before.if1.true)
 
 -- what passed the tests
-passed : (c : tie.Else1) → runSound (start-else1 c).args.run ≡ true
+passed : (c : tie.Else1) → run_sound (start-else1 c).args.run ≡ true
 passed c =
     let at-is-sound = before-else1 c in
     sym at-is-sound.is-sound.ensures ∙ not-false at-is-sound.is-sound.result c.if1.false
 
-sound : (c : tie.Else2) → runSound (start-else2 c).args.run ≡ true
+sound : (c : tie.Else2) → run_sound (start-else2 c).args.run ≡ true
 sound c = passed (before-else2 c)
 
-room : (c : tie.Else2) → lacksRoom (start-else2 c).args.buf.now (start-else2 c).args.at ≡ false
-unfolding lacksRoom
+room : (c : tie.Else2) → lacks_room (start-else2 c).args.buf.now (start-else2 c).args.at ≡ false
+unfolding lacks_room
 room c = not-true _ (sym c.before.has_room.ensures ∙ not-false c.before.has_room.result c.if2.false)
 
 short : (c : tie.Else2) → length (start-else2 c).args.buf.now < 18446744073709551616
@@ -116,13 +116,13 @@ inside c =
     room_within start.args.run start.args.part.now start.args.buf.now start.args.at (room c) (short c)
 
 returns-2 : tie.Need-returns-2
-unfolding lacksRoom
+unfolding lacks_room
 returns-2 c =
     let at-has-room = c.before.before in
     let at-else1 = before-has-room at-has-room in
     let start = start-else1 at-else1 in
     ap (beside start) c.unmoved2.ensures
-    ∙ run-full start.args.run start.args.part.now start.args.buf.now start.args.at (passed at-else1)
+    ∙ run_full start.args.run start.args.part.now start.args.buf.now start.args.at (passed at-else1)
     (not-false _ (sym at-has-room.has_room.ensures ∙ not-true at-has-room.has_room.result c.before.if2.true))
 
 blocks-in-requires : tie.Need-blocks-in-requires
@@ -136,14 +136,14 @@ returns-3 c =
     let at-blocks-in = before-slice-known2 c in
     let at-else2 = before-blocks-in at-blocks-in in
     let start = start-else2 at-else2 in
-    c.before.before.go.ensures ∙ run-goes start.args.run start.args.part.now start.args.buf.now start.args.at
+    c.before.before.go.ensures ∙ run_goes start.args.run start.args.part.now start.args.buf.now start.args.at
     (sound at-else2) (room at-else2) _ at-blocks-in.blocks-in.ensures
 
 go-requires-2 : tie.Need-go-requires-2
 go-requires-2 c κs =
     let at-else2 = else2-else3 c.before.before in
     let start = start-else2 at-else2 in (
-      configured-ongoing start.args.run start.args.part.now start.args.buf.now start.args.at (sound at-else2)
+      configured_ongoing start.args.run start.args.part.now start.args.buf.now start.args.at (sound at-else2)
           c.before.if4.true (inside at-else2),
       omega arith,
       le_refl _,
@@ -154,7 +154,7 @@ returns-4 c =
     let at-blocks-in = before-else3 (before-slice-known3 c) in
     let at-else2 = before-blocks-in at-blocks-in in
     let start = start-else2 at-else2 in
-    c.before.before.go2.ensures ∙ run-goes start.args.run start.args.part.now start.args.buf.now start.args.at
+    c.before.before.go2.ensures ∙ run_goes start.args.run start.args.part.now start.args.buf.now start.args.at
     (sound at-else2) (room at-else2) _ at-blocks-in.blocks-in.ensures
 
 -- the run as it is handed in, and that it is before the configuration block
@@ -166,7 +166,7 @@ none_yet : (c : tie.Else4) → ((start-else2 (else2-else4 c)).args.run.router.cy
 none_yet c =
     let at-else2 = else2-else4 c in
     let start = start-else2 at-else2 in
-    unconfigured-none start.args.run start.args.part.now start.args.buf.now start.args.at (sound at-else2)
+    unconfigured_none start.args.run start.args.part.now start.args.buf.now start.args.at (sound at-else2)
     c.if4.false c.before.if3.false
 
 returns-5 : tie.Need-returns-5
@@ -176,11 +176,11 @@ returns-5 c =
     let at-else2 = else2-else4 at-else4 in
     let start = start-else2 at-else2 in
     ap (beside start) c.unmoved3.ensures
-    ∙ run-asks start.args.run start.args.part.now start.args.buf.now start.args.at (sound at-else2) (room at-else2)
+    ∙ run_asks start.args.run start.args.part.now start.args.buf.now start.args.at (sound at-else2) (room at-else2)
     at-else4.before.if3.left (full _ _
     (not-false _ (sym at-has-room2.has-room2.ensures ∙ not-true at-has-room2.has-room2.result c.before.if5.true)))
 
-block_room : (c : tie.Else5) → lacksBlockRoom (start-else2 (else2-else4 (else4-else5 c))).args.buf.now
+block_room : (c : tie.Else5) → lacks_block_room (start-else2 (else2-else4 (else4-else5 c))).args.buf.now
     (start-else2 (else2-else4 (else4-else5 c))).args.at ≡ false
 block_room c = roomy _ _ (not-true _ (sym c.before.has-room2.ensures ∙ not-false c.before.has-room2.result c.if5.false))
 
@@ -205,9 +205,9 @@ go-requires-3 c κs =
     let at-else2 = else2-else4 at-else4 in
     let start = start-else2 at-else2 in
     let part = start.args.part.now in
-    let f = at-begin.begin.ensures ∙ ap (λ (block : List ℕ). blockTaken block (handed start))
+    let f = at-begin.begin.ensures ∙ ap (λ (block : List ℕ). block_taken block (handed start))
     (piece_is part 0 at-block-end.block-end.result at-block-end.block-end.ensures.0) in (
-      subst Ongoing (sym f) (begun-ongoing (block_at part 0) (handed start) at-else4.if4.left (none_yet at-else4).1
+      subst Ongoing (sym f) (begun_ongoing (block_at part 0) (handed start) at-else4.if4.left (none_yet at-else4).1
           (inside at-else2)),
       at-block-end.block-end.ensures.1.0,
       subst (λ (w : Writing). start.args.at ≤ w.at) (sym f)
@@ -227,12 +227,12 @@ returns-6 c =
     let count = at-blocks-in.blocks-in.result in
     let e = at-block-end.block-end.ensures.0 in
     let g = at-blocks-in.blocks-in.ensures in
-    let f = at-begin.begin.ensures ∙ ap (λ (block : List ℕ). blockTaken block (handed start))
+    let f = at-begin.begin.ensures ∙ ap (λ (block : List ℕ). block_taken block (handed start))
     (piece_is part 0 at-block-end.block-end.result e) in
     c.before.before.go3.ensures ∙ ap₂ (λ (used : ℕ) (w : Writing). answered start.args.at
-    (goesOn part (count - 1) (record { used = used; asks = 0; writing = w }))) e f
-    ∙ ap (answered start.args.at) (goes-more part count (begins (handed start)) (omega (arith, g))
-    at-else3.if3.left (block_room at-else5)) ∙ run-goes start.args.run part start.args.buf.now start.args.at
+    (going_on part (count - 1) (record { used = used; asks = 0; writing = w }))) e f
+    ∙ ap (answered start.args.at) (goes_more part count (begins (handed start)) (omega (arith, g))
+    at-else3.if3.left (block_room at-else5)) ∙ run_goes start.args.run part start.args.buf.now start.args.at
     (sound at-else2) (room at-else2) count g
 
 pub run_spec : {M : Type 1} → statement M

@@ -2,7 +2,7 @@
 -- Assumes nothing.
 use Prim.Native.Nat.{◌≤◌, ◌-◌}
 use borrow.Author.Rules.{rules}
-use Rattle.router.proofs.Advancing.{Moved, moved-start, moved_more, Cleared, cleared-start, cleared_more, line-advanced}
+use Rattle.router.proofs.Advancing.{Moved, moved_start, moved_more, Cleared, cleared_start, cleared_more, line_advanced}
 use Rattle.router.proofs.intake.advance_wire.Statement.{statement}
 use Rattle.router.proofs.intake.advance_wire.Tie as tie
 
@@ -19,7 +19,7 @@ abbrev decreases-loop2 : tie.decreases-loop2
 decreases-loop2 wire₀ k₀ wire k = 64 - k
 
 loop-holds : tie.Need-loop-init invariant-loop decreases-loop invariant-loop2 decreases-loop2
-loop-holds c = (search rules, moved-start c.args.wire.now c.requires)
+loop-holds c = (search rules, moved_start c.args.wire.now c.requires)
 
 add-wire : tie.Need-overflow-add-wire invariant-loop decreases-loop invariant-loop2 decreases-loop2
 add-wire c = search rules
@@ -49,7 +49,7 @@ loop-again c =
 
 loop2-holds : tie.Need-loop2-init invariant-loop decreases-loop invariant-loop2 decreases-loop2
 loop2-holds c =
-    let l = c.before.loop in (search rules, search rules, cleared-start l.k l.wire l.invariant.0 l.invariant.1.long)
+    let l = c.before.loop in (search rules, search rules, cleared_start l.k l.wire l.invariant.0 l.invariant.1.long)
 
 mul-wire-3 : tie.Need-overflow-mul-wire-3 invariant-loop decreases-loop invariant-loop2 decreases-loop2
 mul-wire-3 c = search rules
@@ -76,7 +76,7 @@ returns : tie.Need-returns invariant-loop decreases-loop invariant-loop2 decreas
 returns c =
     let l = c.before.before.before.loop in
     let m = c.before.loop2 in
-    line-advanced l.k m.k c.before.before.before.before.args.wire.now l.wire m.wire
+    line_advanced l.k m.k c.before.before.before.before.args.wire.now l.wire m.wire
     c.before.before.before.before.requires
     (search rules) l.invariant.1 (search rules) m.invariant.2
 

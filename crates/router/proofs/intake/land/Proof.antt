@@ -4,14 +4,14 @@ use native.Mathlib.Omega.{arith}
 use mathlib.Core.Path.{◌≡◌, sym, ap, ◌∙◌, subst}
 use Prim.Native.Nat.{ℕ, ◌+◌, ◌≤◌, ◌-◌}
 use lib.ListN.{length, get_or}
-use Rattle.state.specs.Fresh.{freshInput}
-use Rattle.state.specs.Views.{channelNumber}
-use Rattle.state.proofs.Exact.{length-any}
+use Rattle.state.specs.Fresh.{fresh_input}
+use Rattle.state.specs.Views.{channel_number}
+use Rattle.state.proofs.Exact.{length_any}
 use borrow.Author.Rules.{rules}
-use Rattle.rules.specs.Ports.{overPorts}
+use Rattle.rules.specs.Ports.{over_ports}
 use Rattle.rules.specs.Intake.{Queues, landings}
-use Rattle.rules.proofs.Folds.{over_none, over-again}
-use Rattle.router.proofs.Landing.{landTurn, land-none, land-some, land-out, landed-long, landed-fit}
+use Rattle.rules.proofs.Folds.{over_none, over_again}
+use Rattle.router.proofs.Landing.{land_turn, land_none, land_some, land_out, landed_long, landed_fit}
 use Rattle.router.proofs.Numbers.{fewer, more}
 use Rattle.router.proofs.intake.land.Statement.{statement}
 use Rattle.router.proofs.intake.land.Tie as tie
@@ -19,7 +19,7 @@ use Rattle.router.proofs.intake.land.Tie as tie
 abbrev invariant-loop : tie.invariant-loop
 invariant-loop config wire store₀ inputs₀ i₀ store inputs i =
     (i ≤ config.ports) × (◌≡◌ {A = Queues} (record { inputs = inputs; store = store })
-    (overPorts i (landTurn config wire) (record { inputs = inputs₀; store = store₀ })))
+    (over_ports i (land_turn config wire) (record { inputs = inputs₀; store = store₀ })))
 
 abbrev decreases-loop : tie.decreases-loop
 decreases-loop config wire store₀ inputs₀ i₀ store inputs i = config.ports - i
@@ -58,7 +58,7 @@ else2-push c = else2-else3 (before-push c)
 loop-holds : tie.Need-loop-init invariant-loop decreases-loop
 loop-holds c = (
   search rules,
-  over_none (landTurn c.args.config c.args.wire.now)
+  over_none (land_turn c.args.config c.args.wire.now)
       (record { inputs = c.args.before; store = c.args.store.now }),
 )
 
@@ -97,9 +97,9 @@ loop-again c =
     let a = start.args in
     let q : Queues = (record { inputs = l.inputs; store = l.store }) in (
       more start.args.config.ports at-loop.loop.i c.before.before.if1.true,
-      over-again l.i
-          (landTurn a.config a.wire.now) (record { inputs = a.before; store = a.store.now }) q q l.inv.1
-          (land-none a.config a.wire.now q l.i c.if2.true),
+      over_again l.i
+          (land_turn a.config a.wire.now) (record { inputs = a.before; store = a.store.now }) q q l.inv.1
+          (land_none a.config a.wire.now q l.i c.if2.true),
     )
 
 vc-on-wire-requires : tie.Need-vc-on-wire-requires invariant-loop decreases-loop
@@ -124,7 +124,7 @@ loop-less-2 c =
 
 -- the array that it starts with has its length
 given : (c : tie.Start invariant-loop decreases-loop) → length c.args.before ≡ 32
-given c = search (rules, length-any)
+given c = search (rules, length_any)
 
 loop-again-2 : tie.Need-loop-preserved-2 invariant-loop decreases-loop
 loop-again-2 c =
@@ -137,12 +137,12 @@ loop-again-2 c =
     let q : Queues = (record { inputs = l.inputs; store = l.store }) in
     let q₀ : Queues = (record { inputs = a.before; store = a.store.now }) in
     let long : length l.inputs ≡ 32 = ap (λ (t : Queues). length t.inputs) l.inv.1
-    ∙ landed-long a.config a.wire.now q₀ l.i ∙ given start in (
+    ∙ landed_long a.config a.wire.now q₀ l.i ∙ given start in (
       more start.args.config.ports at-loop.loop.i at-then1.if1.taken,
-      over-again l.i
-          (landTurn a.config a.wire.now) q₀ q q l.inv.1
-          (land-out a.config a.wire.now q l.i c.before.number.result at-else2.if2.left
-          (c.before.number.ensures ∙ ap (channelNumber a.config l.i) c.before.before.vc-on-wire.ensures.0) long
+      over_again l.i
+          (land_turn a.config a.wire.now) q₀ q q l.inv.1
+          (land_out a.config a.wire.now q l.i c.before.number.result at-else2.if2.left
+          (c.before.number.ensures ∙ ap (channel_number a.config l.i) c.before.before.vc-on-wire.ensures.0) long
           c.if3.true),
     )
 
@@ -170,10 +170,10 @@ with-one-more-queued-requires c κs =
     let start = before-loop at-loop in
     let l = at-loop.loop in
     let a = start.args in
-    let h = landed-fit a.config a.wire.now (record { inputs = a.before; store = a.store.now }) l.i start.pre.1
+    let h = landed_fit a.config a.wire.now (record { inputs = a.before; store = a.store.now }) l.i start.pre.1
     at-number.number.result in
-    let e : (get_or l.inputs at-number.number.result (freshInput 0)).queued ≤ 16 + l.i =
-    subst (λ (t : Queues). (get_or t.inputs at-number.number.result (freshInput 0)).queued ≤ 16 + l.i) (sym l.inv.1) h in
+    let e : (get_or l.inputs at-number.number.result (fresh_input 0)).queued ≤ 16 + l.i =
+    subst (λ (t : Queues). (get_or t.inputs at-number.number.result (fresh_input 0)).queued ≤ 16 + l.i) (sym l.inv.1) h in
     omega arith
 
 mul-inputs : tie.Need-overflow-mul-inputs invariant-loop decreases-loop
@@ -213,10 +213,10 @@ loop-again-3 c =
     let q : Queues = (record { inputs = l.inputs; store = l.store }) in
     let q₀ : Queues = (record { inputs = a.before; store = a.store.now }) in (
       more start.args.config.ports at-loop.loop.i at-then1.if1.taken,
-      over-again l.i
-          (landTurn a.config a.wire.now) q₀ q _ l.inv.1
-          (land-some a.config a.wire.now q l.i at-number.number.result at-else2.if2.left
-          (at-number.number.ensures ∙ ap (channelNumber a.config l.i) at-vc-on-wire.vc-on-wire.ensures.0) _
+      over_again l.i
+          (land_turn a.config a.wire.now) q₀ q _ l.inv.1
+          (land_some a.config a.wire.now q l.i at-number.number.result at-else2.if2.left
+          (at-number.number.ensures ∙ ap (channel_number a.config l.i) at-vc-on-wire.vc-on-wire.ensures.0) _
           c.with-one-more-queued.ensures _ c.before.push.ensures),
     )
 
@@ -226,7 +226,7 @@ returns c =
     let l = c.before.before.loop in
     let a = (before-loop c.before.before).args in
     let e : l.i ≡ a.config.ports = omega arith in
-    l.invariant.1 ∙ ap (λ (n : ℕ). overPorts n (landTurn a.config a.wire.now) (record { inputs = a.before; store = a.store.now }))
+    l.invariant.1 ∙ ap (λ (n : ℕ). over_ports n (land_turn a.config a.wire.now) (record { inputs = a.before; store = a.store.now }))
     e
 
 pub land-spec : {M : Type 1} → statement M

@@ -5,21 +5,21 @@ use mathlib.Core.Path.{◌≡◌, sym, ap, ◌∙◌, subst}
 use Prim.Native.Nat.{ℕ, ◌+◌, ◌≤◌, ◌-◌}
 use lib.ListN.{length, get_or, set}
 use Rattle.state.specs.declared.OutputVc.{OutputVc}
-use Rattle.state.specs.Views.{channelNumber}
-use Rattle.state.specs.Fresh.{freshOutput}
-use Rattle.state.proofs.Exact.{length-any}
+use Rattle.state.specs.Views.{channel_number}
+use Rattle.state.specs.Fresh.{fresh_output}
+use Rattle.state.proofs.Exact.{length_any}
 use borrow.Author.Rules.{rules}
 use mathlib.Core.List.{List}
-use Rattle.rules.specs.Ports.{overPorts}
-use Rattle.rules.specs.Intake.{outputPaid, outputsPaid}
-use Rattle.rules.proofs.Folds.{over_none, over-again}
-use Rattle.router.proofs.Paying.{outputTurn, output-none, output-some, output-out, outputs-fit, outputs-long}
+use Rattle.rules.specs.Ports.{over_ports}
+use Rattle.rules.specs.Intake.{output_paid, outputs_paid}
+use Rattle.rules.proofs.Folds.{over_none, over_again}
+use Rattle.router.proofs.Paying.{output_turn, output_none, output_some, output_out, outputs_fit, outputs_long}
 use Rattle.router.proofs.Numbers.{fewer, more}
 use Rattle.router.proofs.intake.pay_outputs.Statement.{statement}
 use Rattle.router.proofs.intake.pay_outputs.Tie as tie
 
 abbrev invariant-loop : tie.invariant-loop
-invariant-loop config part outputs₀ o₀ outputs o = (o ≤ config.ports) × (outputs ≡ overPorts o (outputTurn config part) outputs₀)
+invariant-loop config part outputs₀ o₀ outputs o = (o ≤ config.ports) × (outputs ≡ over_ports o (output_turn config part) outputs₀)
 
 abbrev decreases-loop : tie.decreases-loop
 decreases-loop config part outputs₀ o₀ outputs o = config.ports - o
@@ -56,7 +56,7 @@ abbrev wide-with-one-more-back : tie.After-with-one-more-back invariant-loop dec
 wide-with-one-more-back c = wide-number (before-with-one-more-back c)
 
 loop-holds : tie.Need-loop-init invariant-loop decreases-loop
-loop-holds c = (search rules, over_none (outputTurn c.before.args.config c.before.args.part.now) c.before.args.before)
+loop-holds c = (search rules, over_none (output_turn c.before.args.config c.before.args.part.now) c.before.args.before)
 
 cast-if1 : tie.Need-overflow-cast-if1 invariant-loop decreases-loop
 cast-if1 c = search rules
@@ -90,9 +90,9 @@ loop-again c =
     let l = at-loop.loop in
     let a = start.args in (
       more start.args.config.ports at-loop.loop.o at-then1.if1.taken,
-      over-again l.o
-          (outputTurn a.config a.part.now) a.before l.outputs l.outputs l.inv.1
-          (output-none a.config a.part.now l.outputs l.o c.before.wide.result
+      over_again l.o
+          (output_turn a.config a.part.now) a.before l.outputs l.outputs l.inv.1
+          (output_none a.config a.part.now l.outputs l.o c.before.wide.result
           (c.before.wide.ensures.0 ∙ c.before.before.credit-of.ensures) c.if2.true),
     )
 
@@ -124,7 +124,7 @@ loop-less-2 c =
 
 -- the array that it starts with has its length
 given : (c : tie.Start invariant-loop decreases-loop) → length c.args.before ≡ 32
-given c = search (rules, length-any)
+given c = search (rules, length_any)
 
 loop-again-2 : tie.Need-loop-preserved-2 invariant-loop decreases-loop
 loop-again-2 c =
@@ -136,14 +136,14 @@ loop-again-2 c =
     let l = at-loop.loop in
     let a = start.args in
     let w = at_wide.wide in
-    let long : length l.outputs ≡ 32 = ap length l.inv.1 ∙ outputs-long a.config a.part.now a.before l.o
+    let long : length l.outputs ≡ 32 = ap length l.inv.1 ∙ outputs_long a.config a.part.now a.before l.o
     ∙ given start in
-    let e : c.before.number.result ≡ channelNumber a.config l.o (w.result - 1) = c.before.number.ensures in
-    let far : length l.outputs ≤ channelNumber a.config l.o (w.result - 1) = let t = c.if3.true in rw (long, sym e) t in (
+    let e : c.before.number.result ≡ channel_number a.config l.o (w.result - 1) = c.before.number.ensures in
+    let far : length l.outputs ≤ channel_number a.config l.o (w.result - 1) = let t = c.if3.true in rw (long, sym e) t in (
       more start.args.config.ports at-loop.loop.o at-then1.if1.taken,
-      over-again l.o
-          (outputTurn a.config a.part.now) a.before l.outputs l.outputs l.inv.1
-          (output-out a.config a.part.now l.outputs l.o w.result (w.ensures.0 ∙ at-credit-of.credit-of.ensures)
+      over_again l.o
+          (output_turn a.config a.part.now) a.before l.outputs l.outputs l.inv.1
+          (output_out a.config a.part.now l.outputs l.o w.result (w.ensures.0 ∙ at-credit-of.credit-of.ensures)
           c.before.before.if2.false far),
     )
 
@@ -168,9 +168,9 @@ with-one-more-back-requires c κs =
     let start = before-loop at-loop in
     let l = at-loop.loop in
     let a = start.args in
-    let h = outputs-fit a.config a.part.now a.before l.o start.pre.2 c.before.before.number.result in
-    let e : (get_or l.outputs c.before.before.number.result (freshOutput 0)).credit ≤ 16 + l.o =
-    subst (λ (t : List OutputVc). (get_or t c.before.before.number.result (freshOutput 0)).credit ≤ 16 + l.o) (sym l.inv.1) h in
+    let h = outputs_fit a.config a.part.now a.before l.o start.pre.2 c.before.before.number.result in
+    let e : (get_or l.outputs c.before.before.number.result (fresh_output 0)).credit ≤ 16 + l.o =
+    subst (λ (t : List OutputVc). (get_or t c.before.before.number.result (fresh_output 0)).credit ≤ 16 + l.o) (sym l.inv.1) h in
     omega arith
 
 mul-outputs : tie.Need-overflow-mul-outputs invariant-loop decreases-loop
@@ -208,23 +208,23 @@ loop-again-3 c =
     let l = at-loop.loop in
     let a = start.args in
     let w = at_wide.wide in
-    let e : at-number.number.result ≡ channelNumber a.config l.o (w.result - 1) = at-number.number.ensures in
+    let e : at-number.number.result ≡ channel_number a.config l.o (w.result - 1) = at-number.number.ensures in
     let paid = ap (λ (y : OutputVc). set l.outputs at-number.number.result y) c.with-one-more-back.ensures
-    ∙ ap (λ (x : ℕ). set l.outputs x (outputPaid (get_or l.outputs x (freshOutput 0)))) e in (
+    ∙ ap (λ (x : ℕ). set l.outputs x (output_paid (get_or l.outputs x (fresh_output 0)))) e in (
       more start.args.config.ports at-loop.loop.o at-then1.if1.taken,
-      over-again l.o
-          (outputTurn a.config a.part.now) a.before l.outputs _ l.inv.1
-          (paid ∙ output-some a.config a.part.now l.outputs l.o w.result
+      over_again l.o
+          (output_turn a.config a.part.now) a.before l.outputs _ l.inv.1
+          (paid ∙ output_some a.config a.part.now l.outputs l.o w.result
           (w.ensures.0 ∙ at-credit-of.credit-of.ensures) at-else2.if2.left),
     )
 
 returns : tie.Need-returns invariant-loop decreases-loop
-unfolding outputsPaid
+unfolding outputs_paid
 returns c =
     let l = c.before.before.loop in
     let a = (before-loop c.before.before).args in
     let e : l.o ≡ a.config.ports = omega arith in
-    l.invariant.1 ∙ ap (λ (n : ℕ). overPorts n (outputTurn a.config a.part.now) a.before) e
+    l.invariant.1 ∙ ap (λ (n : ℕ). over_ports n (output_turn a.config a.part.now) a.before) e
 
 pub pay-outputs-spec : {M : Type 1} → statement M
 pay-outputs-spec =

@@ -5,21 +5,21 @@ use mathlib.Core.Path.{◌≡◌, sym, ap, ◌∙◌, subst}
 use Prim.Native.Nat.{ℕ, ◌+◌, ◌≤◌, ◌-◌}
 use lib.ListN.{length, get_or, set}
 use Rattle.state.specs.declared.InputVc.{InputVc}
-use Rattle.state.specs.Views.{channelNumber}
-use Rattle.state.specs.Fresh.{freshInput}
-use Rattle.rules.specs.Intake.{senderPaid, sendersPaid}
+use Rattle.state.specs.Views.{channel_number}
+use Rattle.state.specs.Fresh.{fresh_input}
+use Rattle.rules.specs.Intake.{sender_paid, senders_paid}
 use borrow.Author.Rules.{rules}
 use mathlib.Core.List.{List}
-use Rattle.state.proofs.Exact.{length-any}
-use Rattle.rules.specs.Ports.{overPorts}
-use Rattle.rules.proofs.Folds.{over_none, over-again}
-use Rattle.router.proofs.Paying.{senderTurn, sender-none, sender-some, sender-out, senders-fit, senders-long}
+use Rattle.state.proofs.Exact.{length_any}
+use Rattle.rules.specs.Ports.{over_ports}
+use Rattle.rules.proofs.Folds.{over_none, over_again}
+use Rattle.router.proofs.Paying.{sender_turn, sender_none, sender_some, sender_out, senders_fit, senders_long}
 use Rattle.router.proofs.Numbers.{fewer, more}
 use Rattle.router.proofs.intake.pay_senders.Statement.{statement}
 use Rattle.router.proofs.intake.pay_senders.Tie as tie
 
 abbrev invariant-loop : tie.invariant-loop
-invariant-loop config home inputs₀ i₀ inputs i = (i ≤ config.ports) × (inputs ≡ overPorts i (senderTurn config home) inputs₀)
+invariant-loop config home inputs₀ i₀ inputs i = (i ≤ config.ports) × (inputs ≡ over_ports i (sender_turn config home) inputs₀)
 
 abbrev decreases-loop : tie.decreases-loop
 decreases-loop config home inputs₀ i₀ inputs i = config.ports - i
@@ -50,7 +50,7 @@ abbrev wide-with-one-credit-more : tie.After-with-one-credit-more invariant-loop
 wide-with-one-credit-more c = wide-number (before-with-one-credit-more c)
 
 loop-holds : tie.Need-loop-init invariant-loop decreases-loop
-loop-holds c = (search rules, over_none (senderTurn c.args.config c.args.home.now) c.args.before)
+loop-holds c = (search rules, over_none (sender_turn c.args.config c.args.home.now) c.args.before)
 
 cast-if1 : tie.Need-overflow-cast-if1 invariant-loop decreases-loop
 cast-if1 c = search rules
@@ -87,9 +87,9 @@ loop-again c =
     let l = at-loop.loop in
     let a = start.args in (
       more start.args.config.ports at-loop.loop.i at-then1.if1.taken,
-      over-again l.i
-          (senderTurn a.config a.home.now) a.before l.inputs l.inputs l.inv.1
-          (sender-none a.config a.home.now l.inputs l.i c.before.wide.result c.before.wide.ensures.0
+      over_again l.i
+          (sender_turn a.config a.home.now) a.before l.inputs l.inputs l.inv.1
+          (sender_none a.config a.home.now l.inputs l.i c.before.wide.result c.before.wide.ensures.0
           c.if2.true),
     )
 
@@ -121,7 +121,7 @@ loop-less-2 c =
 
 -- the array that it starts with has its length
 given : (c : tie.Start invariant-loop decreases-loop) → length c.args.before ≡ 32
-given c = search (rules, length-any)
+given c = search (rules, length_any)
 
 loop-again-2 : tie.Need-loop-preserved-2 invariant-loop decreases-loop
 loop-again-2 c =
@@ -131,15 +131,15 @@ loop-again-2 c =
     let start = before-loop at-loop in
     let l = at-loop.loop in
     let a = start.args in
-    let long : length l.inputs ≡ 32 = ap length l.inv.1 ∙ senders-long a.config a.home.now a.before l.i
+    let long : length l.inputs ≡ 32 = ap length l.inv.1 ∙ senders_long a.config a.home.now a.before l.i
     ∙ given start in
-    let e : c.before.number.result ≡ channelNumber a.config l.i (at_wide.wide.result - 1) = c.before.number.ensures in
-    let far : length l.inputs ≤ channelNumber a.config l.i (at_wide.wide.result - 1) = let t = c.if3.true in
+    let e : c.before.number.result ≡ channel_number a.config l.i (at_wide.wide.result - 1) = c.before.number.ensures in
+    let far : length l.inputs ≤ channel_number a.config l.i (at_wide.wide.result - 1) = let t = c.if3.true in
     rw (long, sym e) t in (
       more start.args.config.ports at-loop.loop.i at-then1.if1.taken,
-      over-again l.i
-          (senderTurn a.config a.home.now) a.before l.inputs l.inputs l.inv.1
-          (sender-out a.config a.home.now l.inputs l.i at_wide.wide.result at_wide.wide.ensures.0
+      over_again l.i
+          (sender_turn a.config a.home.now) a.before l.inputs l.inputs l.inv.1
+          (sender_out a.config a.home.now l.inputs l.i at_wide.wide.result at_wide.wide.ensures.0
           c.before.before.if2.false far),
     )
 
@@ -164,9 +164,9 @@ with-one-credit-more-requires c κs =
     let start = before-loop at-loop in
     let l = at-loop.loop in
     let a = start.args in
-    let h = senders-fit a.config a.home.now a.before l.i start.pre.1 c.before.before.number.result in
-    let e : (get_or l.inputs c.before.before.number.result (freshInput 0)).credit ≤ 16 + l.i =
-    subst (λ (t : List InputVc). (get_or t c.before.before.number.result (freshInput 0)).credit ≤ 16 + l.i) (sym l.inv.1) h in
+    let h = senders_fit a.config a.home.now a.before l.i start.pre.1 c.before.before.number.result in
+    let e : (get_or l.inputs c.before.before.number.result (fresh_input 0)).credit ≤ 16 + l.i =
+    subst (λ (t : List InputVc). (get_or t c.before.before.number.result (fresh_input 0)).credit ≤ 16 + l.i) (sym l.inv.1) h in
     omega arith
 
 mul-inputs : tie.Need-overflow-mul-inputs invariant-loop decreases-loop
@@ -202,23 +202,23 @@ loop-again-3 c =
     let start = before-loop at-loop in
     let l = at-loop.loop in
     let a = start.args in
-    let e : at-number.number.result ≡ channelNumber a.config l.i (at_wide.wide.result - 1) = at-number.number.ensures in
+    let e : at-number.number.result ≡ channel_number a.config l.i (at_wide.wide.result - 1) = at-number.number.ensures in
     let paid = ap (λ (y : InputVc). set l.inputs at-number.number.result y) c.with-one-credit-more.ensures
-    ∙ ap (λ (x : ℕ). set l.inputs x (senderPaid (get_or l.inputs x (freshInput 0)))) e in (
+    ∙ ap (λ (x : ℕ). set l.inputs x (sender_paid (get_or l.inputs x (fresh_input 0)))) e in (
       more start.args.config.ports at-loop.loop.i at-then1.if1.taken,
-      over-again l.i
-          (senderTurn a.config a.home.now) a.before l.inputs _ l.inv.1
-          (paid ∙ sender-some a.config a.home.now l.inputs l.i at_wide.wide.result at_wide.wide.ensures.0
+      over_again l.i
+          (sender_turn a.config a.home.now) a.before l.inputs _ l.inv.1
+          (paid ∙ sender_some a.config a.home.now l.inputs l.i at_wide.wide.result at_wide.wide.ensures.0
           at-else2.if2.left),
     )
 
 returns : tie.Need-returns invariant-loop decreases-loop
-unfolding sendersPaid
+unfolding senders_paid
 returns c =
     let l = c.before.before.loop in
     let a = (before-loop c.before.before).args in
     let e : l.i ≡ a.config.ports = omega arith in
-    l.invariant.1 ∙ ap (λ (n : ℕ). overPorts n (senderTurn a.config a.home.now) a.before) e
+    l.invariant.1 ∙ ap (λ (n : ℕ). over_ports n (sender_turn a.config a.home.now) a.before) e
 
 pub pay-senders-spec : {M : Type 1} → statement M
 pay-senders-spec =

@@ -6,22 +6,22 @@ use mathlib.Core.Option.{none}
 use Prim.Native.Nat.{ℕ, ◌≤◌, ◌-◌}
 use lib.ListN.{replicate}
 use borrow.Author.Rules.{rules}
-use Rattle.rules.specs.Ports.{overPorts}
+use Rattle.rules.specs.Ports.{over_ports}
 use Rattle.rules.specs.Intake.{reaching, reported}
 use Rattle.rules.proofs.Folds.{over_none}
-use Rattle.router.proofs.Paying.{reportTurn, report-again}
+use Rattle.router.proofs.Paying.{report_turn, report_again}
 use Rattle.router.proofs.Numbers.{fewer, more}
 use Rattle.router.proofs.intake.report.Statement.{statement}
 use Rattle.router.proofs.intake.report.Tie as tie
 
 abbrev invariant-loop : tie.invariant-loop
-invariant-loop config home senders₀ i₀ senders i = (i ≤ config.ports) × (senders ≡ overPorts i (reportTurn home) senders₀)
+invariant-loop config home senders₀ i₀ senders i = (i ≤ config.ports) × (senders ≡ over_ports i (report_turn home) senders₀)
 
 abbrev decreases-loop : tie.decreases-loop
 decreases-loop config home senders₀ i₀ senders i = config.ports - i
 
 loop-holds : tie.Need-loop-init invariant-loop decreases-loop
-loop-holds c = (search rules, over_none (reportTurn c.args.home.now) _)
+loop-holds c = (search rules, over_none (report_turn c.args.home.now) _)
 
 cast-if1 : tie.Need-overflow-cast-if1 invariant-loop decreases-loop
 cast-if1 c = search rules
@@ -51,7 +51,7 @@ loop-again c =
     let start = c.before.before.before.before.before in
     let l = c.before.before.before.before.loop in (
       more start.args.config.ports c.before.before.before.before.loop.i c.before.before.if1.true,
-      report-again
+      report_again
           start.args.home.now _ l.senders c.reached.result l.i l.invariant.1 c.reached.ensures,
     )
 
@@ -61,7 +61,7 @@ returns c =
     let l = c.before.before.loop in
     let a = c.before.before.before.args in
     let e : l.i ≡ a.config.ports = omega arith in
-    l.invariant.1 ∙ ap (λ (n : ℕ). overPorts n (reportTurn a.home.now) (replicate 8 (reaching none))) e
+    l.invariant.1 ∙ ap (λ (n : ℕ). over_ports n (report_turn a.home.now) (replicate 8 (reaching none))) e
 
 pub report-spec : {M : Type 1} → statement M
 report-spec =

@@ -4,15 +4,15 @@ use native.Mathlib.Omega.{arith}
 use mathlib.Core.Path.{◌≡◌, sym, ap, ◌∙◌}
 use Prim.Native.Nat.{ℕ, ◌≤◌, ◌-◌}
 use lib.ListN.{length, get_or}
-use Rattle.state.specs.Fresh.{freshInput}
-use Rattle.state.specs.Views.{channelNumber}
-use Rattle.state.proofs.Exact.{length-any}
+use Rattle.state.specs.Fresh.{fresh_input}
+use Rattle.state.specs.Views.{channel_number}
+use Rattle.state.proofs.Exact.{length_any}
 use borrow.Author.Rules.{rules}
-use Rattle.rules.specs.Ports.{overPorts}
-use Rattle.rules.specs.Intake.{Senders, takenAt, offers, offerTaken}
-use Rattle.rules.proofs.Folds.{over_none, over-again}
-use Rattle.router.specs.Rows.{offerOf}
-use Rattle.router.proofs.Offering.{brought-small, take_none, take-some, take_out, taken-long}
+use Rattle.rules.specs.Ports.{over_ports}
+use Rattle.rules.specs.Intake.{Senders, taken_at, offers, offer_taken}
+use Rattle.rules.proofs.Folds.{over_none, over_again}
+use Rattle.router.specs.Rows.{offer_of}
+use Rattle.router.proofs.Offering.{brought_small, take_none, take_some, take_out, taken_long}
 use Rattle.router.proofs.Numbers.{fewer, more}
 use Rattle.router.proofs.intake.take_offers.Statement.{statement}
 use Rattle.router.proofs.intake.take_offers.Tie as tie
@@ -20,7 +20,7 @@ use Rattle.router.proofs.intake.take_offers.Tie as tie
 abbrev invariant-loop : tie.invariant-loop
 invariant-loop config part wire₀ inputs₀ next₀ wire inputs next =
     (next ≤ config.ports) × (◌≡◌ {A = Senders} (record { inputs = inputs; wire = wire })
-    (overPorts next (takenAt config part) (record { inputs = inputs₀; wire = wire₀ })))
+    (over_ports next (taken_at config part) (record { inputs = inputs₀; wire = wire₀ })))
 
 abbrev decreases-loop : tie.decreases-loop
 decreases-loop config part wire₀ inputs₀ next₀ wire inputs next = config.ports - next
@@ -71,7 +71,7 @@ row-of-after-offer c = row-of-else2 (before-after-offer c)
 loop-holds : tie.Need-loop-init invariant-loop decreases-loop
 loop-holds c = (
   search rules,
-  over_none (takenAt c.before.args.config c.before.args.part.now)
+  over_none (taken_at c.before.args.config c.before.args.part.now)
       (record { inputs = c.before.args.before; wire = c.before.args.wire.now }),
 )
 
@@ -110,9 +110,9 @@ loop-again c =
     let s : Senders = (record { inputs = l.inputs; wire = l.wire }) in
     let e : c.before.before.row_of.result ≡ _ = c.enum_told.given.1 in (
       more start.args.config.ports at-loop.loop.next at-then1.if1.taken,
-      over-again l.next
-          (takenAt a.config a.part.now) (record { inputs = a.before; wire = a.wire.now }) s s l.inv.1
-          (take_none a.config a.part.now s l.next (sym c.before.before.row_of.ensures ∙ ap offerOf e)),
+      over_again l.next
+          (taken_at a.config a.part.now) (record { inputs = a.before; wire = a.wire.now }) s s l.inv.1
+          (take_none a.config a.part.now s l.next (sym c.before.before.row_of.ensures ∙ ap offer_of e)),
     )
 
 wide-requires : tie.Need-wide-requires invariant-loop decreases-loop
@@ -130,8 +130,8 @@ add-wire c =
     let start = before-shared-slice-known at-shared-slice-known in
     let o = at_row.row.given.0.0 in
     let l = at-loop.loop in
-    let b = brought-small start.args.part.now l.next (λ k. (at-shared-slice-known.shared-slice-known.given k).fits) o
-    (sym at-row-of.row_of.ensures ∙ ap offerOf at_row.row.given.1) in
+    let b = brought_small start.args.part.now l.next (λ k. (at-shared-slice-known.shared-slice-known.given k).fits) o
+    (sym at-row-of.row_of.ensures ∙ ap offer_of at_row.row.given.1) in
     let small = b.1 in
     let w = c.before.wide.ensures.1 in
     record { fits = omega arith }
@@ -186,7 +186,7 @@ loop-less-2 c =
 
 -- the array that it starts with has its length
 given : (c : tie.Start invariant-loop decreases-loop) → length c.args.before ≡ 32
-given c = search (rules, length-any)
+given c = search (rules, length_any)
 
 loop-again-2 : tie.Need-loop-preserved-2 invariant-loop decreases-loop
 loop-again-2 c =
@@ -202,14 +202,14 @@ loop-again-2 c =
     let s₀ : Senders = (record { inputs = a.before; wire = a.wire.now }) in
     let o = at_row.row.given.0.0 in
     let long : length l.inputs ≡ 32 = ap (λ (t : Senders). length t.inputs) l.inv.1
-    ∙ taken-long a.config a.part.now s₀ l.next ∙ given start in
-    let n : c.before.number.result ≡ channelNumber a.config l.next o.vc = c.before.number.ensures
-    ∙ ap (channelNumber a.config l.next) at_wide.wide.ensures.0 in
+    ∙ taken_long a.config a.part.now s₀ l.next ∙ given start in
+    let n : c.before.number.result ≡ channel_number a.config l.next o.vc = c.before.number.ensures
+    ∙ ap (channel_number a.config l.next) at_wide.wide.ensures.0 in
     let far : length l.inputs ≤ c.before.number.result = let t = c.if2.true in rw long t in (
       more start.args.config.ports at-loop.loop.next at-then1.if1.taken,
-      over-again l.next
-          (takenAt a.config a.part.now) s₀ s _ l.inv.1
-          (take_out a.config a.part.now s l.next o (sym at-row-of.row_of.ensures ∙ ap offerOf at_row.row.given.1)
+      over_again l.next
+          (taken_at a.config a.part.now) s₀ s _ l.inv.1
+          (take_out a.config a.part.now s l.next o (sym at-row-of.row_of.ensures ∙ ap offer_of at_row.row.given.1)
           c.before.number.result n _ at_wide.wide.ensures.0 far),
     )
 
@@ -271,14 +271,14 @@ loop-again-3 c =
     let s : Senders = (record { inputs = l.inputs; wire = l.wire }) in
     let s₀ : Senders = (record { inputs = a.before; wire = a.wire.now }) in
     let o = at_row.row.given.0.0 in
-    let n : at-number.number.result ≡ channelNumber a.config l.next o.vc = at-number.number.ensures
-    ∙ ap (channelNumber a.config l.next) at_wide.wide.ensures.0 in (
+    let n : at-number.number.result ≡ channel_number a.config l.next o.vc = at-number.number.ensures
+    ∙ ap (channel_number a.config l.next) at_wide.wide.ensures.0 in (
       more start.args.config.ports at-loop.loop.next at-then1.if1.taken,
-      over-again l.next
-          (takenAt a.config a.part.now) s₀ s _ l.inv.1
-          (take-some a.config a.part.now s l.next o (sym at-row-of.row_of.ensures ∙ ap offerOf at_row.row.given.1)
+      over_again l.next
+          (taken_at a.config a.part.now) s₀ s _ l.inv.1
+          (take_some a.config a.part.now s l.next o (sym at-row-of.row_of.ensures ∙ ap offer_of at_row.row.given.1)
           at-number.number.result n _ at_wide.wide.ensures.0 _
-          (c.after-offer.ensures ∙ ap (λ (k : ℕ). offerTaken k (get_or l.inputs at-number.number.result (freshInput 0)))
+          (c.after-offer.ensures ∙ ap (λ (k : ℕ). offer_taken k (get_or l.inputs at-number.number.result (fresh_input 0)))
           c.before.kind-of.ensures)),
     )
 
@@ -288,7 +288,7 @@ returns c =
     let l = c.before.before.loop in
     let a = (start_loop c.before.before).args in
     let e : l.next ≡ a.config.ports = omega arith in
-    l.invariant.1 ∙ ap (λ (n : ℕ). overPorts n (takenAt a.config a.part.now) (record { inputs = a.before; wire = a.wire.now })) e
+    l.invariant.1 ∙ ap (λ (n : ℕ). over_ports n (taken_at a.config a.part.now) (record { inputs = a.before; wire = a.wire.now })) e
 
 pub take-offers-spec : {M : Type 1} → statement M
 take-offers-spec =

@@ -5,16 +5,16 @@ use mathlib.Core.Bool.{not}
 use Prim.Native.Nat.{◌-◌, ◌≤◌}
 use lib.ListN.{length}
 use borrow.Author.Rules.{rules}
-use Rattle.state.proofs.Exact.{length-any}
-use Rattle.rules.specs.Numbers.{outOfTurn}
-use Rattle.router.proofs.FirstPort.{Left, left-all, left-next, left-found, left-none}
+use Rattle.state.proofs.Exact.{length_any}
+use Rattle.rules.specs.Numbers.{out_of_turn}
+use Rattle.router.proofs.FirstPort.{Left, left_all, left_next, left_found, left_none}
 use Rattle.router.proofs.Numbers.{more}
-use Rattle.router.proofs.PortTests.{turn-none, turn-out, turn_in}
+use Rattle.router.proofs.PortTests.{turn_none, turn_out, turn_in}
 use Rattle.router.proofs.judge.first_out_of_turn.Statement.{statement}
 use Rattle.router.proofs.judge.first_out_of_turn.Tie as tie
 
 abbrev invariant-loop : tie.invariant-loop
-invariant-loop config part inputs next₀ next = (next ≤ config.ports) × Left (outOfTurn config inputs part) config.ports next
+invariant-loop config part inputs next₀ next = (next ≤ config.ports) × Left (out_of_turn config inputs part) config.ports next
 
 abbrev decreases-loop : tie.decreases-loop
 decreases-loop config part inputs next₀ next = config.ports - next
@@ -52,10 +52,10 @@ before-then5 c = c.before.before.before.before
 
 -- the array has its length
 given : (c : tie.Start invariant-loop decreases-loop) → length c.args.t2 ≡ 32
-given c = search (rules, length-any)
+given c = search (rules, length_any)
 
 loop-holds : tie.Need-loop-init invariant-loop decreases-loop
-loop-holds c = (search rules, left-all _ _)
+loop-holds c = (search rules, left_all _ _)
 
 -- no flit comes
 loop-again : tie.Need-loop-preserved invariant-loop decreases-loop
@@ -63,8 +63,8 @@ loop-again c =
     let l = (before-then1 (before-kind-of c.before)).loop in
     let a = (before-loop (before-then1 (before-kind-of c.before))).args in (
       more a.config.ports l.next c.before.before.if1.true,
-      left-next _ _ _ c.before.before.if1.true l.inv.1
-          (sym (turn-none _ _ _ _ _ c.before.kind-of.ensures c.if2.true)),
+      left_next _ _ _ c.before.before.if1.true l.inv.1
+          (sym (turn_none _ _ _ _ _ c.before.kind-of.ensures c.if2.true)),
     )
 
 -- a flit on a VC that there is not
@@ -82,8 +82,8 @@ loop-again-2 c =
     let a = start.args in
     let long : length a.t2 ≡ 32 = given start in (
       more a.config.ports l.next at-then1.if1.taken,
-      left-next _ _ _ at-then1.if1.taken l.inv.1
-          (sym (turn-out _ _ _ _ _ at-kind-of.kind-of.ensures at-else2.if2.left _ c.before.before.starts.ensures _
+      left_next _ _ _ at-then1.if1.taken l.inv.1
+          (sym (turn_out _ _ _ _ _ at-kind-of.kind-of.ensures at-else2.if2.left _ c.before.before.starts.ensures _
           (at_wide.wide.ensures.0 ∙ at-vc-of.vc-of.ensures) _ at-number.number.ensures (rw long c.before.if3.true))
           ∙ ap not c.if4.true),
     )
@@ -101,8 +101,8 @@ returns c =
     let l = at-loop.loop in
     let a = start.args in
     let long : length a.t2 ≡ 32 = given start in
-    left-found _ _ _ at-then1.if1.taken start.pre.0 l.inv.1
-    (sym (turn-out _ _ _ _ _ at-kind-of.kind-of.ensures at-else2.if2.left _ c.before.before.starts.ensures _
+    left_found _ _ _ at-then1.if1.taken start.pre.0 l.inv.1
+    (sym (turn_out _ _ _ _ _ at-kind-of.kind-of.ensures at-else2.if2.left _ c.before.before.starts.ensures _
     (at_wide.wide.ensures.0 ∙ at-vc-of.vc-of.ensures) _ at-number.number.ensures (rw long c.before.if3.true))
     ∙ ap not c.if4.false)
 
@@ -120,7 +120,7 @@ returns-2 c =
     let start = before-loop at-loop in
     let l = at-loop.loop in
     let a = start.args in
-    left-found _ _ _ at-then1.if1.taken start.pre.0 l.inv.1
+    left_found _ _ _ at-then1.if1.taken start.pre.0 l.inv.1
     (sym (turn_in _ _ _ _ _ at-kind-of.kind-of.ensures at-else2.if2.left _ at-starts.starts.ensures _
     (at_wide.wide.ensures.0 ∙ at-vc-of.vc-of.ensures) _ at-number.number.ensures) ∙ c.if5.true)
 
@@ -138,13 +138,13 @@ loop-again-3 c =
     let l = at-loop.loop in
     let a = start.args in (
       more a.config.ports l.next at-then1.if1.taken,
-      left-next _ _ _ at-then1.if1.taken l.inv.1
+      left_next _ _ _ at-then1.if1.taken l.inv.1
           (sym (turn_in _ _ _ _ _ at-kind-of.kind-of.ensures at-else2.if2.left _ at-starts.starts.ensures _
           (at_wide.wide.ensures.0 ∙ at-vc-of.vc-of.ensures) _ at-number.number.ensures) ∙ c.if5.false),
     )
 
 returns-3 : tie.Need-returns-3 invariant-loop decreases-loop
-returns-3 c = left-none _ _ _ c.if1.false c.before.before.loop.invariant.1
+returns-3 c = left_none _ _ _ c.if1.false c.before.before.loop.invariant.1
 
 pub first-out-of-turn-spec : {M : Type 1} → statement M
 first-out-of-turn-spec =

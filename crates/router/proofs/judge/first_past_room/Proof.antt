@@ -4,16 +4,16 @@ use mathlib.Core.Path.{◌≡◌, sym, ◌∙◌}
 use Prim.Native.Nat.{◌-◌, ◌≤◌}
 use lib.ListN.{length}
 use borrow.Author.Rules.{rules}
-use Rattle.state.proofs.Exact.{length-any}
-use Rattle.rules.specs.Numbers.{creditPastRoom}
-use Rattle.router.proofs.FirstPort.{Left, left-all, left-next, left-found, left-none}
+use Rattle.state.proofs.Exact.{length_any}
+use Rattle.rules.specs.Numbers.{credit_past_room}
+use Rattle.router.proofs.FirstPort.{Left, left_all, left_next, left_found, left_none}
 use Rattle.router.proofs.Numbers.{more}
-use Rattle.router.proofs.PortTests.{past-none, past-out, past-in}
+use Rattle.router.proofs.PortTests.{past_none, past_out, past_in}
 use Rattle.router.proofs.judge.first_past_room.Statement.{statement}
 use Rattle.router.proofs.judge.first_past_room.Tie as tie
 
 abbrev invariant-loop : tie.invariant-loop
-invariant-loop config part outputs next₀ next = (next ≤ config.ports) × Left (creditPastRoom config outputs part) config.ports next
+invariant-loop config part outputs next₀ next = (next ≤ config.ports) × Left (credit_past_room config outputs part) config.ports next
 
 abbrev decreases-loop : tie.decreases-loop
 decreases-loop config part outputs next₀ next = config.ports - next
@@ -51,10 +51,10 @@ before-then5 c = c.before.before.before.before.before
 
 -- the array has its length
 given : (c : tie.Start invariant-loop decreases-loop) → length c.args.t2 ≡ 32
-given c = search (rules, length-any)
+given c = search (rules, length_any)
 
 loop-holds : tie.Need-loop-init invariant-loop decreases-loop
-loop-holds c = (search rules, left-all _ _)
+loop-holds c = (search rules, left_all _ _)
 
 -- no credit comes
 loop-again : tie.Need-loop-preserved invariant-loop decreases-loop
@@ -65,8 +65,8 @@ loop-again c =
     let l = at-loop.loop in
     let a = start.args in (
       more a.config.ports l.next at-then1.if1.taken,
-      left-next _ _ _ at-then1.if1.taken l.inv.1
-          (sym (past-none _ _ _ _ (sym (c.before.wide.ensures.0 ∙ c.before.before.credit-of.ensures) ∙ c.if2.true))),
+      left_next _ _ _ at-then1.if1.taken l.inv.1
+          (sym (past_none _ _ _ _ (sym (c.before.wide.ensures.0 ∙ c.before.before.credit-of.ensures) ∙ c.if2.true))),
     )
 
 -- a credit for a VC that there is not
@@ -82,8 +82,8 @@ returns c =
     let l = at-loop.loop in
     let a = start.args in
     let long : length a.t2 ≡ 32 = given start in
-    left-found _ _ _ at-then1.if1.taken start.pre.0 l.inv.1
-    (sym (past-out _ _ _ _ _ (at_wide.wide.ensures.0 ∙ at-credit-of.credit-of.ensures) at-else2.if2.left _
+    left_found _ _ _ at-then1.if1.taken start.pre.0 l.inv.1
+    (sym (past_out _ _ _ _ _ (at_wide.wide.ensures.0 ∙ at-credit-of.credit-of.ensures) at-else2.if2.left _
     at-number.number.ensures (rw long c.before.before.if3.true)) ∙ c.if4.true)
 
 loop-again-2 : tie.Need-loop-preserved-2 invariant-loop decreases-loop
@@ -99,8 +99,8 @@ loop-again-2 c =
     let a = start.args in
     let long : length a.t2 ≡ 32 = given start in (
       more a.config.ports l.next at-then1.if1.taken,
-      left-next _ _ _ at-then1.if1.taken l.inv.1
-          (sym (past-out _ _ _ _ _ (at_wide.wide.ensures.0 ∙ at-credit-of.credit-of.ensures) at-else2.if2.left _
+      left_next _ _ _ at-then1.if1.taken l.inv.1
+          (sym (past_out _ _ _ _ _ (at_wide.wide.ensures.0 ∙ at-credit-of.credit-of.ensures) at-else2.if2.left _
           at-number.number.ensures (rw long c.before.before.if3.true)) ∙ c.if4.false),
     )
 
@@ -116,8 +116,8 @@ returns-2 c =
     let start = before-loop at-loop in
     let l = at-loop.loop in
     let a = start.args in
-    left-found _ _ _ at-then1.if1.taken start.pre.0 l.inv.1
-    (sym (past-in _ _ _ _ _ (at_wide.wide.ensures.0 ∙ at-credit-of.credit-of.ensures) at-else2.if2.left _
+    left_found _ _ _ at-then1.if1.taken start.pre.0 l.inv.1
+    (sym (past_in _ _ _ _ _ (at_wide.wide.ensures.0 ∙ at-credit-of.credit-of.ensures) at-else2.if2.left _
     at-number.number.ensures) ∙ c.if5.true)
 
 loop-again-3 : tie.Need-loop-preserved-3 invariant-loop decreases-loop
@@ -132,13 +132,13 @@ loop-again-3 c =
     let l = at-loop.loop in
     let a = start.args in (
       more a.config.ports l.next at-then1.if1.taken,
-      left-next _ _ _ at-then1.if1.taken l.inv.1
-          (sym (past-in _ _ _ _ _ (at_wide.wide.ensures.0 ∙ at-credit-of.credit-of.ensures) at-else2.if2.left _
+      left_next _ _ _ at-then1.if1.taken l.inv.1
+          (sym (past_in _ _ _ _ _ (at_wide.wide.ensures.0 ∙ at-credit-of.credit-of.ensures) at-else2.if2.left _
           at-number.number.ensures) ∙ c.if5.false),
     )
 
 returns-3 : tie.Need-returns-3 invariant-loop decreases-loop
-returns-3 c = left-none _ _ _ c.if1.false c.before.before.loop.invariant.1
+returns-3 c = left_none _ _ _ c.if1.false c.before.before.loop.invariant.1
 
 pub first-past-room-spec : {M : Type 1} → statement M
 first-past-room-spec =

@@ -4,16 +4,16 @@ use mathlib.Core.Path.{◌≡◌, sym, ◌∙◌}
 use Prim.Native.Nat.{◌-◌, ◌≤◌}
 use lib.ListN.{length}
 use borrow.Author.Rules.{rules}
-use Rattle.state.proofs.Exact.{length-any}
-use Rattle.rules.specs.Numbers.{noSenderCredit}
-use Rattle.router.proofs.FirstPort.{Left, left-all, left-next, left-found, left-none}
+use Rattle.state.proofs.Exact.{length_any}
+use Rattle.rules.specs.Numbers.{no_sender_credit}
+use Rattle.router.proofs.FirstPort.{Left, left_all, left_next, left_found, left_none}
 use Rattle.router.proofs.Numbers.{more}
-use Rattle.router.proofs.PortTests.{credit-none, credit-out, credit-in}
+use Rattle.router.proofs.PortTests.{credit_none, credit_out, credit_in}
 use Rattle.router.proofs.judge.first_without_credit.Statement.{statement}
 use Rattle.router.proofs.judge.first_without_credit.Tie as tie
 
 abbrev invariant-loop : tie.invariant-loop
-invariant-loop config part paid next₀ next = (next ≤ config.ports) × Left (noSenderCredit config paid part) config.ports next
+invariant-loop config part paid next₀ next = (next ≤ config.ports) × Left (no_sender_credit config paid part) config.ports next
 
 abbrev decreases-loop : tie.decreases-loop
 decreases-loop config part paid next₀ next = config.ports - next
@@ -51,10 +51,10 @@ vc-of-number c = before-wide (before-number c)
 
 -- the array has its length
 given : (c : tie.Start invariant-loop decreases-loop) → length c.args.t2 ≡ 32
-given c = search (rules, length-any)
+given c = search (rules, length_any)
 
 loop-holds : tie.Need-loop-init invariant-loop decreases-loop
-loop-holds c = (search rules, left-all _ _)
+loop-holds c = (search rules, left_all _ _)
 
 -- no flit comes
 loop-again : tie.Need-loop-preserved invariant-loop decreases-loop
@@ -62,8 +62,8 @@ loop-again c =
     let l = (before-then1 (before-kind-of c.before)).loop in
     let a = (before-loop (before-then1 (before-kind-of c.before))).args in (
       more a.config.ports l.next c.before.before.if1.true,
-      left-next _ _ _ c.before.before.if1.true l.inv.1
-          (sym (credit-none _ _ _ _ _ c.before.kind-of.ensures c.if2.true)),
+      left_next _ _ _ c.before.before.if1.true l.inv.1
+          (sym (credit_none _ _ _ _ _ c.before.kind-of.ensures c.if2.true)),
     )
 
 -- a flit on a VC that there is not
@@ -78,8 +78,8 @@ returns c =
     let l = at-loop.loop in
     let a = start.args in
     let long : length a.t2 ≡ 32 = given start in
-    left-found _ _ _ at-then1.if1.taken start.pre.0 l.inv.1
-    (sym (credit-out _ _ _ _ _ at-kind-of.kind-of.ensures at-else2.if2.left _
+    left_found _ _ _ at-then1.if1.taken start.pre.0 l.inv.1
+    (sym (credit_out _ _ _ _ _ at-kind-of.kind-of.ensures at-else2.if2.left _
     (c.before.before.wide.ensures.0 ∙ at-vc-of.vc-of.ensures) _ c.before.number.ensures (rw long c.if3.true)))
 
 -- a flit on one that there is
@@ -95,8 +95,8 @@ returns-2 c =
     let start = before-loop at-loop in
     let l = at-loop.loop in
     let a = start.args in
-    left-found _ _ _ at-then1.if1.taken start.pre.0 l.inv.1
-    (sym (credit-in _ _ _ _ _ at-kind-of.kind-of.ensures at-else2.if2.left _
+    left_found _ _ _ at-then1.if1.taken start.pre.0 l.inv.1
+    (sym (credit_in _ _ _ _ _ at-kind-of.kind-of.ensures at-else2.if2.left _
     (at_wide.wide.ensures.0 ∙ at-vc-of.vc-of.ensures) _ at-number.number.ensures) ∙ c.if4.true)
 
 loop-again-2 : tie.Need-loop-preserved-2 invariant-loop decreases-loop
@@ -112,13 +112,13 @@ loop-again-2 c =
     let l = at-loop.loop in
     let a = start.args in (
       more a.config.ports l.next at-then1.if1.taken,
-      left-next _ _ _ at-then1.if1.taken l.inv.1
-          (sym (credit-in _ _ _ _ _ at-kind-of.kind-of.ensures at-else2.if2.left _
+      left_next _ _ _ at-then1.if1.taken l.inv.1
+          (sym (credit_in _ _ _ _ _ at-kind-of.kind-of.ensures at-else2.if2.left _
           (at_wide.wide.ensures.0 ∙ at-vc-of.vc-of.ensures) _ at-number.number.ensures) ∙ c.if4.false),
     )
 
 returns-3 : tie.Need-returns-3 invariant-loop decreases-loop
-returns-3 c = left-none _ _ _ c.if1.false c.before.before.loop.invariant.1
+returns-3 c = left_none _ _ _ c.if1.false c.before.before.loop.invariant.1
 
 pub first-without-credit-spec : {M : Type 1} → statement M
 first-without-credit-spec =

@@ -3,25 +3,25 @@
 use borrow.Author.Rules.{rules}
 use mathlib.Core.Path.{◌∙◌}
 use Rattle.router.proofs.FirstPort.{found, not_found}
-use Rattle.router.proofs.RuleOrder.{by-10, by_length, by-3, by-6, by_4, by-5, by-none}
+use Rattle.router.proofs.RuleOrder.{by_10, by_length, by_3, by_6, by_4, by_5, by_none}
 use Rattle.router.proofs.judge.judge.Statement.{statement}
 use Rattle.router.proofs.judge.judge.Tie as tie
 
 returns : tie.Need-returns
-returns c = c.refusing.ensures ∙ by-10 _ _ _ _ _ _ c.before.if1.true
+returns c = c.refusing.ensures ∙ by_10 _ _ _ _ _ _ c.before.if1.true
 
 returns-2 : tie.Need-returns-2
 returns-2 c = c.refusing2.ensures ∙ by_length _ _ _ _ _ _ c.before.before.if1.false c.before.if2.true
 
 returns-3 : tie.Need-returns-3
 returns-3 c =
-    c.refusing3.ensures ∙ by-3 _ _ _ _ _ _ c.before.before.before.before.if1.false c.before.before.before.if2.false _
+    c.refusing3.ensures ∙ by_3 _ _ _ _ _ _ c.before.before.before.before.if1.false c.before.before.before.if2.false _
     (found _ _ _ c.before.before.first-wrong-row.ensures c.before.if3.true)
 
 returns-4 : tie.Need-returns-4
 returns-4 c =
     c.refusing4.ensures
-    ∙ by-6 _ _ _ _ _ _ c.before.before.before.before.before.before.if1.false c.before.before.before.before.before.if2.false
+    ∙ by_6 _ _ _ _ _ _ c.before.before.before.before.before.before.if1.false c.before.before.before.before.before.if2.false
     (not_found _ _ _ c.before.before.before.before.first-wrong-row.ensures c.before.before.before.if3.false)
     _ (found _ _ _ c.before.before.first-past-room.ensures c.before.if4.true)
 
@@ -39,7 +39,7 @@ returns-6 c =
     let b = c.before.before.before.before in
     let a = b.before.before.before.before in
     c.refusing6.ensures
-    ∙ by-5 _ _ _ _ _ _ a.before.before.if1.false a.before.if2.false (not_found _ _ _ a.first-wrong-row.ensures
+    ∙ by_5 _ _ _ _ _ _ a.before.before.if1.false a.before.if2.false (not_found _ _ _ a.first-wrong-row.ensures
     b.before.before.before.if3.false)
     (not_found _ _ _ b.before.before.first-past-room.ensures b.before.if4.false)
     (not_found _ _ _ b.first-out-of-turn.ensures c.before.before.before.if5.false)
@@ -49,7 +49,7 @@ returns-7 : tie.Need-returns-7
 returns-7 c =
     let b = c.before.before.before in
     let a = b.before.before.before.before in
-    by-none _ _ _ _ _ _ a.before.before.if1.false a.before.if2.false (not_found _ _ _ a.first-wrong-row.ensures
+    by_none _ _ _ _ _ _ a.before.before.if1.false a.before.if2.false (not_found _ _ _ a.first-wrong-row.ensures
     b.before.before.before.if3.false)
     (not_found _ _ _ b.before.before.first-past-room.ensures b.before.if4.false)
     (not_found _ _ _ b.first-out-of-turn.ensures c.before.before.if5.false)

@@ -5,12 +5,12 @@ use mathlib.Core.Path.{◌≡◌, refl, ap, ◌∙◌}
 use Prim.Native.Nat.{ℕ, ◌+◌, ◌-◌, ◌≤◌, ◌<◌}
 use lib.ListN.{length, get_or, replicate}
 use Rattle.base.specs.declared.reply.Left.TheVariants as left
-use Rattle.state.proofs.Exact.{length-any}
+use Rattle.state.proofs.Exact.{length_any}
 use borrow.Author.Rules.{rules}
-use Rattle.rules.specs.Ports.{overPorts}
+use Rattle.rules.specs.Ports.{over_ports}
 use Rattle.rules.specs.Departures.{Leaving, departures}
-use Rattle.rules.proofs.Folds.{over_none, over-again}
-use Rattle.router.proofs.Departing.{leaveTurn, Won, won-at, stays, among, not-bound, leaves-now, leaves-past, leaving-long}
+use Rattle.rules.proofs.Folds.{over_none, over_again}
+use Rattle.router.proofs.Departing.{leave_turn, Won, won-at, stays, among, not-bound, leaves-now, leaves-past, leaving_long}
 use Rattle.router.proofs.Numbers.{fewer, more}
 use Rattle.router.proofs.leaving.leave.Statement.{statement}
 use Rattle.router.proofs.leaving.leave.Tie as tie
@@ -18,7 +18,7 @@ use Rattle.router.proofs.leaving.leave.Tie as tie
 abbrev invariant-loop : tie.invariant-loop
 invariant-loop config rows picks store₀ home₀ inputs₀ outputs₀ left₀ next₀ store home inputs outputs left next =
     (next ≤ config.ports) × (◌≡◌ {A = Leaving} (record { inputs = inputs; outputs = outputs; store = store; home = home; left = left })
-    (overPorts next (leaveTurn config rows picks) (record
+    (over_ports next (leave_turn config rows picks) (record
     { inputs = inputs₀; outputs = outputs₀; store = store₀; home = home₀; left = left₀ })))
 
 abbrev decreases-loop : tie.decreases-loop
@@ -99,20 +99,20 @@ sofar c = record {
 }
 
 abbrev turn : tie.Start invariant-loop decreases-loop → Leaving → ℕ → Leaving
-turn c = leaveTurn c.args.config c.args.rows c.args.picks
+turn c = leave_turn c.args.config c.args.rows c.args.picks
 
 -- the invariant after one more turn
 again : (c : tie.At-loop invariant-loop decreases-loop) {u : Leaving} → u ≡ turn c.before (sofar c) c.loop.next
-    → u ≡ overPorts (c.loop.next + 1) (turn c.before) (first c.before)
-again c e = over-again c.loop.next (turn c.before) (first c.before) (sofar c) _ c.loop.invariant.1 e
+    → u ≡ over_ports (c.loop.next + 1) (turn c.before) (first c.before)
+again c e = over_again c.loop.next (turn c.before) (first c.before) (sofar c) _ c.loop.invariant.1 e
 
 -- both arrays keep their lengths
 longs : (c : tie.At-loop invariant-loop decreases-loop) → (length c.loop.inputs ≡ 32) × (length c.loop.outputs ≡ 32)
 longs c =
     let a = c.before.args in
-    let given : length a.before ≡ 32 = search (rules, length-any) in
-    let far : length a.earlier ≡ 32 = search (rules, length-any) in
-    let k = leaving-long a.config a.rows a.picks (first c.before) 32 32 c.loop.next given far in
+    let given : length a.before ≡ 32 = search (rules, length_any) in
+    let far : length a.earlier ≡ 32 = search (rules, length_any) in
+    let k = leaving_long a.config a.rows a.picks (first c.before) 32 32 c.loop.next given far in
     (ap (λ (t : Leaving). length t.inputs) c.loop.invariant.1 ∙ k.0, ap (λ (t : Leaving). length t.outputs) c.loop.invariant.1 ∙ k.1)
 
 -- the turn is one of the ports'
@@ -141,7 +141,7 @@ input-there : (c : tie.Else2 invariant-loop decreases-loop) → get_or (before-l
     (before-then1 (before-else2 c)).loop.next 0 - 1 < 8
 input-there c =
     let a = (before-loop (before-then1 (before-else2 c))).args in
-    let given : length a.picks ≡ 8 = search (rules, length-any) in
+    let given : length a.picks ≡ 8 = search (rules, length_any) in
     rw given at (among a.config a.rows a.picks (before-then1 (before-else2 c)).loop.next c.before.winning.result
     (winner c).1)
 
@@ -328,7 +328,7 @@ returns c =
     let start = before-loop c.before.before in
     let l = c.before.before.loop in
     let e : l.next ≡ start.args.config.ports = omega arith in
-    l.invariant.1 ∙ ap (λ (n : ℕ). overPorts n (turn start) (first start)) e
+    l.invariant.1 ∙ ap (λ (n : ℕ). over_ports n (turn start) (first start)) e
 
 pub leave_spec : {M : Type 1} → statement M
 leave_spec =

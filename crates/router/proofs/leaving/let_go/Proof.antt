@@ -2,7 +2,7 @@
 -- Assumes nothing.
 use lib.ListN.{get_or}
 use borrow.Author.Rules.{rules}
-use Rattle.router.proofs.Departing.{let-go-seen, let-go-home}
+use Rattle.router.proofs.Departing.{let_go_seen, let_go_home}
 use Rattle.router.proofs.leaving.let_go.Statement.{statement}
 use Rattle.router.proofs.leaving.let_go.Tie as tie
 
@@ -12,10 +12,10 @@ returns c =
     let row = get_or a.t2 a.o 0 in
     let input = c.before.before.before.before.less_one.ensures in
     let i = c.before.before.before.wide.ensures.0 in (
-      let-go-seen row a.t3 c.departed.ensures input i c.before.less-one2.ensures
+      let_go_seen row a.t3 c.departed.ensures input i c.before.less-one2.ensures
           c.before.before.before.before.before.before.before.front.ensures,
       c.before.before.before.before.before.pop.ensures,
-      let-go-home row a.home.now a.t3 a.config.back input i,
+      let_go_home row a.home.now a.t3 a.config.back input i,
     )
 
 pub let-go-spec : {M : Type 1} → statement M

@@ -3,7 +3,7 @@
 use borrow.Author.Rules.{rules}
 use Prim.Native.Nat.{◌+◌, ◌*◌}
 use native.Mathlib.Omega.{arith}
-use Rattle.router.proofs.RowBytes.{payload-is}
+use Rattle.router.proofs.RowBytes.{payload_is}
 use Rattle.router.proofs.rows.payload.Statement.{statement}
 use Rattle.router.proofs.rows.payload.Tie as tie
 
@@ -43,7 +43,7 @@ add-result-7 c =
     (arith, b (at + 4), b (at + 5), b (at + 6), b (at + 7))
 
 returns : tie.Need-returns
-returns c = payload-is _ _
+returns c = payload_is _ _
 
 pub payload-spec : {M : Type 1} → statement M
 payload-spec =

@@ -8,8 +8,8 @@ use borrow.Author.Rules.{rules}
 use Rattle.trace.specs.declared.judging.Found.{Found}
 use Rattle.trace.specs.Judged.{meaning, judged}
 use Rattle.router.specs.Running.{Writing}
-use Rattle.router.specs.Inside.{writingOf}
-use Rattle.router.proofs.Taken.{taken_refused, taken-cycles, taken-end, taken-over, cycles-held, configuration-first}
+use Rattle.router.specs.Inside.{writing_of}
+use Rattle.router.proofs.Taken.{taken_refused, taken_cycles, taken_end, taken_over, cycles_held, configuration_first}
 use Rattle.router.proofs.running.block.Statement.{statement}
 use Rattle.router.proofs.running.block.Tie as tie
 
@@ -52,7 +52,7 @@ start-found2 c = before-judge (before-found2 c)
 
 -- the run that is handed in, and its block
 abbrev given : tie.Start → Writing
-given c = writingOf c.args.config c.args.before c.args.store.now c.args.wire.now c.args.home.now c.args.out.now
+given c = writing_of c.args.config c.args.before c.args.store.now c.args.wire.now c.args.home.now c.args.out.now
 
 abbrev bytes : tie.Start → List ℕ
 bytes c = c.args.block.now
@@ -68,7 +68,7 @@ cycles-requires c κs =
     let at-found = before-cycles-arg4 c in
     let at-judge = before-found at-found in
     let start = before-judge at-judge in
-    let h = cycles-held (bytes start) (given start) _ _ (outcome at-judge _ at-found.found.given.1) in
+    let h = cycles_held (bytes start) (given start) _ _ (outcome at-judge _ at-found.found.given.1) in
     (record { sound = start.pre.1.sound; few = start.pre.1.few; room = start.pre.1.room }, h.whole, h.most, h.held)
 
 finish-requires : tie.Need-finish-requires
@@ -81,7 +81,7 @@ returns : tie.Need-returns
 returns c =
     let at-judge = before-enum-told c in
     let start = before-judge at-judge in
-    absurd (true≢false (sym start.pre.0 ∙ (configuration-first (bytes start) (given start) _ _
+    absurd (true≢false (sym start.pre.0 ∙ (configuration_first (bytes start) (given start) _ _
     (outcome at-judge _ c.enum_told.given.1)).0))
 
 returns-2 : tie.Need-returns-2
@@ -89,14 +89,14 @@ returns-2 c =
     let at-found = before-cycles-arg4 (before-slice-known2 c) in
     let at-judge = before-found at-found in
     let start = before-judge at-judge in
-    c.before.before.cycles.ensures ∙ taken-cycles (bytes start) (given start) _ _
+    c.before.before.cycles.ensures ∙ taken_cycles (bytes start) (given start) _ _
     (outcome at-judge _ at-found.found.given.1)
 
 returns-3 : tie.Need-returns-3
 returns-3 c =
     let at-judge = before-enum-told2 c in
     let start = before-judge at-judge in
-    taken-end (bytes start) (given start) _ (outcome at-judge _ c.enum-told2.given.1)
+    taken_end (bytes start) (given start) _ (outcome at-judge _ c.enum-told2.given.1)
 
 returns-4 : tie.Need-returns-4
 returns-4 c =
@@ -104,7 +104,7 @@ returns-4 c =
     let at-judge = before-enum-told3 at-enum-told3 in
     let start = before-judge at-judge in
     c.before.before.finish.ensures start.args.config start.args.store.now start.args.wire.now start.args.home.now
-    ∙ taken-over (bytes start) (given start) _ (outcome at-judge _ at-enum-told3.enum-told3.given.1)
+    ∙ taken_over (bytes start) (given start) _ (outcome at-judge _ at-enum-told3.enum-told3.given.1)
 
 returns-5 : tie.Need-returns-5
 returns-5 c =

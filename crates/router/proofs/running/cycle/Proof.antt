@@ -3,11 +3,11 @@
 use mathlib.Core.Path.{◌∙◌}
 use native.Mathlib.Omega.{arith}
 use borrow.Author.Rules.{rules}
-use Rattle.listing.specs.Lines.{cycleLines}
-use Rattle.listing.proofs.Lengths.{cycle-length}
+use Rattle.listing.specs.Lines.{cycle_lines}
+use Rattle.listing.proofs.Lengths.{cycle_length-law}
 use Rattle.router.proofs.Cycling.{refused-run, accepted-run}
-use Rattle.router.proofs.Writes.{place-fits}
-use Rattle.state.proofs.Legal.{sound-cycle}
+use Rattle.router.proofs.Writes.{place_fits}
+use Rattle.state.proofs.Legal.{sound_cycle}
 use Rattle.router.proofs.running.cycle.Statement.{statement}
 use Rattle.router.proofs.running.cycle.Tie as tie
 
@@ -73,7 +73,7 @@ returns c =
 flits-fit : tie.Need-overflow-add-t25
 flits-fit c =
     let g = (start-struct-known c).requires in
-    let l = sound-cycle (start-struct-known c).requires.sound in
+    let l = sound_cycle (start-struct-known c).requires.sound in
     let f = g.few in
     let h = c.before.flits-of.ensures.1 in
     record { fits = omega (arith, l, f, h) }
@@ -84,10 +84,10 @@ place_in c =
     let at-write-cycle = before-size at_size in
     let at-inner-step = before-enum-told (before-write-cycle at-write-cycle) in
     let start = start-inner-step at-inner-step in
-    let l = place-fits start.args.out.now start.args.before.at
-    (cycleLines start.args.before.cycle at-inner-step.inner-step.result.reply) at-write-cycle.write-cycle.result _
+    let l = place_fits start.args.out.now start.args.before.at
+    (cycle_lines start.args.before.cycle at-inner-step.inner-step.result.reply) at-write-cycle.write-cycle.result _
     at_size.size.result at-write-cycle.write-cycle.ensures at_size.size.ensures
-    (cycle-length start.args.before.cycle at-inner-step.inner-step.result.reply) start.pre.room in
+    (cycle_length-law start.args.before.cycle at-inner-step.inner-step.result.reply) start.pre.room in
     record { fits = omega (arith, l) }
 
 returns-2 : tie.Need-returns-2

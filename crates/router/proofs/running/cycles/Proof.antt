@@ -9,18 +9,18 @@ use lib.ListN.{length}
 use borrow.Author.Rules.{rules}
 use Rattle.trace.specs.Cycles.{Slice, slice_of}
 use Rattle.trace.specs.Blocks.{part_at}
-use Rattle.router.specs.Running.{cycled, cyclesFrom}
-use Rattle.router.specs.Inside.{GoesOn, writingOf}
-use Rattle.router.proofs.Going.{cycled-goes-on, piece_bytes}
-use Rattle.router.proofs.Cycling.{part-shown, cycles-over, cycles-none, cycles-more}
+use Rattle.router.specs.Running.{cycled, cycles_from}
+use Rattle.router.specs.Inside.{GoesOn, writing_of}
+use Rattle.router.proofs.Going.{cycled_goes_on, piece_bytes}
+use Rattle.router.proofs.Cycling.{part_shown, cycles_over, cycles_none, cycles_more}
 use Rattle.router.proofs.running.cycles.Statement.{statement}
 use Rattle.router.proofs.running.cycles.Tie as tie
 
 abbrev invariant-loop : tie.invariant-loop
 invariant-loop config held block store₀ wire₀ home₀ out₀ went₀ k₀ store wire home out run k =
-    (k ≤ held) × (cyclesFrom block k (held - k) (writingOf config run store wire home out)
-    ≡ cyclesFrom block 0 held (writingOf config went₀ store₀ wire₀ home₀ out₀))
-    × GoesOn (writingOf config run store wire home out) × (length out ≡ length out₀)
+    (k ≤ held) × (cycles_from block k (held - k) (writing_of config run store wire home out)
+    ≡ cycles_from block 0 held (writing_of config went₀ store₀ wire₀ home₀ out₀))
+    × GoesOn (writing_of config run store wire home out) × (length out ≡ length out₀)
 
 abbrev decreases-loop : tie.decreases-loop
 decreases-loop config held block store₀ wire₀ home₀ out₀ went₀ k₀ store wire home out run k = held - k
@@ -62,8 +62,8 @@ loop-cycle-arg4 c = loop-cycle-part (before-cycle-arg4 c)
 loop-holds : tie.Need-loop-init invariant-loop decreases-loop
 loop-holds c = (
   omega arith,
-  ap (λ (n : ℕ). cyclesFrom c.before.before.args.block.now 0 n
-      (writingOf c.before.before.args.config c.before.before.args.before c.before.before.args.store.now
+  ap (λ (n : ℕ). cycles_from c.before.before.args.block.now 0 n
+      (writing_of c.before.before.args.config c.before.before.args.before c.before.before.args.store.now
       c.before.before.args.wire.now c.before.before.args.home.now c.before.before.args.out.now))
       (sub-zero c.before.before.args.held),
   c.before.before.requires.0,
@@ -72,7 +72,7 @@ loop-holds c = (
 
 returns : tie.Need-returns invariant-loop decreases-loop
 returns c =
-    sym (cycles-over _ c.before.before.loop.k ((start_loop (before-in-loop c.before)).args.held - c.before.before.loop.k) _
+    sym (cycles_over _ c.before.before.loop.k ((start_loop (before-in-loop c.before)).args.held - c.before.before.loop.k) _
     c.if1.true) ∙ c.before.before.loop.invariant.1
 
 cycle-requires : tie.Need-cycle-requires invariant-loop decreases-loop
@@ -84,7 +84,7 @@ shown : (c : tie.After-cycle-part invariant-loop decreases-loop) → c.cycle-par
 shown c =
     let at-loop = loop-cycle-part c in
     let start = start_loop at-loop in
-    ap (λ (s : Slice). s.bytes) c.cycle-part.ensures ∙ part-shown (slice_of start.args.block) at-loop.loop.k start.pre.1
+    ap (λ (s : Slice). s.bytes) c.cycle-part.ensures ∙ part_shown (slice_of start.args.block) at-loop.loop.k start.pre.1
     start.pre.2 (let h = start.pre.3 in let t = c.before.before.loop-test.true in omega (arith, h, t))
 
 add-k : tie.Need-overflow-add-k invariant-loop decreases-loop
@@ -101,15 +101,15 @@ loop-again c =
     let at-shared-slice-known = before-loop (before-in-loop at-in-loop) in
     let at-loop = before-in-loop at-in-loop in
     let start = before-shared-slice-known at-shared-slice-known in
-    let w = writingOf start.args.config at-loop.loop.run at-loop.loop.store at-loop.loop.wire at-loop.loop.home
+    let w = writing_of start.args.config at-loop.loop.run at-loop.loop.store at-loop.loop.wire at-loop.loop.home
     at-loop.loop.out in
     let e = c.before.before.cycle.ensures ∙ ap (λ (part : List ℕ). cycled part w) (shown at-cycle-part) in (
       omega arith,
-      ap (cyclesFrom start.args.block.now (at-loop.loop.k + 1) (start.args.held - (at-loop.loop.k + 1))) e
-          ∙ sym (cycles-more start.args.block.now at-loop.loop.k start.args.held w at-in-loop.loop-test.taken
+      ap (cycles_from start.args.block.now (at-loop.loop.k + 1) (start.args.held - (at-loop.loop.k + 1))) e
+          ∙ sym (cycles_more start.args.block.now at-loop.loop.k start.args.held w at-in-loop.loop-test.taken
           at-else1.if1.left) ∙ at-loop.loop.inv.1,
       subst GoesOn (sym e)
-          (cycled-goes-on (part_at start.args.block.now at-loop.loop.k)
+          (cycled_goes_on (part_at start.args.block.now at-loop.loop.k)
           (piece_bytes 64 (8 + 64 * at-loop.loop.k) start.args.block.now
           (λ i. (at-shared-slice-known.shared-slice-known.given i).fits)) w at-loop.loop.inv.2),
       (let l = at-loop.loop.inv.3 in search rules),
@@ -117,7 +117,7 @@ loop-again c =
 
 returns-2 : tie.Need-returns-2 invariant-loop decreases-loop
 returns-2 c =
-    sym (cycles-none (start_loop c.before).args.block.now c.before.loop.k (start_loop c.before).args.held _
+    sym (cycles_none (start_loop c.before).args.block.now c.before.loop.k (start_loop c.before).args.held _
     (omega arith)) ∙ c.before.loop.invariant.1
 
 pub cycles-spec : {M : Type 1} → statement M

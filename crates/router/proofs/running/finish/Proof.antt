@@ -3,28 +3,28 @@
 use mathlib.Core.List.{[], ◌∷◌}
 use native.Mathlib.Omega.{arith}
 use borrow.Author.Rules.{rules}
-use Rattle.listing.specs.Lines.{finish as Line·finish}
-use Rattle.router.specs.Running.{onRun, finished, endedBy}
-use Rattle.router.specs.Inside.{writingOf}
-use Rattle.router.proofs.Writes.{wrote-is, place-fits, finish-fits}
+use Rattle.listing.specs.Lines.{finish as line_finish}
+use Rattle.router.specs.Running.{on_run, finished, ended_by}
+use Rattle.router.specs.Inside.{writing_of}
+use Rattle.router.proofs.Writes.{wrote_is, place_fits, finish_fits}
 use Rattle.router.proofs.running.finish.Statement.{statement}
 use Rattle.router.proofs.running.finish.Tie as tie
 
 add-run : tie.Need-overflow-add-run
 add-run c =
     let start = c.before.before.before.before.before.before.before in
-    let l = place-fits start.args.out.now start.args.before.at
-    (Line·finish start.args.before.cycle start.args.before.flits ∷ [])
+    let l = place_fits start.args.out.now start.args.before.at
+    (line_finish start.args.before.cycle start.args.before.flits ∷ [])
     c.before.before.before.before.write-end.result _ c.before.size.result
-    c.before.before.before.before.write-end.ensures c.before.size.ensures (finish-fits _ _) start.requires in
+    c.before.before.before.before.write-end.ensures c.before.size.ensures (finish_fits _ _) start.requires in
     record { fits = omega arith }
 
 returns : tie.Need-returns
-unfolding endedBy
+unfolding ended_by
 returns c =
     let start = c.before.before.before.before.before.before.before in
-    λ config store wire home. wrote-is (onRun finished (writingOf config start.args.before store wire home start.args.out.now))
-    (Line·finish start.args.before.cycle start.args.before.flits ∷ [])
+    λ config store wire home. wrote_is (on_run finished (writing_of config start.args.before store wire home start.args.out.now))
+    (line_finish start.args.before.cycle start.args.before.flits ∷ [])
     c.before.before.before.before.write-end.result _ c.before.size.result
     c.before.before.before.before.write-end.ensures c.before.size.ensures
 

@@ -3,7 +3,7 @@
 use Prim.Native.Nat.{◌-◌, ◌≤◌}
 use native.Mathlib.Omega.{arith}
 use borrow.Author.Rules.{rules}
-use Rattle.router.proofs.FlitCount.{CountIs, none-counted, one-counted, count_none, counted}
+use Rattle.router.proofs.FlitCount.{CountIs, none_counted, one_counted, count_none, counted}
 use Rattle.router.proofs.running.flits_of.Statement.{statement}
 use Rattle.router.proofs.running.flits_of.Tie as tie
 
@@ -21,7 +21,7 @@ loop-again c =
     let at-loop = c.before.before.before.before in (
       omega arith,
       let l = at-loop.loop.invariant.1 in omega (arith, l),
-      none-counted _ at-loop.loop.next at-loop.loop.count
+      none_counted _ at-loop.loop.next at-loop.loop.count
           c.enum-told2.given.1 at-loop.loop.invariant.2,
     )
 
@@ -34,7 +34,7 @@ loop-again-2 c =
     let at-loop = c.before.before.before.before in (
       omega arith,
       let l = at-loop.loop.invariant.1 in omega (arith, l),
-      one-counted _ at-loop.loop.next at-loop.loop.count _
+      one_counted _ at-loop.loop.next at-loop.loop.count _
           c.enum_told.given.1 at-loop.loop.invariant.2,
     )
 

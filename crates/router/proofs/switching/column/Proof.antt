@@ -6,19 +6,19 @@ use Prim.Native.Nat.{◌-◌, ◌<◌, ◌≤◌}
 use native.Mathlib.Omega.{arith}
 use borrow.Author.Rules.{rules}
 use Rattle.base.specs.Bits.{word_of}
-use Rattle.router.proofs.Columns.{asksAt, asks-there, asks-not}
-use Rattle.router.proofs.Readiness.{word_none, word-again, word-with, word_fits}
+use Rattle.router.proofs.Columns.{asks_at, asks_there, asks_not}
+use Rattle.router.proofs.Readiness.{word_none, word_again, word_with, word_fits}
 use Rattle.router.proofs.switching.column.Statement.{statement}
 use Rattle.router.proofs.switching.column.Tie as tie
 
 abbrev invariant-loop : tie.invariant-loop
-invariant-loop table o set₀ i₀ set i = (i ≤ 8) × (set ≡ word_of (asksAt table o) i)
+invariant-loop table o set₀ i₀ set i = (i ≤ 8) × (set ≡ word_of (asks_at table o) i)
 
 abbrev decreases-loop : tie.decreases-loop
 decreases-loop table o set₀ i₀ set i = 8 - i
 
 loop-holds : tie.Need-loop-init invariant-loop decreases-loop
-loop-holds c = (search rules, word_none (asksAt c.args.table.now c.args.o))
+loop-holds c = (search rules, word_none (asks_at c.args.table.now c.args.o))
 
 mul-if1 : tie.Need-overflow-mul-if1 invariant-loop decreases-loop
 mul-if1 c = search rules
@@ -40,7 +40,7 @@ add-set c =
     let l = c.before.before.before.loop in
     let a = c.before.before.before.before.args in
     let h : l.i < 32 = search rules in
-    record { fits = word_fits (asksAt a.table.now a.o) l.i l.set l.invariant.1 h }
+    record { fits = word_fits (asks_at a.table.now a.o) l.i l.set l.invariant.1 h }
 
 add-i : tie.Need-overflow-add-i invariant-loop decreases-loop
 add-i c = search rules
@@ -55,8 +55,8 @@ loop-again c =
     let o = c.before.before.before.before.args.o in
     let h : l.i < 32 = search rules in (
       search rules,
-      ⊎_elim (λ w. w.1 ∙ word-with (asksAt t o) l.i l.set l.invariant.1 h (asks-there t o l.i w.0.taken))
-          (λ w. w.1 ∙ word-again (asksAt t o) l.i l.set l.invariant.1 (asks-not t o l.i w.0.left)) c.if1.branch,
+      ⊎_elim (λ w. w.1 ∙ word_with (asks_at t o) l.i l.set l.invariant.1 h (asks_there t o l.i w.0.taken))
+          (λ w. w.1 ∙ word_again (asks_at t o) l.i l.set l.invariant.1 (asks_not t o l.i w.0.left)) c.if1.branch,
     )
 
 returns : tie.Need-returns invariant-loop decreases-loop
@@ -64,7 +64,7 @@ returns c =
     let l = c.before.loop in
     let a = c.before.before.args in
     let e : l.i ≡ 8 = let t = c.loop-test.false in omega arith in
-    l.invariant.1 ∙ ap (word_of (asksAt a.table.now a.o)) e
+    l.invariant.1 ∙ ap (word_of (asks_at a.table.now a.o)) e
 
 pub column-spec : {M : Type 1} → statement M
 column-spec =

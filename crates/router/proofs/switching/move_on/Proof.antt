@@ -7,16 +7,16 @@ use mir.Syntax.{w8}
 use mir.Val.{Fits}
 use lib.ListN.{get_or}
 use borrow.Author.Rules.{rules}
-use Rattle.rules.specs.Ports.{overPorts}
-use Rattle.rules.specs.Allocation.{narrowMoved}
-use Rattle.rules.proofs.Folds.{over_none, over-again}
-use Rattle.router.proofs.Moving.{turn, turn-stays, turn-moves}
+use Rattle.rules.specs.Ports.{over_ports}
+use Rattle.rules.specs.Allocation.{narrow_moved}
+use Rattle.rules.proofs.Folds.{over_none, over_again}
+use Rattle.router.proofs.Moving.{turn, turn_stays, turn_moves}
 use Rattle.router.proofs.Numbers.{fewer, more}
 use Rattle.router.proofs.switching.move_on.Statement.{statement}
 use Rattle.router.proofs.switching.move_on.Tie as tie
 
 abbrev invariant-loop : tie.invariant-loop
-invariant-loop config n picks arbiters₀ next₀ arbiters next = (next ≤ config.ports) × (arbiters ≡ overPorts next (turn config n picks) arbiters₀)
+invariant-loop config n picks arbiters₀ next₀ arbiters next = (next ≤ config.ports) × (arbiters ≡ over_ports next (turn config n picks) arbiters₀)
 
 abbrev decreases-loop : tie.decreases-loop
 decreases-loop config n picks arbiters₀ next₀ arbiters next = config.ports - next
@@ -41,8 +41,8 @@ loop-again c =
     let l = c.before.before.before.loop in
     let a = c.before.before.before.before.args in (
       more c.before.before.before.before.args.config.ports c.before.before.before.loop.next c.before.if1.true,
-      over-again l.next (turn a.config a.n a.t4) a.before l.arbiters l.arbiters l.invariant.1
-          (turn-stays a.config a.n a.t4 l.arbiters l.next c.if2.true),
+      over_again l.next (turn a.config a.n a.t4) a.before l.arbiters l.arbiters l.invariant.1
+          (turn_stays a.config a.n a.t4 l.arbiters l.next c.if2.true),
     )
 
 mul-arbiter : tie.Need-overflow-mul-arbiter invariant-loop decreases-loop
@@ -87,19 +87,19 @@ loop-again-2 c =
     let l = at-loop.loop in
     let a = start.args in (
       more start.args.config.ports at-loop.loop.next c.before.before.before.if1.true,
-      over-again l.next
+      over_again l.next
           (turn a.config a.n a.t4) a.before l.arbiters _ l.invariant.1
-          (turn-moves a.config a.n a.t4 l.arbiters l.next c.before.before.if2.false c.moved.result
+          (turn_moves a.config a.n a.t4 l.arbiters l.next c.before.before.if2.false c.moved.result
           c.moved.ensures),
     )
 
 returns : tie.Need-returns invariant-loop decreases-loop
-unfolding narrowMoved
+unfolding narrow_moved
 returns c =
     let l = c.before.before.loop in
     let a = c.before.before.before.args in
     let e : l.next ≡ a.config.ports = omega arith in
-    l.invariant.1 ∙ ap (λ (k : ℕ). overPorts k (turn a.config a.n a.t4) a.before) e
+    l.invariant.1 ∙ ap (λ (k : ℕ). over_ports k (turn a.config a.n a.t4) a.before) e
 
 pub move-on-spec : {M : Type 1} → statement M
 move-on-spec =

@@ -4,8 +4,8 @@ use Prim.Native.Nat.{◌<◌}
 use native.Mathlib.Omega.{arith}
 use borrow.Author.Rules.{rules}
 use Rattle.arbiter.specs.Requests.{asks}
-use Rattle.arbiter.specs.Arbiter.{ofNarrow}
-use Rattle.router.proofs.Choosing.{nobody-named, winner-named, winner-low}
+use Rattle.arbiter.specs.Arbiter.{of_narrow}
+use Rattle.router.proofs.Choosing.{nobody_named, winner_named, winner_low}
 use Rattle.router.proofs.switching.pick.Statement.{statement}
 use Rattle.router.proofs.switching.pick.Tie as tie
 
@@ -20,7 +20,7 @@ enum_told c = search rules
 
 returns : tie.Need-returns
 unfolding asks
-returns c = nobody-named c.before.before.choose.result _ c.enum_told.given.1 c.before.before.choose.ensures
+returns c = nobody_named c.before.before.choose.result _ c.enum_told.given.1 c.before.before.choose.ensures
 
 -- a winner is below the room
 low : (c : tie.After-known-told) → c.before.pick.given.0.0 < 8
@@ -28,7 +28,7 @@ low c =
     let a = c.before.before.before.before.args in
     let w = c.before.pick.given in
     let r = c.before.before.before.choose in
-    winner-low 8 a.code a.n (asks (record { set = a.set })) (ofNarrow a.arbiter) r.result w.0.0 w.1 r.ensures
+    winner_low 8 a.code a.n (asks (record { set = a.set })) (of_narrow a.arbiter) r.result w.0.0 w.1 r.ensures
 
 add-result : tie.Need-overflow-add-result
 add-result c = let l = low c in record { fits = omega arith }
@@ -40,7 +40,7 @@ returns-2 : tie.Need-returns-2
 unfolding asks
 returns-2 c =
     let w = c.before.pick.given in
-    winner-named c.before.before.before.choose.result w.0.0 _ w.1 c.before.before.before.choose.ensures
+    winner_named c.before.before.before.choose.result w.0.0 _ w.1 c.before.before.before.choose.ensures
 
 pub pick_spec : {M : Type 1} → statement M
 pick_spec =

@@ -7,8 +7,8 @@ use native.Mathlib.Omega.{arith}
 use lib.ListN.{length, length-set}
 use borrow.Author.Rules.{rules}
 use Rattle.rules.specs.Ports.{named}
-use Rattle.router.specs.Picks.{pickIn}
-use Rattle.router.proofs.Choosing.{inputChoice, picks-again, shifted, unshifted}
+use Rattle.router.specs.Picks.{pick_in}
+use Rattle.router.proofs.Choosing.{input_choice, picks_again, shifted, unshifted}
 use Rattle.router.proofs.Numbers.{fewer, more}
 use Rattle.router.proofs.switching.pick_inputs.Statement.{statement}
 use Rattle.router.proofs.switching.pick_inputs.Tie as tie
@@ -16,7 +16,7 @@ use Rattle.router.proofs.switching.pick_inputs.Tie as tie
 abbrev invariant-loop : tie.invariant-loop
 invariant-loop config ready arbiters n picks₀ i₀ left₀ picks i left =
     (i ≤ config.ports) × (length picks ≡ 8) × (left ≡ ready / 2 ^ (i * config.vcs))
-    × ((j : ℕ) → j < i → pickIn picks j ≡ inputChoice config ready arbiters j)
+    × ((j : ℕ) → j < i → pick_in picks j ≡ input_choice config ready arbiters j)
 
 abbrev decreases-loop : tie.decreases-loop
 decreases-loop config ready arbiters n picks₀ i₀ left₀ picks i left = config.ports - i
@@ -60,13 +60,13 @@ loop-again c =
     let l = c.before.before.before.before.loop in
     let a = c.before.before.before.before.before.before.args in
     let left : l.left ≡ a.ready / 2 ^ (l.i * a.config.vcs) = l.invariant.2 in
-    let e : named c.pick.result ≡ inputChoice a.config a.ready a.t3 l.i = c.pick.ensures ∙ rw left in
+    let e : named c.pick.result ≡ input_choice a.config a.ready a.t3 l.i = c.pick.ensures ∙ rw left in
     let long : l.i < length l.picks = let k = l.invariant.1 in omega arith in (
       more c.before.before.before.before.before.before.args.config.ports c.before.before.before.before.loop.i
           c.before.before.if1.true,
       length-set l.picks l.i c.pick.result ∙ l.invariant.1,
       ap (λ (x : ℕ). x / 2 ^ a.config.vcs) left ∙ shifted a.ready l.i a.config.vcs,
-      picks-again (inputChoice a.config a.ready a.t3) l.picks l.i c.pick.result long l.invariant.3 e,
+      picks_again (input_choice a.config a.ready a.t3) l.picks l.i c.pick.result long l.invariant.3 e,
     )
 
 returns : tie.Need-returns invariant-loop decreases-loop

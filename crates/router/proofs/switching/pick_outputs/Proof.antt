@@ -7,9 +7,9 @@ use native.Mathlib.Omega.{arith}
 use lib.ListN.{length, length-set}
 use borrow.Author.Rules.{rules}
 use Rattle.rules.specs.Ports.{named}
-use Rattle.router.specs.Picks.{pickIn}
-use Rattle.router.proofs.Choosing.{picks-again}
-use Rattle.router.proofs.Columns.{outputChoice, column-choice}
+use Rattle.router.specs.Picks.{pick_in}
+use Rattle.router.proofs.Choosing.{picks_again}
+use Rattle.router.proofs.Columns.{output_choice, column_choice}
 use Rattle.router.proofs.Numbers.{fewer, more}
 use Rattle.router.proofs.switching.pick_outputs.Statement.{statement}
 use Rattle.router.proofs.switching.pick_outputs.Tie as tie
@@ -17,7 +17,7 @@ use Rattle.router.proofs.switching.pick_outputs.Tie as tie
 abbrev invariant-loop : tie.invariant-loop
 invariant-loop config table arbiters n picks₀ o₀ picks o =
     (o ≤ config.ports) × (length picks ≡ 8)
-    × ((j : ℕ) → j < o → pickIn picks j ≡ outputChoice config table arbiters j)
+    × ((j : ℕ) → j < o → pick_in picks j ≡ output_choice config table arbiters j)
 
 abbrev decreases-loop : tie.decreases-loop
 decreases-loop config table arbiters n picks₀ o₀ picks o = config.ports - o
@@ -63,13 +63,13 @@ loop-again c =
     let a = start.args in
     let p = start.requires in
     let w = c.before.column in
-    let e : named c.pick.result ≡ outputChoice a.config a.table.now a.t3 l.o = c.pick.ensures
-    ∙ column-choice a.config a.table.now a.t3 l.o w.result p w.ensures in
+    let e : named c.pick.result ≡ output_choice a.config a.table.now a.t3 l.o = c.pick.ensures
+    ∙ column_choice a.config a.table.now a.t3 l.o w.result p w.ensures in
     let long : l.o < length l.picks = let k = l.invariant.1 in omega arith in (
       more start.args.config.ports at-loop.loop.o c.before.before.before.if1.true,
       length-set l.picks l.o
           c.pick.result ∙ l.invariant.1,
-      picks-again (outputChoice a.config a.table.now a.t3) l.picks l.o
+      picks_again (output_choice a.config a.table.now a.t3) l.picks l.o
           c.pick.result long l.invariant.2 e,
     )
 

@@ -6,14 +6,14 @@ use native.Mathlib.Omega.{arith}
 use lib.ListN.{length}
 use borrow.Author.Rules.{rules}
 use Rattle.base.specs.Bits.{word_of}
-use Rattle.state.proofs.Exact.{length-any}
-use Rattle.router.proofs.Readiness.{readyAt, no-credit-past, spent, unspent, word_none, word-again, word-with, word_fits}
+use Rattle.state.proofs.Exact.{length_any}
+use Rattle.router.proofs.Readiness.{ready_at, no_credit_past, spent, unspent, word_none, word_again, word_with, word_fits}
 use Rattle.router.proofs.switching.ready.Statement.{statement}
 use Rattle.router.proofs.switching.ready.Tie as tie
 
 abbrev invariant-loop : tie.invariant-loop
 invariant-loop config inputs outputs set₀ next₀ set next = (next ≤ config.ports * config.vcs)
-    × (set ≡ word_of (readyAt config inputs outputs) next)
+    × (set ≡ word_of (ready_at config inputs outputs) next)
 
 abbrev decreases-loop : tie.decreases-loop
 decreases-loop config inputs outputs set₀ next₀ set next = config.ports * config.vcs - next
@@ -38,18 +38,18 @@ abbrev loop-else3 : tie.Else3 invariant-loop decreases-loop → tie.At-loop inva
 loop-else3 c = before-waits-for (before-else3 c)
 
 loop-holds : tie.Need-loop-init invariant-loop decreases-loop
-loop-holds c = (search rules, word_none (readyAt c.args.config c.args.t2 c.args.t3))
+loop-holds c = (search rules, word_none (ready_at c.args.config c.args.t2 c.args.t3))
 
 -- it is not bound, or bound past the array, or nothing is queued
 loop-again : tie.Need-loop-preserved invariant-loop decreases-loop
 loop-again c =
     let l = (before-waits-for c.before).loop in
     let a = (before-loop (before-waits-for c.before)).args in
-    let long : length a.t3 ≡ 32 = search (rules, length-any) in
+    let long : length a.t3 ≡ 32 = search (rules, length_any) in
     let w = c.before.waits-for in (
       search rules,
-      word-again (readyAt a.config a.t2 a.t3) l.next l.set l.inv.1
-          (w.ensures a.t3 long ∙ no-credit-past a.t3 w.result (rw long c.if2.true)),
+      word_again (ready_at a.config a.t2 a.t3) l.next l.set l.inv.1
+          (w.ensures a.t3 long ∙ no_credit_past a.t3 w.result (rw long c.if2.true)),
     )
 
 -- no credit
@@ -60,10 +60,10 @@ loop-again-2 c =
     let start = before-loop at-loop in
     let l = at-loop.loop in
     let a = start.args in
-    let long : length a.t3 ≡ 32 = search (rules, length-any) in
+    let long : length a.t3 ≡ 32 = search (rules, length_any) in
     let w = at-waits-for.waits-for in (
       search rules,
-      word-again (readyAt a.config a.t2 a.t3) l.next l.set l.inv.1
+      word_again (ready_at a.config a.t2 a.t3) l.next l.set l.inv.1
           (w.ensures a.t3 long ∙ spent a.t3 w.result c.if3.true),
     )
 
@@ -72,7 +72,7 @@ add-set c =
     let l = (loop-else3 c).loop in
     let a = (before-loop (loop-else3 c)).args in
     let h : l.next < 32 = search rules in
-    record { fits = word_fits (readyAt a.config a.t2 a.t3) l.next l.set l.inv.1 h }
+    record { fits = word_fits (ready_at a.config a.t2 a.t3) l.next l.set l.inv.1 h }
 
 loop-again-3 : tie.Need-loop-preserved-3 invariant-loop decreases-loop
 loop-again-3 c =
@@ -81,11 +81,11 @@ loop-again-3 c =
     let start = before-loop at-loop in
     let l = at-loop.loop in
     let a = start.args in
-    let long : length a.t3 ≡ 32 = search (rules, length-any) in
+    let long : length a.t3 ≡ 32 = search (rules, length_any) in
     let h : l.next < 32 = search rules in
     let w = at-waits-for.waits-for in (
       search rules,
-      word-with (readyAt a.config a.t2 a.t3) l.next l.set l.inv.1 h
+      word_with (ready_at a.config a.t2 a.t3) l.next l.set l.inv.1 h
           (w.ensures a.t3 long ∙ unspent a.t3 w.result c.if3.false),
     )
 
@@ -94,7 +94,7 @@ returns c =
     let l = (before-else1 c).loop in
     let a = (before-loop (before-else1 c)).args in
     let e : l.next ≡ a.config.ports * a.config.vcs = let t = c.if1.false in omega arith in
-    l.inv.1 ∙ ap (word_of (readyAt a.config a.t2 a.t3)) e
+    l.inv.1 ∙ ap (word_of (ready_at a.config a.t2 a.t3)) e
 
 pub ready-spec : {M : Type 1} → statement M
 ready-spec =

@@ -5,8 +5,8 @@ use Prim.Native.Nat.{◌-◌, ◌<◌, ◌≤◌}
 use native.Mathlib.Omega.{arith}
 use lib.ListN.{length, get_or}
 use borrow.Author.Rules.{rules}
-use Rattle.state.proofs.Exact.{length-any}
-use Rattle.router.proofs.Columns.{RowsSoFar, asks-not, no-pick, past_the_end, as-bound, rows_none, rows_same, rows-with}
+use Rattle.state.proofs.Exact.{length_any}
+use Rattle.router.proofs.Columns.{RowsSoFar, asks_not, no_pick, past_the_end, as-bound, rows_none, rows_same, rows-with}
 use Rattle.router.proofs.Numbers.{more}
 use Rattle.router.proofs.switching.table_of.Statement.{statement}
 use Rattle.router.proofs.switching.table_of.Tie as tie
@@ -52,7 +52,7 @@ loop-again c =
     let a = (before-loop (before-then1 c.before)).args in (
       more a.config.ports l.next c.before.if1.true,
       rows_same a.config a.t2 a.t3 l.table l.next 8
-          l.inv.1 (no-pick a.config a.t2 l.next (get_or a.t3 l.next 0) c.if2.true) (omega arith),
+          l.inv.1 (no_pick a.config a.t2 l.next (get_or a.t3 l.next 0) c.if2.true) (omega arith),
     )
 
 -- it picked a VC that there is not
@@ -66,7 +66,7 @@ loop-again-2 c =
     let a = start.args in
     let n = c.before.number in
     let v = c.before.before.wide in
-    let long : length a.t2 ≡ 32 = search (rules, length-any) in
+    let long : length a.t2 ≡ 32 = search (rules, length_any) in
     let far : length a.t2 ≤ n.result = rw long c.if3.true in (
       more a.config.ports l.next at-then1.if1.taken,
       rows_same a.config a.t2 a.t3 l.table l.next 8 l.inv.1
@@ -119,7 +119,7 @@ returns c =
     let l = c.before.before.loop in
     let t = c.if1.false in (
       λ i o h g. l.invariant.1.made i o (omega arith) g,
-      λ i o h. asks-not l.table o i (l.invariant.1.blank i o (omega arith)),
+      λ i o h. asks_not l.table o i (l.invariant.1.blank i o (omega arith)),
     )
 
 pub table-of-spec : {M : Type 1} → statement M

@@ -3,27 +3,27 @@
 use mathlib.Core.Path.{sym, ap₂, ◌∙◌}
 use native.Mathlib.Omega.{arith}
 use borrow.Author.Rules.{rules}
-use Rattle.state.specs.Views.{channelNumber}
-use Rattle.router.proofs.Readiness.{empty-waits, unbound-waits, credit-decides, no-credit-past}
+use Rattle.state.specs.Views.{channel_number}
+use Rattle.router.proofs.Readiness.{empty_waits, unbound_waits, credit-decides, no_credit_past}
 use Rattle.router.proofs.switching.waits_for.Statement.{statement}
 use Rattle.router.proofs.switching.waits_for.Tie as tie
 
 returns : tie.Need-returns
 returns c outputs long =
     let a = c.before.before.args in
-    sym (empty-waits a.config outputs a.input c.if1.true) ∙ sym (no-credit-past outputs 32 (omega arith))
+    sym (empty_waits a.config outputs a.input c.if1.true) ∙ sym (no_credit_past outputs 32 (omega arith))
 
 returns-2 : tie.Need-returns-2
 returns-2 c outputs long =
     let a = c.before.before.before.before.args in
-    sym (unbound-waits a.config outputs a.input c.enum_told.given.1) ∙ sym (no-credit-past outputs 32 (omega arith))
+    sym (unbound_waits a.config outputs a.input c.enum_told.given.1) ∙ sym (no_credit_past outputs 32 (omega arith))
 
 returns-3 : tie.Need-returns-3
 returns-3 c outputs long =
     let a = c.before.before.before.before.before.before.before.before.args in
     let to = c.before.before.before.before.binding.given in
     let n = c.number in
-    let e = n.ensures ∙ ap₂ (channelNumber a.config) c.before.before.wide.ensures.0 c.before.wide2.ensures.0 in
+    let e = n.ensures ∙ ap₂ (channel_number a.config) c.before.before.wide.ensures.0 c.before.wide2.ensures.0 in
     sym (credit-decides a.config outputs a.input to.0.0 to.1 c.before.before.before.before.before.before.if1.false
     n.result e)
 

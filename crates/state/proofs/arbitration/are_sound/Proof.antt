@@ -7,17 +7,17 @@ use borrow.Author.Tests.{not-true, not-false}
 use lib.ListN.{get_or}
 use Rattle.base.specs.Search.{every}
 use borrow.Author.Rules.{rules}
-use Rattle.state.specs.Fresh.{pastNarrow, pastWide}
-use Rattle.state.specs.Sound.{arbitersSound}
-use Rattle.state.specs.Testing.{portArbiters}
-use Rattle.state.proofs.Tests.{every-none, every_more, every-passed, every-fails}
+use Rattle.state.specs.Fresh.{past_narrow, past_wide}
+use Rattle.state.specs.Sound.{arbiters_sound}
+use Rattle.state.specs.Testing.{port_arbiters}
+use Rattle.state.proofs.Tests.{every_none, every_more, every_passed, every_fails}
 use Rattle.state.proofs.arbitration.are_sound.Statement.{statement}
 use Rattle.state.proofs.arbitration.are_sound.Tie as tie
 
 abbrev invariant-loop : tie.invariant-loop
 invariant-loop config vcs inputs outputs end i₀ i =
-    (i ≤ end) × (end ≤ 8) × (every i (λ (j : ℕ). portArbiters config (get_or vcs j pastWide) (get_or inputs j pastNarrow)
-    (get_or outputs j pastNarrow)) ≡ true)
+    (i ≤ end) × (end ≤ 8) × (every i (λ (j : ℕ). port_arbiters config (get_or vcs j past_wide) (get_or inputs j past_narrow)
+    (get_or outputs j past_narrow)) ≡ true)
 
 abbrev decreases-loop : tie.decreases-loop
 decreases-loop config vcs inputs outputs end i₀ i = end - i
@@ -29,8 +29,8 @@ loop-holds : tie.Need-loop-init invariant-loop decreases-loop
 loop-holds c = (
   search rules,
   c.before.requires.ports.1,
-  every-none (λ (j : ℕ). portArbiters c.before.args.config (get_or c.before.args.t2 j pastWide)
-      (get_or c.before.args.t3 j pastNarrow) (get_or c.before.args.t4 j pastNarrow)),
+  every_none (λ (j : ℕ). port_arbiters c.before.args.config (get_or c.before.args.t2 j past_wide)
+      (get_or c.before.args.t3 j past_narrow) (get_or c.before.args.t4 j past_narrow)),
 )
 
 mul_wide : tie.Need-overflow-mul-wide invariant-loop decreases-loop
@@ -55,14 +55,14 @@ are-sound-of-requires : tie.Need-are-sound-of-requires invariant-loop decreases-
 are-sound-of-requires c κs = c.before.before.before.before.before.before.requires
 
 returns : tie.Need-returns invariant-loop decreases-loop
-unfolding arbitersSound portArbiters
+unfolding arbiters_sound port_arbiters
 returns c =
-    every-fails c.before.before.before.before.before.before.before.before.args.config.ports
-    c.before.before.before.before.before.before.loop.i (λ (j : ℕ). portArbiters
+    every_fails c.before.before.before.before.before.before.before.before.args.config.ports
+    c.before.before.before.before.before.before.loop.i (λ (j : ℕ). port_arbiters
     c.before.before.before.before.before.before.before.before.args.config (get_or
-    c.before.before.before.before.before.before.before.before.args.t2 j pastWide) (get_or
-    c.before.before.before.before.before.before.before.before.args.t3 j pastNarrow) (get_or
-    c.before.before.before.before.before.before.before.before.args.t4 j pastNarrow)) (search rules) (sym
+    c.before.before.before.before.before.before.before.before.args.t2 j past_wide) (get_or
+    c.before.before.before.before.before.before.before.before.args.t3 j past_narrow) (get_or
+    c.before.before.before.before.before.before.before.before.args.t4 j past_narrow)) (search rules) (sym
     c.before.are-sound-of.ensures ∙ not-true c.before.are-sound-of.result c.if1.true)
 
 add-i : tie.Need-overflow-add-i invariant-loop decreases-loop
@@ -76,21 +76,21 @@ loop-again c = (
   search rules,
   c.before.before.before.before.before.before.loop.invariant.1,
   every_more
-      c.before.before.before.before.before.before.loop.i (λ (j : ℕ). portArbiters
+      c.before.before.before.before.before.before.loop.i (λ (j : ℕ). port_arbiters
       c.before.before.before.before.before.before.before.before.args.config (get_or
-      c.before.before.before.before.before.before.before.before.args.t2 j pastWide) (get_or
-      c.before.before.before.before.before.before.before.before.args.t3 j pastNarrow) (get_or
-      c.before.before.before.before.before.before.before.before.args.t4 j pastNarrow))
+      c.before.before.before.before.before.before.before.before.args.t2 j past_wide) (get_or
+      c.before.before.before.before.before.before.before.before.args.t3 j past_narrow) (get_or
+      c.before.before.before.before.before.before.before.before.args.t4 j past_narrow))
       c.before.before.before.before.before.before.loop.invariant.2 (sym c.before.are-sound-of.ensures ∙ not-false
       c.before.are-sound-of.result c.if1.false),
 )
 
 returns-2 : tie.Need-returns-2 invariant-loop decreases-loop
-unfolding arbitersSound portArbiters
+unfolding arbiters_sound port_arbiters
 returns-2 c =
-    sym (every-passed c.before.before.before.args.config.ports c.before.loop.i (λ (j : ℕ). portArbiters
-    c.before.before.before.args.config (get_or c.before.before.before.args.t2 j pastWide) (get_or
-    c.before.before.before.args.t3 j pastNarrow) (get_or c.before.before.before.args.t4 j pastNarrow)) c.before.loop.invariant.0
+    sym (every_passed c.before.before.before.args.config.ports c.before.loop.i (λ (j : ℕ). port_arbiters
+    c.before.before.before.args.config (get_or c.before.before.before.args.t2 j past_wide) (get_or
+    c.before.before.before.args.t3 j past_narrow) (get_or c.before.before.before.args.t4 j past_narrow)) c.before.loop.invariant.0
     (search rules) c.before.loop.invariant.2)
 
 pub are-sound-spec : {M : Type 1} → statement M

@@ -5,11 +5,11 @@ use mathlib.Core.Path.{sym, ◌∙◌}
 use borrow.Author.Tests.{not-true, not-false}
 use Prim.Native.Nat.{◌*◌, ◌-◌}
 use Rattle.arbiter.specs.Arbiter as arbiter
-use Rattle.arbiter.specs.Arbiter.{ofNarrow, ofWide}
+use Rattle.arbiter.specs.Arbiter.{of_narrow, of_wide}
 use borrow.Author.Rules.{rules}
-use Rattle.state.proofs.Made.{channels-fit}
-use Rattle.state.specs.Testing.{portArbiters}
-use Rattle.state.proofs.PortArbiters.{three-first, three-second, three_third}
+use Rattle.state.proofs.Made.{channels_fit}
+use Rattle.state.specs.Testing.{port_arbiters}
+use Rattle.state.proofs.PortArbiters.{three_first, three_second, three_third}
 use Rattle.state.proofs.arbitration.are_sound_of.Statement.{statement}
 use Rattle.state.proofs.arbitration.are_sound_of.Tie as tie
 
@@ -21,32 +21,32 @@ cast-vcs-each c = search rules
 
 mul-is-sound : tie.Need-overflow-mul-is-sound
 mul-is-sound c =
-    let b = c.before.before.requires in let l = channels-fit c.before.before.args.config.ports c.before.before.args.config.vcs
+    let b = c.before.before.requires in let l = channels_fit c.before.before.args.config.ports c.before.before.args.config.vcs
     b.ports.1 b.vcs.1 in record { fits = omega arith }
 
 is-sound-requires : tie.Need-is-sound-requires
 is-sound-requires c κs = search rules
 
 returns : tie.Need-returns
-unfolding portArbiters
+unfolding port_arbiters
 returns c =
     let start = c.before.before.before.before in
-    three-first (arbiter.sound 32 start.args.config.arbiter (start.args.config.ports * start.args.config.vcs)
-    (ofWide start.args.vcs)) (arbiter.sound 8 start.args.config.arbiter start.args.config.vcs
-    (ofNarrow start.args.input)) (arbiter.sound 8 start.args.config.arbiter start.args.config.ports
-    (ofNarrow start.args.output)) (sym c.before.is-sound.ensures ∙ not-true c.before.is-sound.result c.if1.true)
+    three_first (arbiter.sound 32 start.args.config.arbiter (start.args.config.ports * start.args.config.vcs)
+    (of_wide start.args.vcs)) (arbiter.sound 8 start.args.config.arbiter start.args.config.vcs
+    (of_narrow start.args.input)) (arbiter.sound 8 start.args.config.arbiter start.args.config.ports
+    (of_narrow start.args.output)) (sym c.before.is-sound.ensures ∙ not-true c.before.is-sound.result c.if1.true)
 
 is-sound-requires-2 : tie.Need-is-sound-requires-2
 is-sound-requires-2 c κs = search rules
 
 returns-2 : tie.Need-returns-2
-unfolding portArbiters
+unfolding port_arbiters
 returns-2 c =
     let start = c.before.before.before.before.before.before in
-    three-second (arbiter.sound 32 start.args.config.arbiter (start.args.config.ports * start.args.config.vcs)
-    (ofWide start.args.vcs)) (arbiter.sound 8 start.args.config.arbiter start.args.config.vcs
-    (ofNarrow start.args.input)) (arbiter.sound 8 start.args.config.arbiter start.args.config.ports
-    (ofNarrow start.args.output)) (sym c.before.before.before.is-sound.ensures
+    three_second (arbiter.sound 32 start.args.config.arbiter (start.args.config.ports * start.args.config.vcs)
+    (of_wide start.args.vcs)) (arbiter.sound 8 start.args.config.arbiter start.args.config.vcs
+    (of_narrow start.args.input)) (arbiter.sound 8 start.args.config.arbiter start.args.config.ports
+    (of_narrow start.args.output)) (sym c.before.before.before.is-sound.ensures
     ∙ not-false c.before.before.before.is-sound.result c.before.before.if1.false)
     (sym c.before.is-sound2.ensures ∙ not-true c.before.is-sound2.result c.if2.true)
 
@@ -54,13 +54,13 @@ is-sound-requires-3 : tie.Need-is-sound-requires-3
 is-sound-requires-3 c κs = search rules
 
 returns-3 : tie.Need-returns-3
-unfolding portArbiters
+unfolding port_arbiters
 returns-3 c =
     let start = c.before.before.before.before.before.before.before in
     c.is-sound3.ensures ∙ three_third (arbiter.sound 32 start.args.config.arbiter
-    (start.args.config.ports * start.args.config.vcs) (ofWide start.args.vcs))
-    (arbiter.sound 8 start.args.config.arbiter start.args.config.vcs (ofNarrow start.args.input))
-    (arbiter.sound 8 start.args.config.arbiter start.args.config.ports (ofNarrow start.args.output))
+    (start.args.config.ports * start.args.config.vcs) (of_wide start.args.vcs))
+    (arbiter.sound 8 start.args.config.arbiter start.args.config.vcs (of_narrow start.args.input))
+    (arbiter.sound 8 start.args.config.arbiter start.args.config.ports (of_narrow start.args.output))
     (sym c.before.before.before.before.is-sound.ensures
     ∙ not-false c.before.before.before.before.is-sound.result c.before.before.before.if1.false)
     (sym c.before.before.is-sound2.ensures ∙ not-false c.before.before.is-sound2.result c.before.if2.false)

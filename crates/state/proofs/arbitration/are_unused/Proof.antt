@@ -6,15 +6,15 @@ use mathlib.Core.Bool.{true}
 use borrow.Author.Tests.{not-true, not-false}
 use Rattle.base.specs.Search.{every}
 use borrow.Author.Rules.{rules}
-use Rattle.state.specs.Sound.{arbitersUnused}
-use Rattle.state.specs.Testing.{noArbiters}
-use Rattle.state.proofs.Tests.{every_more, every-passed, every-fails}
-use Rattle.state.proofs.PortArbiters.{noneFrom, none_below, none_is}
+use Rattle.state.specs.Sound.{arbiters_unused}
+use Rattle.state.specs.Testing.{no_arbiters}
+use Rattle.state.proofs.Tests.{every_more, every_passed, every_fails}
+use Rattle.state.proofs.PortArbiters.{none_from, none_below, none_is}
 use Rattle.state.proofs.arbitration.are_unused.Statement.{statement}
 use Rattle.state.proofs.arbitration.are_unused.Tie as tie
 
 abbrev invariant-loop : tie.invariant-loop
-invariant-loop vcs inputs outputs i₀ i = (i₀ ≤ i) × (i ≤ 8) × (every i (noneFrom i₀ vcs inputs outputs) ≡ true)
+invariant-loop vcs inputs outputs i₀ i = (i₀ ≤ i) × (i ≤ 8) × (every i (none_from i₀ vcs inputs outputs) ≡ true)
 
 abbrev decreases-loop : tie.decreases-loop
 decreases-loop vcs inputs outputs i₀ i = 8 - i
@@ -52,9 +52,9 @@ are-none-requires : tie.Need-are-none-requires invariant-loop decreases-loop
 are-none-requires c κs = search rules
 
 returns : tie.Need-returns invariant-loop decreases-loop
-unfolding arbitersUnused noArbiters
+unfolding arbiters_unused no_arbiters
 returns c =
-    every-fails 8 c.before.before.before.before.before.before.loop.i (noneFrom
+    every_fails 8 c.before.before.before.before.before.before.loop.i (none_from
     c.before.before.before.before.before.before.before.before.args.config.ports
     c.before.before.before.before.before.before.before.before.args.t2
     c.before.before.before.before.before.before.before.before.args.t3
@@ -78,7 +78,7 @@ loop-again : tie.Need-loop-preserved invariant-loop decreases-loop
 loop-again c = (
   search rules,
   search rules,
-  every_more c.before.before.before.before.before.before.loop.i (noneFrom
+  every_more c.before.before.before.before.before.before.loop.i (none_from
       c.before.before.before.before.before.before.before.before.args.config.ports
       c.before.before.before.before.before.before.before.before.args.t2
       c.before.before.before.before.before.before.before.before.args.t3
@@ -94,9 +94,9 @@ loop-again c = (
 )
 
 returns-2 : tie.Need-returns-2 invariant-loop decreases-loop
-unfolding arbitersUnused noArbiters
+unfolding arbiters_unused no_arbiters
 returns-2 c =
-    sym (every-passed 8 c.before.loop.i (noneFrom c.before.before.before.args.config.ports
+    sym (every_passed 8 c.before.loop.i (none_from c.before.before.before.args.config.ports
     c.before.before.before.args.t2
     c.before.before.before.args.t3 c.before.before.before.args.t4) c.before.loop.invariant.1 (search rules)
     c.before.loop.invariant.2)

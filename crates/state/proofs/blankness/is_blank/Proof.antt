@@ -6,12 +6,12 @@ use borrow.Author.Rules.{rules}
 use borrow.Author.Tests.{not-true, not-false, eq-eqb, ne_eqb}
 use lib.Dec.{eqb}
 use lib.ListN.{length}
-use Rattle.base.specs.Sizes.{noConfig, Bounds}
+use Rattle.base.specs.Sizes.{no_config, Bounds}
 use Rattle.base.specs.declared.config.Config.{Config}
-use Rattle.state.specs.Blank.{noSizes}
-use Rattle.state.specs.Sound.{wireLegal, homeLegal, lineUnused, arbitersUnused, channelsUnused}
-use Rattle.state.proofs.Blank.{bounded-none, not-blank, wire-blank, home-blank, last-blank, rooms-are}
-use Rattle.state.proofs.Exact.{shape_is, length-any}
+use Rattle.state.specs.Blank.{no_sizes}
+use Rattle.state.specs.Sound.{wire_legal, home_legal, line_unused, arbiters_unused, channels_unused}
+use Rattle.state.proofs.Blank.{bounded_none, not_blank, wire_blank, home_blank, last_blank, rooms_are}
+use Rattle.state.proofs.Exact.{shape_is, length_any}
 use Rattle.state.proofs.blankness.is_blank.Statement.{statement}
 use Rattle.state.proofs.blankness.is_blank.Tie as tie
 
@@ -93,10 +93,10 @@ none-are-unused2 c = none-are-unused (before-else5 (before-are-unused2 c))
 
 -- the arrays of a struct that is handed in are as long as they are declared
 inputs_long : (c : tie.Start) → length c.args.router.inputs ≡ 32
-inputs_long c = search (rules, length-any)
+inputs_long c = search (rules, length_any)
 
 outputs-long : (c : tie.Start) → length c.args.router.outputs ≡ 32
-outputs-long c = search (rules, length-any)
+outputs-long c = search (rules, length_any)
 
 store_long : (c : tie.Start) → length c.args.router.store ≡ 512
 store_long c = search rules
@@ -108,77 +108,77 @@ home-long : (c : tie.Start) → length c.args.router.home ≡ 64
 home-long c = search rules
 
 vcs-long : (c : tie.Start) → length c.args.router.arbiters.vcs ≡ 8
-vcs-long c = search (rules, length-any)
+vcs-long c = search (rules, length_any)
 
 ins-long : (c : tie.Start) → length c.args.router.arbiters.inputs ≡ 8
-ins-long c = search (rules, length-any)
+ins-long c = search (rules, length_any)
 
 outs-long : (c : tie.Start) → length c.args.router.arbiters.outputs ≡ 8
-outs-long c = search (rules, length-any)
+outs-long c = search (rules, length_any)
 
 -- no configuration is within bounds
 bounded : (c : tie.After-none) → Bounds 0 c.none.result
-bounded c = subst (Bounds 0) (sym c.none.ensures) bounded-none
+bounded c = subst (Bounds 0) (sym c.none.ensures) bounded_none
 
 -- the configuration that the tests of lines, arbiters and channels are handed is none
 wire-said : (c : tie.After-is-wire-sound) → let w = (start-is-wire-sound c).args.router.wire in
-    c.is-wire-sound.result ≡ (wireLegal noConfig w && lineUnused 0 0 w)
+    c.is-wire-sound.result ≡ (wire_legal no_config w && line_unused 0 0 w)
 wire-said c =
     let w = (start-is-wire-sound c).args.router.wire in
     c.is-wire-sound.ensures
-    ∙ ap (λ (n : Config). wireLegal n w && lineUnused n.forward n.ports w) (before-is-wire-sound c).none.ensures
+    ∙ ap (λ (n : Config). wire_legal n w && line_unused n.forward n.ports w) (before-is-wire-sound c).none.ensures
 
 home-said : (c : tie.After-is-home-sound) → let h = (start-is-home-sound c).args.router.home in
-    c.is-home-sound.result ≡ (homeLegal noConfig h && lineUnused 0 0 h)
+    c.is-home-sound.result ≡ (home_legal no_config h && line_unused 0 0 h)
 home-said c =
     let h = (start-is-home-sound c).args.router.home in
     c.is-home-sound.ensures
-    ∙ ap (λ (n : Config). homeLegal n h && lineUnused n.back n.ports h) (none-is-home-sound c).none.ensures
+    ∙ ap (λ (n : Config). home_legal n h && line_unused n.back n.ports h) (none-is-home-sound c).none.ensures
 
-arbiters-said : (c : tie.After-are-unused) → c.are-unused.result ≡ arbitersUnused noConfig (start-are-unused c).args.router.arbiters
+arbiters-said : (c : tie.After-are-unused) → c.are-unused.result ≡ arbiters_unused no_config (start-are-unused c).args.router.arbiters
 arbiters-said c =
     c.are-unused.ensures
-    ∙ ap (λ (n : Config). arbitersUnused n (start-are-unused c).args.router.arbiters) (none-are-unused c).none.ensures
+    ∙ ap (λ (n : Config). arbiters_unused n (start-are-unused c).args.router.arbiters) (none-are-unused c).none.ensures
 
 channels-said : (c : tie.After-are-unused2) → let s = (start-are-unused2 c).args.router in
-    c.are-unused2.result ≡ channelsUnused noConfig s.inputs s.outputs
+    c.are-unused2.result ≡ channels_unused no_config s.inputs s.outputs
 channels-said c =
     let s = (start-are-unused2 c).args.router in
-    c.are-unused2.ensures ∙ ap (λ (n : Config). channelsUnused n s.inputs s.outputs) (none-are-unused2 c).none.ensures
+    c.are-unused2.ensures ∙ ap (λ (n : Config). channels_unused n s.inputs s.outputs) (none-are-unused2 c).none.ensures
 
 returns : tie.Need-returns
 returns c =
     let s = (before-is-none c.before).args.router in
-    not-blank s (noSizes s.config) (λ b. b.config) (sym c.before.is_none.ensures
+    not_blank s (no_sizes s.config) (λ b. b.config) (sym c.before.is_none.ensures
     ∙ not-true c.before.is_none.result c.if1.true)
 
 returns-2 : tie.Need-returns-2
 returns-2 c =
     let s = (start-else1 c.before.before).args.router in
-    not-blank s (eqb s.cycle 0) (λ b. b.cycle) (ne_eqb s.cycle 0 c.if2.true)
+    not_blank s (eqb s.cycle 0) (λ b. b.cycle) (ne_eqb s.cycle 0 c.if2.true)
 
 returns-3 : tie.Need-returns-3
 returns-3 c =
     let s = (start-is-wire-sound c.before).args.router in
-    not-blank s (wireLegal noConfig s.wire && lineUnused 0 0 s.wire) (wire-blank s)
+    not_blank s (wire_legal no_config s.wire && line_unused 0 0 s.wire) (wire_blank s)
     (sym (wire-said c.before) ∙ not-true c.before.is-wire-sound.result c.if3.true)
 
 returns-4 : tie.Need-returns-4
 returns-4 c =
     let s = (start-is-home-sound c.before).args.router in
-    not-blank s (homeLegal noConfig s.home && lineUnused 0 0 s.home) (home-blank s)
+    not_blank s (home_legal no_config s.home && line_unused 0 0 s.home) (home_blank s)
     (sym (home-said c.before) ∙ not-true c.before.is-home-sound.result c.if4.true)
 
 returns-5 : tie.Need-returns-5
 returns-5 c =
     let s = (start-are-unused c.before).args.router in
-    not-blank s (arbitersUnused noConfig s.arbiters) (λ b. b.arbiters)
+    not_blank s (arbiters_unused no_config s.arbiters) (λ b. b.arbiters)
     (sym (arbiters-said c.before) ∙ not-true c.before.are-unused.result c.if5.true)
 
 returns-6 : tie.Need-returns-6
 returns-6 c =
     let s = (start-are-unused2 c.before).args.router in
-    not-blank s (channelsUnused noConfig s.inputs s.outputs) (λ b. b.channels)
+    not_blank s (channels_unused no_config s.inputs s.outputs) (λ b. b.channels)
     (sym (channels-said c.before) ∙ not-true c.before.are-unused2.result c.if6.true)
 
 returns-7 : tie.Need-returns-7
@@ -197,7 +197,7 @@ returns-7 c =
     let start = before-is-none at-is-none in
     let o = start in
     let s = o.args.router in
-    last-blank s c.are-slots-empty.result c.are-slots-empty.ensures
+    last_blank s c.are-slots-empty.result c.are-slots-empty.ensures
     (sym at-is-none.is_none.ensures ∙ not-false at-is-none.is_none.result at-else1.if1.left)
     (eq-eqb s.cycle 0 at-else2.if2.left) (sym (wire-said at-is-wire-sound)
     ∙ not-false at-is-wire-sound.is-wire-sound.result at-else3.if3.left)
@@ -205,7 +205,7 @@ returns-7 c =
     (sym (arbiters-said at-are-unused) ∙ not-false at-are-unused.are-unused.result at-else5.if5.left)
     (sym (channels-said at-are-unused2) ∙ not-false at-are-unused2.are-unused2.result at-else6.if6.left)
     (shape_is s (inputs_long o) (outputs-long o) (store_long o) (wire-long o) (home-long o))
-    (rooms-are s.arbiters (vcs-long o) (ins-long o) (outs-long o))
+    (rooms_are s.arbiters (vcs-long o) (ins-long o) (outs-long o))
 
 pub is-blank-spec : {M : Type 1} → statement M
 is-blank-spec =

@@ -2,7 +2,7 @@
 -- Assumes nothing.
 use mathlib.Core.Path.{ap}
 use Rattle.base.specs.declared.config.Config.{Config}
-use Rattle.state.proofs.Blank.{some_size, last-size}
+use Rattle.state.proofs.Blank.{some_size, last_size}
 use Rattle.state.proofs.blankness.is_none.Statement.{statement}
 use Rattle.state.proofs.blankness.is_none.Tie as tie
 
@@ -63,7 +63,7 @@ returns-7 c =
     let at-else2 = before-else3 at-else3 in
     let at-else1 = before-else2 at-else2 in
     let start = before-else1 at-else1 in
-    last-size start.args.config at-else1.if1.left at-else2.if2.left at-else3.if3.left at-else4.if4.left
+    last_size start.args.config at-else1.if1.left at-else2.if2.left at-else3.if3.left at-else4.if4.left
     at-else5.if5.left c.before.if6.false
 
 pub is-none-spec : {M : Type 1} → statement M

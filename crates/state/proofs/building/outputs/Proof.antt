@@ -4,13 +4,13 @@ use Prim.Native.Nat.{◌≤◌, ◌-◌}
 use mathlib.Core.Path.{◌≡◌, ap, ◌∙◌}
 use native.Mathlib.Omega.{arith}
 use borrow.Author.Rules.{rules}
-use Rattle.state.specs.Fresh.{filled, freshOutput}
-use Rattle.state.proofs.Filled.{filled-again}
+use Rattle.state.specs.Fresh.{filled, fresh_output}
+use Rattle.state.proofs.Filled.{filled_again}
 use Rattle.state.proofs.building.outputs.Statement.{statement}
 use Rattle.state.proofs.building.outputs.Tie as tie
 
 abbrev invariant-loop : tie.invariant-loop
-invariant-loop channels credit used made₀ y₀ made y = (y ≤ channels) × (made ≡ filled y 32 used (freshOutput 0))
+invariant-loop channels credit used made₀ y₀ made y = (y ≤ channels) × (made ≡ filled y 32 used (fresh_output 0))
 
 abbrev decreases-loop : tie.decreases-loop
 decreases-loop channels credit used made₀ y₀ made y = channels - y
@@ -34,7 +34,7 @@ loop-again : tie.Need-loop-preserved invariant-loop decreases-loop
 loop-again c =
     let l = c.before.loop in (
       search rules,
-      filled-again l.made (freshOutput c.before.before.args.credit) (freshOutput 0) 32 l.y (omega arith)
+      filled_again l.made (fresh_output c.before.before.args.credit) (fresh_output 0) 32 l.y (omega arith)
           l.invariant.1,
     )
 
@@ -42,7 +42,7 @@ returns : tie.Need-returns invariant-loop decreases-loop
 returns c =
     let l = c.before.loop in
     let end : l.y ≡ c.before.before.args.channels = omega arith in
-    l.invariant.1 ∙ ap (λ k. filled k 32 (freshOutput c.before.before.args.credit) (freshOutput 0)) end
+    l.invariant.1 ∙ ap (λ k. filled k 32 (fresh_output c.before.before.args.credit) (fresh_output 0)) end
 
 pub outputs-spec : {M : Type 1} → statement M
 outputs-spec =

@@ -2,10 +2,10 @@
 -- Assumes nothing.
 use native.Mathlib.Omega.{arith}
 use borrow.Author.Rules.{rules}
-use Rattle.state.proofs.Made.{channels-fit, router-made}
+use Rattle.state.proofs.Made.{channels_fit, router_made}
 use Rattle.state.proofs.building.untouched.Statement.{statement}
 use Rattle.state.proofs.building.untouched.Tie as tie
-use Rattle.state.specs.Fresh.{freshRouter}
+use Rattle.state.specs.Fresh.{fresh_router}
 
 cast-ports : tie.Need-overflow-cast-ports
 cast-ports c = search rules
@@ -14,11 +14,11 @@ cast-vcs : tie.Need-overflow-cast-vcs
 cast-vcs c = search rules
 
 mul-channels : tie.Need-overflow-mul-channels
-mul-channels c = let l = channels-fit c.before.before.args.config.ports c.before.before.args.config.vcs
+mul-channels c = let l = channels_fit c.before.before.args.config.ports c.before.before.args.config.vcs
     c.before.before.requires.0 c.before.before.requires.1 in record { fits = omega arith }
 
 cast-wide : tie.Need-overflow-cast-wide
-cast-wide c = let l = channels-fit c.before.before.args.config.ports c.before.before.args.config.vcs
+cast-wide c = let l = channels_fit c.before.before.args.config.ports c.before.before.args.config.vcs
     c.before.before.requires.0 c.before.before.requires.1 in record { fits = omega arith }
 
 wide-requires : tie.Need-wide-requires
@@ -39,17 +39,17 @@ narrow-requires-2 c κs = search rules
 inputs-requires : tie.Need-inputs-requires
 inputs-requires c κs =
     let start = c.before.before.before.before.before in
-    channels-fit start.args.config.ports start.args.config.vcs start.requires.0 start.requires.1
+    channels_fit start.args.config.ports start.args.config.vcs start.requires.0 start.requires.1
 
 outputs-requires : tie.Need-outputs-requires
 outputs-requires c κs =
     let start = c.before.before.before.before.before.before in
-    channels-fit start.args.config.ports start.args.config.vcs start.requires.0 start.requires.1
+    channels_fit start.args.config.ports start.args.config.vcs start.requires.0 start.requires.1
 
 returns : tie.Need-returns
-unfolding freshRouter
+unfolding fresh_router
 returns c =
-    router-made c.before.before.before.before.before.before.before.args.config c.before.inputs.result
+    router_made c.before.before.before.before.before.before.before.args.config c.before.inputs.result
     c.outputs.result c.before.before.before.before.wide.result c.before.before.before.narrow.result
     c.before.before.narrow2.result
     c.before.inputs.ensures c.outputs.ensures c.before.before.before.before.wide.ensures

@@ -5,13 +5,13 @@ use mathlib.Core.Path.{◌≡◌, ap, ◌∙◌}
 use native.Mathlib.Omega.{arith}
 use borrow.Author.Rules.{rules}
 use Rattle.arbiter.specs.Arbiter.{as_wide}
-use Rattle.state.specs.Fresh.{filled, zeroWide}
-use Rattle.state.proofs.Filled.{filled-again}
+use Rattle.state.specs.Fresh.{filled, zero_wide}
+use Rattle.state.proofs.Filled.{filled_again}
 use Rattle.state.proofs.building.wide.Statement.{statement}
 use Rattle.state.proofs.building.wide.Tie as tie
 
 abbrev invariant-loop : tie.invariant-loop
-invariant-loop ports code n used made₀ i₀ made i = (i ≤ ports) × (made ≡ filled i 8 used zeroWide)
+invariant-loop ports code n used made₀ i₀ made i = (i ≤ ports) × (made ≡ filled i 8 used zero_wide)
 
 abbrev decreases-loop : tie.decreases-loop
 decreases-loop ports code n used made₀ i₀ made i = ports - i
@@ -38,7 +38,7 @@ loop-again : tie.Need-loop-preserved invariant-loop decreases-loop
 loop-again c =
     let l = c.before.loop in (
       search rules,
-      filled-again l.made c.before.before.fresh.result zeroWide 8 l.i
+      filled_again l.made c.before.before.fresh.result zero_wide 8 l.i
           (omega arith) l.invariant.1,
     )
 
@@ -46,8 +46,8 @@ returns : tie.Need-returns invariant-loop decreases-loop
 returns c =
     let l = c.before.loop in
     let end : l.i ≡ c.before.before.before.args.ports = omega arith in
-    l.invariant.1 ∙ ap (λ k. filled k 8 c.before.before.fresh.result zeroWide) end
-    ∙ ap (λ a. filled c.before.before.before.args.ports 8 (as_wide a) zeroWide)
+    l.invariant.1 ∙ ap (λ k. filled k 8 c.before.before.fresh.result zero_wide) end
+    ∙ ap (λ a. filled c.before.before.before.args.ports 8 (as_wide a) zero_wide)
     c.before.before.fresh.ensures
 
 pub wide_spec : {M : Type 1} → statement M

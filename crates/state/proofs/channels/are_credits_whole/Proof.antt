@@ -3,9 +3,9 @@
 use native.Mathlib.Omega.{arith}
 use mir.Syntax.{w8}
 use mir.Val.{Fits}
-use Rattle.state.proofs.Places.{wire-few, home-few}
+use Rattle.state.proofs.Places.{wire_few, home_few}
 use borrow.Author.Rules.{rules}
-use Rattle.state.proofs.Clauses.{credits-are}
+use Rattle.state.proofs.Clauses.{credits_are}
 use Rattle.state.proofs.channels.are_credits_whole.Statement.{statement}
 use Rattle.state.proofs.channels.are_credits_whole.Tie as tie
 
@@ -23,9 +23,9 @@ going-home-requires c κs = search rules
 
 add-result : tie.Need-overflow-add-result
 add-result c =
-    let w = wire-few c.before.before.before.before.args.config c.before.before.before.before.args.wire.now
+    let w = wire_few c.before.before.before.before.args.config c.before.before.before.before.args.wire.now
     c.before.before.before.before.args.i c.before.before.before.before.args.v in
-    let h = home-few c.before.before.before.before.args.config c.before.before.before.before.args.home.now
+    let h = home_few c.before.before.before.before.args.config c.before.before.before.before.args.home.now
     c.before.before.before.before.args.i c.before.before.before.before.args.v in
     let e = c.before.on-wire.ensures in
     let f = c.going-home.ensures in
@@ -38,9 +38,9 @@ add-result c =
 
 add-result-2 : tie.Need-overflow-add-result-2
 add-result-2 c =
-    let w = wire-few c.before.before.before.before.args.config c.before.before.before.before.args.wire.now
+    let w = wire_few c.before.before.before.before.args.config c.before.before.before.before.args.wire.now
     c.before.before.before.before.args.i c.before.before.before.before.args.v in
-    let h = home-few c.before.before.before.before.args.config c.before.before.before.before.args.home.now
+    let h = home_few c.before.before.before.before.args.config c.before.before.before.before.args.home.now
     c.before.before.before.before.args.i c.before.before.before.before.args.v in
     let e = c.before.on-wire.ensures in
     let f = c.going-home.ensures in
@@ -53,9 +53,9 @@ add-result-2 c =
 
 add-result-3 : tie.Need-overflow-add-result-3
 add-result-3 c =
-    let w = wire-few c.before.before.before.before.args.config c.before.before.before.before.args.wire.now
+    let w = wire_few c.before.before.before.before.args.config c.before.before.before.before.args.wire.now
     c.before.before.before.before.args.i c.before.before.before.before.args.v in
-    let h = home-few c.before.before.before.before.args.config c.before.before.before.before.args.home.now
+    let h = home_few c.before.before.before.before.args.config c.before.before.before.before.args.home.now
     c.before.before.before.before.args.i c.before.before.before.before.args.v in
     let e = c.before.on-wire.ensures in
     let f = c.going-home.ensures in
@@ -72,7 +72,7 @@ cast-result c = search rules
 returns : tie.Need-returns
 returns c =
     let start = c.before.before.before.before.before in
-    credits-are start.args.config start.args.wire.now start.args.home.now start.args.i start.args.v
+    credits_are start.args.config start.args.wire.now start.args.home.now start.args.i start.args.v
     start.args.input c.before.before.on-wire.result c.before.going-home.result c.before.before.on-wire.ensures
     c.before.going-home.ensures
 

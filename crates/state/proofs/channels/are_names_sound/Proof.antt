@@ -3,14 +3,14 @@
 use mathlib.Core.Path.{sym, ◌∙◌}
 use borrow.Author.Tests.{not-true, not-false}
 use borrow.Author.Rules.{rules}
-use Rattle.state.proofs.Clauses.{names-credit, names-input, names-are}
+use Rattle.state.proofs.Clauses.{names_credit, names_input, names_are}
 use Rattle.state.proofs.channels.are_names_sound.Statement.{statement}
 use Rattle.state.proofs.channels.are_names_sound.Tie as tie
 
 returns : tie.Need-returns
 returns c =
     let start = c.before.before.before in
-    names-credit start.args.config start.args.i start.args.v start.args.input start.args.output
+    names_credit start.args.config start.args.i start.args.v start.args.input start.args.output
     start.args.holder start.args.binding c.if1.true
 
 is-input-named-requires : tie.Need-is-input-named-requires
@@ -19,7 +19,7 @@ is-input-named-requires c κs = search rules
 returns-2 : tie.Need-returns-2
 returns-2 c =
     let start = c.before.before.before.before.before in
-    names-input start.args.config start.args.i start.args.v start.args.input start.args.output start.args.holder
+    names_input start.args.config start.args.i start.args.v start.args.input start.args.output start.args.holder
     start.args.binding c.before.before.if1.false
     (sym c.before.is-input-named.ensures ∙ not-true c.before.is-input-named.result c.if2.true)
 
@@ -29,7 +29,7 @@ is-output-named-requires c κs = search rules
 returns-3 : tie.Need-returns-3
 returns-3 c =
     let start = c.before.before.before.before.before.before in
-    c.is-output-named.ensures ∙ names-are start.args.config start.args.i start.args.v start.args.input
+    c.is-output-named.ensures ∙ names_are start.args.config start.args.i start.args.v start.args.input
     start.args.output start.args.holder start.args.binding c.before.before.before.if1.false
     (sym c.before.before.is-input-named.ensures ∙ not-false c.before.before.is-input-named.result
     c.before.if2.false)

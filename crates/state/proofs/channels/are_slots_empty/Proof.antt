@@ -7,16 +7,16 @@ use borrow.Author.Tests.{not-true, not-false}
 use lib.ListN.{get_or}
 use Rattle.base.specs.Search.{every}
 use borrow.Author.Rules.{rules}
-use Rattle.state.specs.Fresh.{freshInput}
-use Rattle.state.specs.Sound.{slotsEmpty}
-use Rattle.state.proofs.Tests.{every-none, every_more, every-passed, every-fails}
-use Rattle.state.proofs.Clauses.{emptyBehind}
+use Rattle.state.specs.Fresh.{fresh_input}
+use Rattle.state.specs.Sound.{slots_empty}
+use Rattle.state.proofs.Tests.{every_none, every_more, every_passed, every_fails}
+use Rattle.state.proofs.Clauses.{empty_behind}
 use Rattle.state.proofs.channels.are_slots_empty.Statement.{statement}
 use Rattle.state.proofs.channels.are_slots_empty.Tie as tie
 
 abbrev invariant-loop : tie.invariant-loop
 invariant-loop store inputs x₀ x = (x ≤ 32) × (every x (λ (y : ℕ). every 16
-    (emptyBehind (16 * y) (get_or inputs y (freshInput 0)).queued store)) ≡ true)
+    (empty_behind (16 * y) (get_or inputs y (fresh_input 0)).queued store)) ≡ true)
 
 abbrev decreases-loop : tie.decreases-loop
 decreases-loop store inputs x₀ x = 32 - x
@@ -24,7 +24,7 @@ decreases-loop store inputs x₀ x = 32 - x
 loop-holds : tie.Need-loop-init invariant-loop decreases-loop
 loop-holds c = (
   search rules,
-  every-none (λ (y : ℕ). every 16 (emptyBehind (16 * y) (get_or c.args.t1 y (freshInput 0)).queued
+  every_none (λ (y : ℕ). every 16 (empty_behind (16 * y) (get_or c.args.t1 y (fresh_input 0)).queued
       c.args.store.now)),
 )
 
@@ -41,10 +41,10 @@ are-empty-behind-requires : tie.Need-are-empty-behind-requires invariant-loop de
 are-empty-behind-requires c κs = search rules
 
 returns : tie.Need-returns invariant-loop decreases-loop
-unfolding slotsEmpty
+unfolding slots_empty
 returns c =
-    every-fails 32 c.before.before.before.before.loop.x (λ (y : ℕ). every 16 (emptyBehind (16 * y) (get_or
-    c.before.before.before.before.before.args.t1 y (freshInput 0)).queued
+    every_fails 32 c.before.before.before.before.loop.x (λ (y : ℕ). every 16 (empty_behind (16 * y) (get_or
+    c.before.before.before.before.before.args.t1 y (fresh_input 0)).queued
     c.before.before.before.before.before.args.store.now))
     (search rules) (sym c.before.are-empty-behind.ensures ∙ not-true c.before.are-empty-behind.result c.if1.true)
 
@@ -57,8 +57,8 @@ loop-less c = search rules
 loop-again : tie.Need-loop-preserved invariant-loop decreases-loop
 loop-again c = (
   search rules,
-  every_more c.before.before.before.before.loop.x (λ (y : ℕ). every 16 (emptyBehind (16 * y) (get_or
-      c.before.before.before.before.before.args.t1 y (freshInput 0)).queued
+  every_more c.before.before.before.before.loop.x (λ (y : ℕ). every 16 (empty_behind (16 * y) (get_or
+      c.before.before.before.before.before.args.t1 y (fresh_input 0)).queued
       c.before.before.before.before.before.args.store.now))
       c.before.before.before.before.loop.invariant.1 (sym c.before.are-empty-behind.ensures
       ∙ not-false c.before.are-empty-behind.result
@@ -66,10 +66,10 @@ loop-again c = (
 )
 
 returns-2 : tie.Need-returns-2 invariant-loop decreases-loop
-unfolding slotsEmpty
+unfolding slots_empty
 returns-2 c =
-    sym (every-passed 32 c.before.loop.x (λ (y : ℕ). every 16 (emptyBehind (16 * y) (get_or c.before.before.args.t1 y
-    (freshInput 0)).queued c.before.before.args.store.now)) c.before.loop.invariant.0 (search rules) c.before.loop.invariant.1)
+    sym (every_passed 32 c.before.loop.x (λ (y : ℕ). every 16 (empty_behind (16 * y) (get_or c.before.before.args.t1 y
+    (fresh_input 0)).queued c.before.before.args.store.now)) c.before.loop.invariant.0 (search rules) c.before.loop.invariant.1)
 
 pub are-slots-empty-spec : {M : Type 1} → statement M
 are-slots-empty-spec =

@@ -7,15 +7,15 @@ use mathlib.Core.Bool.{true, false}
 use borrow.Author.Tests.{not-true, not-false}
 use Rattle.base.specs.Search.{every}
 use borrow.Author.Rules.{rules}
-use Rattle.state.specs.Sound.{channelsUnused}
-use Rattle.state.proofs.Made.{channels-fit}
-use Rattle.state.proofs.Tests.{every_more, every-passed, every-fails}
-use Rattle.state.proofs.Clauses.{unusedFrom, unused-below, unused-is, unused-input}
+use Rattle.state.specs.Sound.{channels_unused}
+use Rattle.state.proofs.Made.{channels_fit}
+use Rattle.state.proofs.Tests.{every_more, every_passed, every_fails}
+use Rattle.state.proofs.Clauses.{unused_from, unused_below, unused_is, unused_input}
 use Rattle.state.proofs.channels.are_unused.Statement.{statement}
 use Rattle.state.proofs.channels.are_unused.Tie as tie
 
 abbrev invariant-loop : tie.invariant-loop
-invariant-loop inputs outputs x₀ x = (x₀ ≤ x) × (x ≤ 32) × (every x (unusedFrom x₀ inputs outputs) ≡ true)
+invariant-loop inputs outputs x₀ x = (x₀ ≤ x) × (x ≤ 32) × (every x (unused_from x₀ inputs outputs) ≡ true)
 
 abbrev decreases-loop : tie.decreases-loop
 decreases-loop inputs outputs x₀ x = 32 - x
@@ -44,16 +44,16 @@ cast-x-2 c = search rules
 
 mul-x : tie.Need-overflow-mul-x invariant-loop decreases-loop
 mul-x c =
-    let b = c.before.before.requires in let l = channels-fit c.before.before.args.config.ports c.before.before.args.config.vcs
+    let b = c.before.before.requires in let l = channels_fit c.before.before.args.config.ports c.before.before.args.config.vcs
     b.ports.1 b.vcs.1 in record { fits = omega arith }
 
 loop-holds : tie.Need-loop-init invariant-loop decreases-loop
 loop-holds c =
-    let b = c.before.before.requires in let l = channels-fit c.before.before.args.config.ports c.before.before.args.config.vcs
+    let b = c.before.before.requires in let l = channels_fit c.before.before.args.config.ports c.before.before.args.config.vcs
     b.ports.1 b.vcs.1 in (
       search rules,
       l,
-      unused-below (c.before.before.args.config.ports * c.before.before.args.config.vcs)
+      unused_below (c.before.before.args.config.ports * c.before.before.args.config.vcs)
           c.before.before.args.t2 c.before.before.args.t3,
     )
 
@@ -67,12 +67,12 @@ is-input-unused-requires : tie.Need-is-input-unused-requires invariant-loop decr
 is-input-unused-requires c κs = search rules
 
 returns : tie.Need-returns invariant-loop decreases-loop
-unfolding channelsUnused
+unfolding channels_unused
 returns c =
     let at-loop = before-is-input-unused c.before in
     let start = before-loop at-loop in
-    every-fails 32 at-loop.loop.x (unusedFrom (start.args.config.ports * start.args.config.vcs) start.args.t2
-    start.args.t3) (search rules) (unused-input (start.args.config.ports * start.args.config.vcs) start.args.t2
+    every_fails 32 at-loop.loop.x (unused_from (start.args.config.ports * start.args.config.vcs) start.args.t2
+    start.args.t3) (search rules) (unused_input (start.args.config.ports * start.args.config.vcs) start.args.t2
     start.args.t3 at-loop.loop.x at-loop.loop.inv.0
     (sym c.before.is-input-unused.ensures ∙ not-true c.before.is-input-unused.result c.if1.true))
 
@@ -86,14 +86,14 @@ is-output-unused-requires : tie.Need-is-output-unused-requires invariant-loop de
 is-output-unused-requires c κs = search rules
 
 returns-2 : tie.Need-returns-2 invariant-loop decreases-loop
-unfolding channelsUnused
+unfolding channels_unused
 returns-2 c =
     let at-else1 = before-then2 c in
     let at-is-input-unused = before-else1 at-else1 in
     let at-loop = before-is-input-unused at-is-input-unused in
     let start = before-loop at-loop in
-    every-fails 32 at-loop.loop.x (unusedFrom (start.args.config.ports * start.args.config.vcs) start.args.t2
-    start.args.t3) (search rules) (unused-is (start.args.config.ports * start.args.config.vcs) start.args.t2
+    every_fails 32 at-loop.loop.x (unused_from (start.args.config.ports * start.args.config.vcs) start.args.t2
+    start.args.t3) (search rules) (unused_is (start.args.config.ports * start.args.config.vcs) start.args.t2
     start.args.t3 at-loop.loop.x true false at-loop.loop.inv.0
     (sym at-is-input-unused.is-input-unused.ensures ∙ not-false at-is-input-unused.is-input-unused.result
     at-else1.if1.left) (sym c.before.is-output-unused.ensures
@@ -114,18 +114,18 @@ loop-again c =
       search rules,
       search rules,
       every_more at-loop.loop.x
-          (unusedFrom (start.args.config.ports * start.args.config.vcs) start.args.t2 start.args.t3) at-loop.loop.inv.2
-          (unused-is (start.args.config.ports * start.args.config.vcs) start.args.t2 start.args.t3
+          (unused_from (start.args.config.ports * start.args.config.vcs) start.args.t2 start.args.t3) at-loop.loop.inv.2
+          (unused_is (start.args.config.ports * start.args.config.vcs) start.args.t2 start.args.t3
           at-loop.loop.x true true at-loop.loop.inv.0 (sym at-is-input-unused.is-input-unused.ensures
           ∙ not-false at-is-input-unused.is-input-unused.result at-else1.if1.left)
           (sym c.before.is-output-unused.ensures ∙ not-false c.before.is-output-unused.result c.if2.false)),
     )
 
 returns-3 : tie.Need-returns-3 invariant-loop decreases-loop
-unfolding channelsUnused
+unfolding channels_unused
 returns-3 c =
     let start = before-loop c.before in
-    sym (every-passed 32 c.before.loop.x (unusedFrom (start.args.config.ports * start.args.config.vcs) start.args.t2
+    sym (every_passed 32 c.before.loop.x (unused_from (start.args.config.ports * start.args.config.vcs) start.args.t2
     start.args.t3) c.before.loop.invariant.1 (search rules) c.before.loop.invariant.2)
 
 pub are-unused-spec : {M : Type 1} → statement M

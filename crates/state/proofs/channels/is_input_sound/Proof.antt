@@ -4,8 +4,8 @@ use native.Mathlib.Omega.{arith}
 use mathlib.Core.Path.{sym, ◌∙◌}
 use borrow.Author.Tests.{not-true, not-false}
 use borrow.Author.Rules.{rules}
-use Rattle.state.proofs.Naming.{channel-fits}
-use Rattle.state.proofs.Clauses.{queued-fits, base-fits, input-credits-fail, input-is}
+use Rattle.state.proofs.Naming.{channel_fits}
+use Rattle.state.proofs.Clauses.{queued_fits, base_fits, input_credits_fail, input_is}
 use Rattle.state.proofs.channels.is_input_sound.Statement.{statement}
 use Rattle.state.proofs.channels.is_input_sound.Tie as tie
 
@@ -14,7 +14,7 @@ are-credits-whole-requires c κs = search rules
 
 returns : tie.Need-returns
 returns c =
-    input-credits-fail c.before.before.args.config c.before.before.args.store.now c.before.before.args.wire.now
+    input_credits_fail c.before.before.args.config c.before.before.args.store.now c.before.before.args.wire.now
     c.before.before.args.home.now c.before.before.args.i c.before.before.args.v c.before.before.args.input (sym
     c.before.are-credits-whole.ensures ∙ not-true c.before.are-credits-whole.result c.if1.true)
 
@@ -25,7 +25,7 @@ mul-base : tie.Need-overflow-mul-base
 mul-base c =
     let start = c.before.before.before in
     let p = start.requires in
-    let l = channel-fits start.args.config.ports start.args.config.vcs start.args.i start.args.v p.1 p.2
+    let l = channel_fits start.args.config.ports start.args.config.vcs start.args.i start.args.v p.1 p.2
     p.0.ports.1 p.0.vcs.1 in
     record { fits = omega arith }
 
@@ -33,7 +33,7 @@ add-base : tie.Need-overflow-add-base
 add-base c =
     let start = c.before.before.before in
     let p = start.requires in
-    let l = channel-fits start.args.config.ports start.args.config.vcs start.args.i start.args.v p.1 p.2
+    let l = channel_fits start.args.config.ports start.args.config.vcs start.args.i start.args.v p.1 p.2
     p.0.ports.1 p.0.vcs.1 in
     record { fits = omega arith }
 
@@ -41,7 +41,7 @@ mul-base-2 : tie.Need-overflow-mul-base-2
 mul-base-2 c =
     let start = c.before.before.before in
     let p = start.requires in
-    let l = channel-fits start.args.config.ports start.args.config.vcs start.args.i start.args.v p.1 p.2
+    let l = channel_fits start.args.config.ports start.args.config.vcs start.args.i start.args.v p.1 p.2
     p.0.ports.1 p.0.vcs.1 in
     record { fits = omega arith }
 
@@ -51,8 +51,8 @@ cast-queued c = search rules
 starts-inside-requires : tie.Need-starts-inside-requires
 starts-inside-requires c κs =
     let start = c.before.before.before.before in (
-      (base-fits start.args.config start.args.i start.args.v start.requires.0 start.requires.1 start.requires.2),
-      (queued-fits start.args.config start.args.wire.now start.args.home.now start.args.i start.args.v
+      (base_fits start.args.config start.args.i start.args.v start.requires.0 start.requires.1 start.requires.2),
+      (queued_fits start.args.config start.args.wire.now start.args.home.now start.args.i start.args.v
           start.args.input (sym c.before.before.before.are-credits-whole.ensures
           ∙ not-false c.before.before.before.are-credits-whole.result c.before.before.if1.false) start.requires.0.depth.1),
       start.requires.3,
@@ -65,9 +65,9 @@ reads-requires c κs =
     let l = start.requires.1 in (
       start.requires.0.forward.1,
       omega arith,
-      (base-fits start.args.config start.args.i start.args.v start.requires.0
+      (base_fits start.args.config start.args.i start.args.v start.requires.0
           start.requires.1 start.requires.2),
-      (queued-fits start.args.config start.args.wire.now start.args.home.now
+      (queued_fits start.args.config start.args.wire.now start.args.home.now
           start.args.i start.args.v start.args.input
           (sym c.before.before.before.before.are-credits-whole.ensures
           ∙ not-false c.before.before.before.before.are-credits-whole.result c.before.before.before.if1.false)
@@ -80,7 +80,7 @@ returns-2 : tie.Need-returns-2
 returns-2 c =
     let start = c.before.before.before.before.before.before in
     let at-are-credits-whole = c.before.before.before.before.before in
-    c.reads.ensures ∙ input-is start.args.config start.args.store.now start.args.wire.now start.args.home.now
+    c.reads.ensures ∙ input_is start.args.config start.args.store.now start.args.wire.now start.args.home.now
     start.args.i start.args.v start.args.input c.before.starts-inside.result
     (sym at-are-credits-whole.are-credits-whole.ensures
     ∙ not-false at-are-credits-whole.are-credits-whole.result c.before.before.before.before.if1.false)

@@ -3,7 +3,7 @@
 use mathlib.Core.Path.{◌≡◌}
 use borrow.Author.Rules.{rules}
 use Rattle.state.specs.declared.Holder.TheVariants.{Nobody}
-use Rattle.state.proofs.Clauses.{output-unused}
+use Rattle.state.proofs.Clauses.{output_unused-law}
 use Rattle.state.proofs.channels.is_output_unused.Statement.{statement}
 use Rattle.state.proofs.channels.is_output_unused.Tie as tie
 
@@ -19,7 +19,7 @@ returns c = search rules
 returns-2 : tie.Need-returns-2
 returns-2 c =
     let e : c.before.before.before.args.output.holder ≡ Nobody = search rules in
-    output-unused c.before.before.before.args.output e
+    output_unused-law c.before.before.before.args.output e
 
 pub is-output-unused-spec : {M : Type 1} → statement M
 is-output-unused-spec = tie.close (tie.spec enum_told enum-told-2 returns returns-2)

@@ -7,16 +7,16 @@ use Prim.Native.Nat.{◌≤◌, ◌<◌, ◌-◌}
 use borrow.Author.Tests.{not-true, not-false}
 use borrow.Author.Rules.{rules}
 use Rattle.base.specs.Search.{every}
-use Rattle.state.specs.Testing.{channelSound}
-use Rattle.state.proofs.Naming.{channel-fits}
-use Rattle.state.proofs.Clauses.{names-pass, channel-fails, channel-is}
-use Rattle.state.proofs.Tests.{every-none, every_more, every-passed, every-fails}
+use Rattle.state.specs.Testing.{channel_sound}
+use Rattle.state.proofs.Naming.{channel_fits}
+use Rattle.state.proofs.Clauses.{names_pass-law, channel_fails, channel_is}
+use Rattle.state.proofs.Tests.{every_none, every_more, every_passed, every_fails}
 use Rattle.state.proofs.channels.is_port_sound.Statement.{statement}
 use Rattle.state.proofs.channels.is_port_sound.Tie as tie
 
 abbrev invariant-loop : tie.invariant-loop
 invariant-loop config i store wire home inputs outputs v₀ v = (v ≤ config.vcs)
-    × (every v (channelSound config inputs outputs store wire home i) ≡ true)
+    × (every v (channel_sound config inputs outputs store wire home i) ≡ true)
 
 abbrev decreases-loop : tie.decreases-loop
 decreases-loop config i store wire home inputs outputs v₀ v = config.vcs - v
@@ -54,7 +54,7 @@ turn c = search rules
 loop-holds : tie.Need-loop-init invariant-loop decreases-loop
 loop-holds c = (
   search rules,
-  every-none (channelSound c.args.config c.args.t3 c.args.t4 c.args.store.now
+  every_none (channel_sound c.args.config c.args.t3 c.args.t4 c.args.store.now
       c.args.wire.now c.args.home.now c.args.i),
 )
 
@@ -67,7 +67,7 @@ mul-x c =
     let start = before-loop at-loop in
     let p = start.pre in
     let h : at-loop.loop.v < start.args.config.vcs = search rules in
-    let l = channel-fits start.args.config.ports start.args.config.vcs start.args.i at-loop.loop.v p.1 h
+    let l = channel_fits start.args.config.ports start.args.config.vcs start.args.i at-loop.loop.v p.1 h
     p.0.ports.1 p.0.vcs.1 in
     record { fits = omega arith }
 
@@ -80,7 +80,7 @@ add-x c =
     let start = before-loop at-loop in
     let p = start.pre in
     let h : at-loop.loop.v < start.args.config.vcs = search rules in
-    let l = channel-fits start.args.config.ports start.args.config.vcs start.args.i at-loop.loop.v p.1 h
+    let l = channel_fits start.args.config.ports start.args.config.vcs start.args.i at-loop.loop.v p.1 h
     p.0.ports.1 p.0.vcs.1 in
     record { fits = omega arith }
 
@@ -90,7 +90,7 @@ mul-input c =
     let start = before-loop at-loop in
     let p = start.pre in
     let h : at-loop.loop.v < start.args.config.vcs = search rules in
-    let l = channel-fits start.args.config.ports start.args.config.vcs start.args.i at-loop.loop.v p.1 h
+    let l = channel_fits start.args.config.ports start.args.config.vcs start.args.i at-loop.loop.v p.1 h
     p.0.ports.1 p.0.vcs.1 in
     record { fits = omega arith }
 
@@ -100,7 +100,7 @@ array-copy-out-input c =
     let start = before-loop at-loop in
     let p = start.pre in
     let h : at-loop.loop.v < start.args.config.vcs = search rules in
-    let l = channel-fits start.args.config.ports start.args.config.vcs start.args.i at-loop.loop.v p.1 h
+    let l = channel_fits start.args.config.ports start.args.config.vcs start.args.i at-loop.loop.v p.1 h
     p.0.ports.1 p.0.vcs.1 in
     l
 
@@ -110,7 +110,7 @@ mul-output c =
     let start = before-loop at-loop in
     let p = start.pre in
     let h : at-loop.loop.v < start.args.config.vcs = search rules in
-    let l = channel-fits start.args.config.ports start.args.config.vcs start.args.i at-loop.loop.v p.1 h
+    let l = channel_fits start.args.config.ports start.args.config.vcs start.args.i at-loop.loop.v p.1 h
     p.0.ports.1 p.0.vcs.1 in
     record { fits = omega arith }
 
@@ -120,7 +120,7 @@ array-copy-out-output c =
     let start = before-loop at-loop in
     let p = start.pre in
     let h : at-loop.loop.v < start.args.config.vcs = search rules in
-    let l = channel-fits start.args.config.ports start.args.config.vcs start.args.i at-loop.loop.v p.1 h
+    let l = channel_fits start.args.config.ports start.args.config.vcs start.args.i at-loop.loop.v p.1 h
     p.0.ports.1 p.0.vcs.1 in
     l
 
@@ -152,11 +152,11 @@ returns c =
     let at-loop = loop-bound-place at-bound-place in
     let start = before-loop at-loop in
     let h = turn (before-bound-place at-bound-place) in
-    every-fails start.args.config.vcs at-loop.loop.v
-    (channelSound start.args.config start.args.t3 start.args.t4 start.args.store.now start.args.wire.now
-    start.args.home.now start.args.i) h (sym (channel-fails start.args.config start.args.t3 start.args.t4
+    every_fails start.args.config.vcs at-loop.loop.v
+    (channel_sound start.args.config start.args.t3 start.args.t4 start.args.store.now start.args.wire.now
+    start.args.home.now start.args.i) h (sym (channel_fails start.args.config start.args.t3 start.args.t4
     start.args.i at-loop.loop.v start.args.store.now start.args.wire.now start.args.home.now
-    (sym (names-pass start.args.config start.args.t3 start.args.t4 start.args.i at-loop.loop.v
+    (sym (names_pass-law start.args.config start.args.t3 start.args.t4 start.args.i at-loop.loop.v
     at-bound-place.bound-place.result at-held-place.held_place.result c.before.are-names-sound.result start.pre.0
     at-bound-place.bound-place.ensures.0 at-held-place.held_place.ensures.0 c.before.are-names-sound.ensures)
     ∙ not-true c.before.are-names-sound.result c.if2.true)))
@@ -172,11 +172,11 @@ returns-2 c =
     let at-loop = loop-bound-place at-bound-place in
     let start = before-loop at-loop in
     let h = turn (before-bound-place at-bound-place) in
-    every-fails start.args.config.vcs at-loop.loop.v
-    (channelSound start.args.config start.args.t3 start.args.t4 start.args.store.now start.args.wire.now
-    start.args.home.now start.args.i) h (sym (channel-is start.args.config start.args.t3 start.args.t4
+    every_fails start.args.config.vcs at-loop.loop.v
+    (channel_sound start.args.config start.args.t3 start.args.t4 start.args.store.now start.args.wire.now
+    start.args.home.now start.args.i) h (sym (channel_is start.args.config start.args.t3 start.args.t4
     start.args.i at-loop.loop.v start.args.store.now start.args.wire.now start.args.home.now
-    (sym (names-pass start.args.config start.args.t3 start.args.t4 start.args.i at-loop.loop.v
+    (sym (names_pass-law start.args.config start.args.t3 start.args.t4 start.args.i at-loop.loop.v
     at-bound-place.bound-place.result at-held-place.held_place.result at-are-names-sound.are-names-sound.result
     start.pre.0 at-bound-place.bound-place.ensures.0 at-held-place.held_place.ensures.0
     at-are-names-sound.are-names-sound.ensures) ∙ not-false at-are-names-sound.are-names-sound.result
@@ -198,11 +198,11 @@ loop-again c =
     let start = before-loop at-loop in
     let h = turn (before-bound-place at-bound-place) in (
       omega arith,
-      every_more at-loop.loop.v (channelSound start.args.config start.args.t3 start.args.t4
+      every_more at-loop.loop.v (channel_sound start.args.config start.args.t3 start.args.t4
           start.args.store.now start.args.wire.now start.args.home.now start.args.i) at-loop.loop.inv.1
-          (sym (channel-is start.args.config start.args.t3 start.args.t4 start.args.i at-loop.loop.v
+          (sym (channel_is start.args.config start.args.t3 start.args.t4 start.args.i at-loop.loop.v
           start.args.store.now start.args.wire.now start.args.home.now
-          (sym (names-pass start.args.config start.args.t3 start.args.t4 start.args.i at-loop.loop.v
+          (sym (names_pass-law start.args.config start.args.t3 start.args.t4 start.args.i at-loop.loop.v
           at-bound-place.bound-place.result at-held-place.held_place.result at-are-names-sound.are-names-sound.result
           start.pre.0 at-bound-place.bound-place.ensures.0 at-held-place.held_place.ensures.0
           at-are-names-sound.are-names-sound.ensures) ∙ not-false at-are-names-sound.are-names-sound.result
@@ -213,8 +213,8 @@ loop-again c =
 returns-3 : tie.Need-returns-3 invariant-loop decreases-loop
 returns-3 c =
     let start = before-loop c.before.before in
-    sym (every-passed start.args.config.vcs c.before.before.loop.v
-    (channelSound start.args.config start.args.t3 start.args.t4 start.args.store.now start.args.wire.now
+    sym (every_passed start.args.config.vcs c.before.before.loop.v
+    (channel_sound start.args.config start.args.t3 start.args.t4 start.args.store.now start.args.wire.now
     start.args.home.now start.args.i) c.before.before.loop.invariant.0 (search rules) c.before.before.loop.invariant.1)
 
 pub is-port-sound-spec : {M : Type 1} → statement M

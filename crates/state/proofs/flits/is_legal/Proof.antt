@@ -2,12 +2,12 @@
 -- Assumes nothing.
 use native.Mathlib.Omega.{arith}
 use borrow.Author.Rules.{rules}
-use Rattle.state.proofs.Pairs.{shifted-range, legal-pair, legal-long}
+use Rattle.state.proofs.Pairs.{shifted_range, legal_pair, legal_long}
 use Rattle.state.proofs.flits.is_legal.Statement.{statement}
 use Rattle.state.proofs.flits.is_legal.Tie as tie
 
 returns : tie.Need-returns
-returns c = legal-long c.before.args.config c.before.args.flit c.if1.true
+returns c = legal_long c.before.args.config c.before.args.flit c.if1.true
 
 cast-ports : tie.Need-overflow-cast-ports
 cast-ports c = search rules
@@ -19,22 +19,22 @@ shl-ports : tie.Need-overflow-shl-ports
 shl-ports c = search rules
 
 sub-ports : tie.Need-overflow-sub-ports
-sub-ports c = (shifted-range c.before.before.args.config.ports c.before.before.requires).0
+sub-ports c = (shifted_range c.before.before.args.config.ports c.before.before.requires).0
 
 mul-pairs : tie.Need-overflow-mul-pairs
-mul-pairs c = let r = shifted-range c.before.before.args.config.ports c.before.before.requires in record { fits = omega arith }
+mul-pairs c = let r = shifted_range c.before.before.args.config.ports c.before.before.requires in record { fits = omega arith }
 
 add-pairs : tie.Need-overflow-add-pairs
-add-pairs c = let r = shifted-range c.before.before.args.config.ports c.before.before.requires in record { fits = omega arith }
+add-pairs c = let r = shifted_range c.before.before.args.config.ports c.before.before.requires in record { fits = omega arith }
 
 add-pairs-2 : tie.Need-overflow-add-pairs-2
-add-pairs-2 c = let r = shifted-range c.before.before.args.config.ports c.before.before.requires in record { fits = omega arith }
+add-pairs-2 c = let r = shifted_range c.before.before.args.config.ports c.before.before.requires in record { fits = omega arith }
 
 mul-pairs-2 : tie.Need-overflow-mul-pairs-2
-mul-pairs-2 c = let r = shifted-range c.before.before.args.config.ports c.before.before.requires in record { fits = omega arith }
+mul-pairs-2 c = let r = shifted_range c.before.before.args.config.ports c.before.before.requires in record { fits = omega arith }
 
 add-pairs-3 : tie.Need-overflow-add-pairs-3
-add-pairs-3 c = let r = shifted-range c.before.before.args.config.ports c.before.before.requires in record { fits = omega arith }
+add-pairs-3 c = let r = shifted_range c.before.before.args.config.ports c.before.before.requires in record { fits = omega arith }
 
 cast-result : tie.Need-overflow-cast-result
 cast-result c = search rules
@@ -46,7 +46,7 @@ shr-result : tie.Need-overflow-shr-result
 shr-result c = search rules
 
 returns-2 : tie.Need-returns-2
-returns-2 c = legal-pair c.before.before.args.config c.before.before.args.flit c.before.before.requires c.before.if1.false
+returns-2 c = legal_pair c.before.before.args.config c.before.before.args.flit c.before.before.requires c.before.if1.false
 
 pub is-legal-spec : {M : Type 1} → statement M
 is-legal-spec =

@@ -2,8 +2,8 @@
 -- Assumes nothing.
 use mathlib.Core.Path.{◌∙◌}
 use borrow.Author.Rules.{rules}
-use Rattle.state.proofs.Places.{past-delay, past-ports, place-used, wire-empty, wire-beyond, wire-flit}
-use Rattle.state.specs.Sound.{wirePlaceLegal}
+use Rattle.state.proofs.Places.{past_delay, past_ports, place_used, wire_empty, wire_beyond, wire_flit-law}
+use Rattle.state.specs.Sound.{wire_place_legal}
 use Rattle.state.proofs.lines.is_wire_place.Statement.{statement}
 use Rattle.state.proofs.lines.is_wire_place.Tie as tie
 
@@ -12,7 +12,7 @@ cast-if1 c = search rules
 
 returns : tie.Need-returns
 returns c =
-    past-delay c.before.before.args.config.forward c.before.before.args.config.ports (wirePlaceLegal
+    past_delay c.before.before.args.config.forward c.before.before.args.config.ports (wire_place_legal
     c.before.before.args.config) c.before.before.args.k c.before.before.args.i c.before.before.args.place
     c.if1.true
 
@@ -22,14 +22,14 @@ cast-if2 c = search rules
 returns-2 : tie.Need-returns-2
 returns-2 c =
     let start = c.before.before.before.before in
-    past-ports start.args.config.forward start.args.config.ports (wirePlaceLegal start.args.config) start.args.k
+    past_ports start.args.config.forward start.args.config.ports (wire_place_legal start.args.config) start.args.k
     start.args.i start.args.place c.if2.true
 
 returns-3 : tie.Need-returns-3
 returns-3 c =
     let start = c.before.before.before.before.before in
-    wire-empty start.args.config start.args.place c.if3.true
-    ∙ place-used start.args.config.forward start.args.config.ports (wirePlaceLegal start.args.config) start.args.k
+    wire_empty start.args.config start.args.place c.if3.true
+    ∙ place_used start.args.config.forward start.args.config.ports (wire_place_legal start.args.config) start.args.k
     start.args.i start.args.place c.before.before.before.if1.false c.before.if2.false
 
 cast-if4 : tie.Need-overflow-cast-if4
@@ -38,8 +38,8 @@ cast-if4 c = search rules
 returns-4 : tie.Need-returns-4
 returns-4 c =
     let start = c.before.before.before.before.before.before.before in
-    wire-beyond start.args.config start.args.place c.before.before.if3.false c.if4.true
-    ∙ place-used start.args.config.forward start.args.config.ports (wirePlaceLegal start.args.config) start.args.k
+    wire_beyond start.args.config start.args.place c.before.before.if3.false c.if4.true
+    ∙ place_used start.args.config.forward start.args.config.ports (wire_place_legal start.args.config) start.args.k
     start.args.i start.args.place c.before.before.before.before.before.if1.false
     c.before.before.before.if2.false
 
@@ -49,9 +49,9 @@ is-legal-requires c κs = search rules
 returns-5 : tie.Need-returns-5
 returns-5 c =
     let start = c.before.before.before.before.before.before.before.before in
-    c.is-legal.ensures ∙ wire-flit start.args.config start.args.place c.before.before.before.if3.false
-    c.before.if4.false ∙ place-used start.args.config.forward start.args.config.ports
-    (wirePlaceLegal start.args.config) start.args.k start.args.i start.args.place
+    c.is-legal.ensures ∙ wire_flit-law start.args.config start.args.place c.before.before.before.if3.false
+    c.before.if4.false ∙ place_used start.args.config.forward start.args.config.ports
+    (wire_place_legal start.args.config) start.args.k start.args.i start.args.place
     c.before.before.before.before.before.before.if1.false c.before.before.before.before.if2.false
 
 pub is-wire-place-spec : {M : Type 1} → statement M

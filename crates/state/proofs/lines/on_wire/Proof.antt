@@ -5,13 +5,13 @@ use mathlib.Core.Path.{◌≡◌, sym, ap, ap₂, ◌∙◌}
 use Prim.Native.Nat.{ℕ, ◌≤◌, ◌-◌, ◌+◌}
 use lib.ListN.{length}
 use borrow.Author.Rules.{rules}
-use Rattle.state.specs.Views.{places, flat, onVc, wirePlace, wireOf}
-use Rattle.state.proofs.Places.{flits-none, flits-more, one-flit}
+use Rattle.state.specs.Views.{places, flat, on_vc, wire_place, wire_of}
+use Rattle.state.proofs.Places.{flits_none, flits_more, one_flit}
 use Rattle.state.proofs.lines.on_wire.Statement.{statement}
 use Rattle.state.proofs.lines.on_wire.Tie as tie
 
 abbrev invariant-loop : tie.invariant-loop
-invariant-loop i v wire end count₀ k₀ count k = (k ≤ end) × (count ≤ k) × (count ≡ length (flat (places k (λ j. onVc v (wirePlace wire j i)))))
+invariant-loop i v wire end count₀ k₀ count k = (k ≤ end) × (count ≤ k) × (count ≡ length (flat (places k (λ j. on_vc v (wire_place wire j i)))))
 
 abbrev decreases-loop : tie.decreases-loop
 decreases-loop i v wire end count₀ k₀ count k = end - k
@@ -23,8 +23,8 @@ loop-holds : tie.Need-loop-init invariant-loop decreases-loop
 loop-holds c = (
   search rules,
   search rules,
-  flits-none (λ k. onVc c.before.args.v
-      (wirePlace c.before.args.wire.now k c.before.args.i)),
+  flits_none (λ k. on_vc c.before.args.v
+      (wire_place c.before.args.wire.now k c.before.args.i)),
 )
 
 mul-flits-on : tie.Need-overflow-mul-flits-on invariant-loop decreases-loop
@@ -45,7 +45,7 @@ flits-on-requires c κs = search rules
 add-count : tie.Need-overflow-add-count invariant-loop decreases-loop
 add-count c =
     let start = c.before.before.before.before.before in
-    let o = one-flit start.args.v (wirePlace start.args.wire.now c.before.before.before.loop.k start.args.i) in
+    let o = one_flit start.args.v (wire_place start.args.wire.now c.before.before.before.loop.k start.args.i) in
     let e = c.flits-on.ensures in
     record { fits = omega arith }
 
@@ -57,23 +57,23 @@ loop-less c = search rules
 
 loop-again : tie.Need-loop-preserved invariant-loop decreases-loop
 loop-again c =
-    let o = one-flit c.before.before.before.before.before.args.v
-    (wirePlace c.before.before.before.before.before.args.wire.now
+    let o = one_flit c.before.before.before.before.before.args.v
+    (wire_place c.before.before.before.before.before.args.wire.now
     c.before.before.before.loop.k c.before.before.before.before.before.args.i) in let e = c.flits-on.ensures in (
       search rules,
       omega arith,
-      ap₂ (λ a b. a + b) c.before.before.before.loop.invariant.2 e ∙ sym (flits-more
-          c.before.before.before.loop.k (λ k. onVc c.before.before.before.before.before.args.v (wirePlace
+      ap₂ (λ a b. a + b) c.before.before.before.loop.invariant.2 e ∙ sym (flits_more
+          c.before.before.before.loop.k (λ k. on_vc c.before.before.before.before.before.args.v (wire_place
           c.before.before.before.before.before.args.wire.now k c.before.before.before.before.before.args.i))),
     )
 
 returns : tie.Need-returns invariant-loop decreases-loop
-unfolding wireOf
+unfolding wire_of
 returns c =
     let start = c.before.before.before in
     let end : c.before.loop.k ≡ start.args.config.forward = omega arith in
     c.before.loop.invariant.2 ∙ ap (λ (n : ℕ). length (flat (places n
-    (λ k. onVc start.args.v (wirePlace start.args.wire.now k start.args.i))))) end
+    (λ k. on_vc start.args.v (wire_place start.args.wire.now k start.args.i))))) end
 
 pub on-wire-spec : {M : Type 1} → statement M
 on-wire-spec =

@@ -1,7 +1,7 @@
 -- `state::names::is_held_by` meets its contract.
 -- Assumes nothing.
 use borrow.Author.Rules.{rules}
-use Rattle.state.proofs.Naming.{held-elsewhere, held-here}
+use Rattle.state.proofs.Naming.{held_elsewhere, held_here}
 use Rattle.state.proofs.names.is_held_by.Statement.{statement}
 use Rattle.state.proofs.names.is_held_by.Tie as tie
 
@@ -17,13 +17,13 @@ returns c = search rules
 returns-2 : tie.Need-returns-2
 returns-2 c =
     let start = c.before.before.before.before.before in
-    held-elsewhere start.args.i start.args.v start.args.holder c.before.before.before.holder.given.0.0
+    held_elsewhere start.args.i start.args.v start.args.holder c.before.before.before.holder.given.0.0
     c.before.before.before.holder.given.1 c.if1.true
 
 returns-3 : tie.Need-returns-3
 returns-3 c =
     let start = c.before.before.before.before.before.before in
-    held-here start.args.i start.args.v start.args.holder c.before.before.before.before.holder.given.0.0
+    held_here start.args.i start.args.v start.args.holder c.before.before.before.before.holder.given.0.0
     c.before.before.before.before.holder.given.1 c.before.if1.false
 
 pub is-held-by-spec : {M : Type 1} → statement M

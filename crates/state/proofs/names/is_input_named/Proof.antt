@@ -2,7 +2,7 @@
 -- Assumes nothing.
 use mathlib.Core.Path.{◌∙◌}
 use borrow.Author.Rules.{rules}
-use Rattle.state.proofs.Naming.{input-beyond-port, input-beyond-vc, input-there}
+use Rattle.state.proofs.Naming.{input_beyond_port, input_beyond_vc, input_there}
 use Rattle.state.proofs.names.is_input_named.Statement.{statement}
 use Rattle.state.proofs.names.is_input_named.Tie as tie
 
@@ -35,7 +35,7 @@ returns-2 : tie.Need-returns-2
 returns-2 c =
     let at-binding = before-then1 c in
     let start = before-binding at-binding in
-    input-beyond-port start.args.config start.args.i start.args.v start.args.binding start.args.holder
+    input_beyond_port start.args.config start.args.i start.args.v start.args.binding start.args.holder
     at-binding.binding.given.0.0 at-binding.binding.given.1 c.if1.true
 
 returns-3 : tie.Need-returns-3
@@ -43,7 +43,7 @@ returns-3 c =
     let at-else1 = before-then2 c in
     let at-binding = before-else1 at-else1 in
     let start = before-binding at-binding in
-    input-beyond-vc start.args.config start.args.i start.args.v start.args.binding start.args.holder
+    input_beyond_vc start.args.config start.args.i start.args.v start.args.binding start.args.holder
     at-binding.binding.given.0.0 at-binding.binding.given.1 at-else1.if1.left c.if2.true
 
 is-held-by-requires : tie.Need-is-held-by-requires
@@ -54,7 +54,7 @@ returns-4 c =
     let at-else1 = before-is-held-by c in
     let at-binding = before-else1 at-else1 in
     let start = before-binding at-binding in
-    c.is-held-by.ensures ∙ input-there start.args.config start.args.i start.args.v start.args.binding
+    c.is-held-by.ensures ∙ input_there start.args.config start.args.i start.args.v start.args.binding
     start.args.holder at-binding.binding.given.0.0 at-binding.binding.given.1 at-else1.if1.left
     c.before.if2.false
 

@@ -2,7 +2,7 @@
 -- Assumes nothing.
 use mathlib.Core.Path.{◌∙◌}
 use borrow.Author.Rules.{rules}
-use Rattle.state.proofs.Naming.{output-beyond-port, output-beyond-vc, output-there}
+use Rattle.state.proofs.Naming.{output_beyond_port, output_beyond_vc, output_there}
 use Rattle.state.proofs.names.is_output_named.Statement.{statement}
 use Rattle.state.proofs.names.is_output_named.Tie as tie
 
@@ -35,7 +35,7 @@ returns-2 : tie.Need-returns-2
 returns-2 c =
     let at-holder = before-then1 c in
     let start = before-holder at-holder in
-    output-beyond-port start.args.config start.args.o start.args.w start.args.holder start.args.binding
+    output_beyond_port start.args.config start.args.o start.args.w start.args.holder start.args.binding
     at-holder.holder.given.0.0 at-holder.holder.given.1 c.if1.true
 
 returns-3 : tie.Need-returns-3
@@ -43,7 +43,7 @@ returns-3 c =
     let at-else1 = before-then2 c in
     let at-holder = before-else1 at-else1 in
     let start = before-holder at-holder in
-    output-beyond-vc start.args.config start.args.o start.args.w start.args.holder start.args.binding
+    output_beyond_vc start.args.config start.args.o start.args.w start.args.holder start.args.binding
     at-holder.holder.given.0.0 at-holder.holder.given.1 at-else1.if1.left c.if2.true
 
 is-bound-to-requires : tie.Need-is-bound-to-requires
@@ -54,7 +54,7 @@ returns-4 c =
     let at-else1 = before-is-bound-to c in
     let at-holder = before-else1 at-else1 in
     let start = before-holder at-holder in
-    c.is-bound-to.ensures ∙ output-there start.args.config start.args.o start.args.w start.args.holder
+    c.is-bound-to.ensures ∙ output_there start.args.config start.args.o start.args.w start.args.holder
     start.args.binding at-holder.holder.given.0.0 at-holder.holder.given.1 at-else1.if1.left
     c.before.if2.false
 

@@ -6,28 +6,28 @@ use borrow.Author.Tests.{not-true, not-false}
 use mathlib.Core.Bool.{Bool, not, xor}
 use mathlib.Core.List.{◌++◌}
 use Prim.Native.Nat.{◌+◌, ◌≤◌, ◌-◌}
-use Rattle.base.specs.Flit.{startsKind, endsKind}
+use Rattle.base.specs.Flit.{starts_kind, ends_kind}
 use borrow.Author.Rules.{rules}
-use Rattle.state.specs.Views.{queueAt, wireOf}
-use Rattle.state.specs.Sound.{all, legalFlit, reading, endsAs}
-use Rattle.state.proofs.Reading.{Judging, judging-all, judging-fails, judging-next, judging-done, ReadingQueue, ReadingWire}
-use Rattle.state.proofs.Reading.{readingAt, left, wireFlits, queue-starts, queue-fails, queue-next, wire-starts, wire-passes}
-use Rattle.state.proofs.Reading.{wire-fails, wire-next, wire-ends}
+use Rattle.state.specs.Views.{queue_at, wire_of}
+use Rattle.state.specs.Sound.{all, legal_flit, reading, ends_as}
+use Rattle.state.proofs.Reading.{Judging, judging_all, judging_fails, judging_next, judging_done, ReadingQueue, ReadingWire}
+use Rattle.state.proofs.Reading.{reading_at, left, wire_flits, queue_starts, queue_fails, queue_next, wire_starts, wire_passes}
+use Rattle.state.proofs.Reading.{wire_fails, wire_next, wire_ends}
 use Rattle.state.proofs.Tests.{and_no, and_yes, and_none}
 use Rattle.state.proofs.packets.reads.Statement.{statement}
 use Rattle.state.proofs.packets.reads.Tie as tie
 
 abbrev invariant-loop : tie.invariant-loop
 invariant-loop config i v base queued start end store wire forward inside₀ k₀ inside k =
-    (k ≤ queued) × ReadingQueue base queued store (wireFlits forward wire i v) (reading start
-    (queueAt store base queued ++ wireFlits forward wire i v)) inside k × Judging config base queued store k
+    (k ≤ queued) × ReadingQueue base queued store (wire_flits forward wire i v) (reading start
+    (queue_at store base queued ++ wire_flits forward wire i v)) inside k × Judging config base queued store k
 
 abbrev decreases-loop : tie.decreases-loop
 decreases-loop config i v base queued start end store wire forward inside₀ k₀ inside k = queued - k
 
 abbrev invariant-loop2 : tie.invariant-loop2
 invariant-loop2 i v base queued start end store wire forward inside₀ k j₀ inside j =
-    (j ≤ forward) × ReadingWire forward wire i v (reading start (queueAt store base queued ++ wireFlits forward wire i v)) inside j
+    (j ≤ forward) × ReadingWire forward wire i v (reading start (queue_at store base queued ++ wire_flits forward wire i v)) inside j
 
 abbrev decreases-loop2 : tie.decreases-loop2
 decreases-loop2 i v base queued start end store wire forward inside₀ k j₀ inside j = forward - j
@@ -78,10 +78,10 @@ cast-forward c = search rules
 loop-holds : tie.Need-loop-init invariant-loop decreases-loop invariant-loop2 decreases-loop2
 loop-holds c = (
   search rules,
-  queue-starts c.before.args.base c.before.args.queued c.before.args.store.now (wireFlits
+  queue_starts c.before.args.base c.before.args.queued c.before.args.store.now (wire_flits
       c.before.args.config.forward c.before.args.wire.now c.before.args.i c.before.args.v) c.before.args.start
       c.before.requires.3,
-  judging-all c.before.args.config c.before.args.base c.before.args.queued c.before.args.store.now c.before.requires.3,
+  judging_all c.before.args.config c.before.args.base c.before.args.queued c.before.args.store.now c.before.requires.3,
 )
 
 add-t20 : tie.Need-overflow-add-t20 invariant-loop decreases-loop invariant-loop2 decreases-loop2
@@ -97,12 +97,12 @@ is-legal-requires : tie.Need-is-legal-requires invariant-loop decreases-loop inv
 is-legal-requires c κs = search rules
 
 returns : tie.Need-returns invariant-loop decreases-loop invariant-loop2 decreases-loop2
-unfolding wireOf
+unfolding wire_of
 returns c =
     let at-in-loop = before-is-legal c.before in
     let at-loop = before-in-loop at-in-loop in
     let start = before-loop at-loop in
-    and_no _ _ (sym (judging-fails start.args.config start.args.base start.args.queued start.args.store.now
+    and_no _ _ (sym (judging_fails start.args.config start.args.base start.args.queued start.args.store.now
     at-loop.loop.k (search rules) (let l = start.pre.4 in let q = start.pre.2 in let r = start.pre.3 in
     let i = at-loop.loop.inv.0 in let t = at-in-loop.loop-test.taken in omega arith)
     (sym c.before.is-legal.ensures ∙ not-true c.before.is-legal.result c.if1.true) at-loop.loop.inv.2))
@@ -114,19 +114,19 @@ may-come-requires : tie.Need-may-come-requires invariant-loop decreases-loop inv
 may-come-requires c κs = search rules
 
 returns-2 : tie.Need-returns-2 invariant-loop decreases-loop invariant-loop2 decreases-loop2
-unfolding wireOf
+unfolding wire_of
 returns-2 c =
     let at-in-loop = in-loop-kind c.before.before in
     let at-loop = before-in-loop at-in-loop in
     let start = before-loop at-loop in
-    and_none (all (legalFlit start.args.config) (queueAt start.args.store.now start.args.base start.args.queued)) _
-    (sym (ap (endsAs start.args.end) (queue-fails start.args.base start.args.queued start.args.store.now
-    (wireFlits start.args.config.forward start.args.wire.now start.args.i start.args.v)
-    (reading start.args.start (queueAt start.args.store.now start.args.base start.args.queued ++ wireFlits
+    and_none (all (legal_flit start.args.config) (queue_at start.args.store.now start.args.base start.args.queued)) _
+    (sym (ap (ends_as start.args.end) (queue_fails start.args.base start.args.queued start.args.store.now
+    (wire_flits start.args.config.forward start.args.wire.now start.args.i start.args.v)
+    (reading start.args.start (queue_at start.args.store.now start.args.base start.args.queued ++ wire_flits
     start.args.config.forward start.args.wire.now start.args.i start.args.v)) at-loop.loop.inside
     at-loop.loop.k (search rules) (let l = start.pre.4 in let q = start.pre.2 in let r = start.pre.3 in
     let i = at-loop.loop.inv.0 in let t = at-in-loop.loop-test.taken in omega arith)
-    (ap (λ k. xor at-loop.loop.inside (startsKind k)) (sym c.before.before.kind.ensures)
+    (ap (λ k. xor at-loop.loop.inside (starts_kind k)) (sym c.before.before.kind.ensures)
     ∙ sym c.before.may-come.ensures ∙ not-true c.before.may-come.result c.if2.true) at-loop.loop.inv.1)))
 
 stays-open-requires : tie.Need-stays-open-requires invariant-loop decreases-loop invariant-loop2 decreases-loop2
@@ -146,20 +146,20 @@ loop-again c =
     let at-in-loop = before-is-legal at-is-legal in
     let at-loop = before-in-loop at-in-loop in
     let start = before-loop at-loop in
-    let e = c.stays_open.ensures ∙ ap (λ k. not (endsKind k)) at-kind.kind.ensures in (
+    let e = c.stays_open.ensures ∙ ap (λ k. not (ends_kind k)) at-kind.kind.ensures in (
       search rules,
       ap (λ (b : Bool). reading b (left start.args.store.now start.args.base start.args.queued
-          (at-loop.loop.k + 1) ++ (wireFlits start.args.config.forward start.args.wire.now start.args.i
-          start.args.v))) e ∙ queue-next start.args.base start.args.queued start.args.store.now
-          (wireFlits start.args.config.forward start.args.wire.now start.args.i start.args.v)
-          (reading start.args.start (queueAt start.args.store.now start.args.base start.args.queued ++ wireFlits
+          (at-loop.loop.k + 1) ++ (wire_flits start.args.config.forward start.args.wire.now start.args.i
+          start.args.v))) e ∙ queue_next start.args.base start.args.queued start.args.store.now
+          (wire_flits start.args.config.forward start.args.wire.now start.args.i start.args.v)
+          (reading start.args.start (queue_at start.args.store.now start.args.base start.args.queued ++ wire_flits
           start.args.config.forward start.args.wire.now start.args.i start.args.v)) at-loop.loop.inside
           at-loop.loop.k (search rules) (let l = start.pre.4 in let q = start.pre.2 in let r = start.pre.3 in
           let i = at-loop.loop.inv.0 in let t = at-in-loop.loop-test.taken in omega arith)
-          (ap (λ k. xor at-loop.loop.inside (startsKind k)) (sym at-kind.kind.ensures)
+          (ap (λ k. xor at-loop.loop.inside (starts_kind k)) (sym at-kind.kind.ensures)
           ∙ sym c.before.before.may-come.ensures ∙ not-false c.before.before.may-come.result c.before.if2.false)
           at-loop.loop.inv.1,
-      judging-next start.args.config start.args.base start.args.queued start.args.store.now
+      judging_next start.args.config start.args.base start.args.queued start.args.store.now
           at-loop.loop.k (search rules) (let l = start.pre.4 in let q = start.pre.2 in let r = start.pre.3 in
           let i = at-loop.loop.inv.0 in let t = at-in-loop.loop-test.taken in omega arith)
           (sym at-is-legal.is-legal.ensures ∙ not-false at-is-legal.is-legal.result at-else1.if1.left)
@@ -170,9 +170,9 @@ loop2-holds : tie.Need-loop2-init invariant-loop decreases-loop invariant-loop2 
 loop2-holds c =
     let start = before-loop c.before in (
       search rules,
-      wire-starts start.args.config.forward start.args.wire.now start.args.i start.args.v
+      wire_starts start.args.config.forward start.args.wire.now start.args.i start.args.v
           start.args.base start.args.queued start.args.store.now
-          (reading start.args.start (queueAt start.args.store.now start.args.base start.args.queued ++ wireFlits
+          (reading start.args.start (queue_at start.args.store.now start.args.base start.args.queued ++ wire_flits
           start.args.config.forward start.args.wire.now start.args.i start.args.v)) c.before.loop.inside
           c.before.loop.k (search rules) c.before.loop.invariant.1,
     )
@@ -203,8 +203,8 @@ loop2-again c =
     let at-loop2 = before-is-on c.before in
     let start = before-loop (before-loop2 at-loop2) in (
       search rules,
-      wire-passes start.args.config.forward start.args.wire.now start.args.i start.args.v
-          (reading start.args.start (queueAt start.args.store.now start.args.base start.args.queued ++ wireFlits
+      wire_passes start.args.config.forward start.args.wire.now start.args.i start.args.v
+          (reading start.args.start (queue_at start.args.store.now start.args.base start.args.queued ++ wire_flits
           start.args.config.forward start.args.wire.now start.args.i start.args.v)) at-loop2.loop2.inside
           at-loop2.loop2.j (search rules) (sym c.before.is-on.ensures ∙ not-true c.before.is-on.result c.if3.true)
           at-loop2.loop2.inv.1,
@@ -217,19 +217,19 @@ may-come-requires-2 : tie.Need-may-come-requires-2 invariant-loop decreases-loop
 may-come-requires-2 c κs = search rules
 
 returns-3 : tie.Need-returns-3 invariant-loop decreases-loop invariant-loop2 decreases-loop2
-unfolding wireOf
+unfolding wire_of
 returns-3 c =
     let at-else3 = before-kind2 c.before.before in
     let at-is-on = before-else3 at-else3 in
     let at-loop2 = before-is-on at-is-on in
     let start = before-loop (before-loop2 at-loop2) in
-    and_none (all (legalFlit start.args.config) (queueAt start.args.store.now start.args.base start.args.queued)) _
-    (sym (ap (endsAs start.args.end) (wire-fails start.args.config.forward start.args.wire.now start.args.i
-    start.args.v (reading start.args.start (queueAt start.args.store.now start.args.base
-    start.args.queued ++ wireFlits start.args.config.forward start.args.wire.now start.args.i start.args.v))
+    and_none (all (legal_flit start.args.config) (queue_at start.args.store.now start.args.base start.args.queued)) _
+    (sym (ap (ends_as start.args.end) (wire_fails start.args.config.forward start.args.wire.now start.args.i
+    start.args.v (reading start.args.start (queue_at start.args.store.now start.args.base
+    start.args.queued ++ wire_flits start.args.config.forward start.args.wire.now start.args.i start.args.v))
     at-loop2.loop2.inside at-loop2.loop2.j (search rules)
     (sym at-is-on.is-on.ensures ∙ not-false at-is-on.is-on.result at-else3.if3.left)
-    (ap (λ k. xor at-loop2.loop2.inside (startsKind k)) (sym c.before.before.kind2.ensures)
+    (ap (λ k. xor at-loop2.loop2.inside (starts_kind k)) (sym c.before.before.kind2.ensures)
     ∙ sym c.before.may-come2.ensures ∙ not-true c.before.may-come2.result c.if4.true) at-loop2.loop2.inv.1)))
 
 stays-open-requires-2 : tie.Need-stays-open-requires-2 invariant-loop decreases-loop invariant-loop2 decreases-loop2
@@ -245,30 +245,30 @@ loop2-again-2 c =
     let at-is-on = before-else3 at-else3 in
     let at-loop2 = before-is-on at-is-on in
     let start = before-loop (before-loop2 at-loop2) in
-    let e = c.stays-open2.ensures ∙ ap (λ k. not (endsKind k)) at-kind2.kind2.ensures in (
+    let e = c.stays-open2.ensures ∙ ap (λ k. not (ends_kind k)) at-kind2.kind2.ensures in (
       search rules,
-      ap (λ (b : Bool). readingAt start.args.config.forward start.args.wire.now start.args.i
-          start.args.v b (at-loop2.loop2.j + 1)) e ∙ wire-next start.args.config.forward start.args.wire.now
+      ap (λ (b : Bool). reading_at start.args.config.forward start.args.wire.now start.args.i
+          start.args.v b (at-loop2.loop2.j + 1)) e ∙ wire_next start.args.config.forward start.args.wire.now
           start.args.i start.args.v (reading start.args.start
-          (queueAt start.args.store.now start.args.base start.args.queued ++ wireFlits start.args.config.forward
+          (queue_at start.args.store.now start.args.base start.args.queued ++ wire_flits start.args.config.forward
           start.args.wire.now start.args.i start.args.v)) at-loop2.loop2.inside at-loop2.loop2.j (search rules)
           (sym at-is-on.is-on.ensures ∙ not-false at-is-on.is-on.result at-else3.if3.left)
-          (ap (λ k. xor at-loop2.loop2.inside (startsKind k)) (sym at-kind2.kind2.ensures)
+          (ap (λ k. xor at-loop2.loop2.inside (starts_kind k)) (sym at-kind2.kind2.ensures)
           ∙ sym c.before.before.may-come2.ensures ∙ not-false c.before.before.may-come2.result c.before.if4.false)
           at-loop2.loop2.inv.1,
     )
 
 returns-4 : tie.Need-returns-4 invariant-loop decreases-loop invariant-loop2 decreases-loop2
-unfolding wireOf
+unfolding wire_of
 returns-4 c =
     let at-loop = before-loop2 c.before in
     let start = before-loop at-loop in
-    ap (endsAs start.args.end) (wire-ends start.args.config.forward start.args.wire.now start.args.i start.args.v
-    (reading start.args.start (queueAt start.args.store.now start.args.base start.args.queued ++ wireFlits
+    ap (ends_as start.args.end) (wire_ends start.args.config.forward start.args.wire.now start.args.i start.args.v
+    (reading start.args.start (queue_at start.args.store.now start.args.base start.args.queued ++ wire_flits
     start.args.config.forward start.args.wire.now start.args.i start.args.v)) c.before.loop2.inside
     c.before.loop2.j (search rules) c.before.loop2.invariant.1)
-    ∙ and_yes (all (legalFlit start.args.config) (queueAt start.args.store.now start.args.base start.args.queued))
-    _ (sym (judging-done start.args.config start.args.base start.args.queued start.args.store.now
+    ∙ and_yes (all (legal_flit start.args.config) (queue_at start.args.store.now start.args.base start.args.queued))
+    _ (sym (judging_done start.args.config start.args.base start.args.queued start.args.store.now
     at-loop.loop.k (search rules) at-loop.loop.inv.2))
 
 pub reads-spec : {M : Type 1} → statement M

@@ -5,9 +5,9 @@ use mathlib.Core.Path.{sym, ap, ◌∙◌}
 use borrow.Author.Tests.{not-true, not-false}
 use mathlib.Core.Bool.{not}
 use lib.Dec.{eqb}
-use Rattle.base.specs.Flit.{startsKind}
+use Rattle.base.specs.Flit.{starts_kind}
 use borrow.Author.Rules.{rules}
-use Rattle.state.proofs.Reading.{start-empty, start-inside, start-front}
+use Rattle.state.proofs.Reading.{start_empty, start_inside, start_front}
 use Rattle.state.proofs.packets.starts_inside.Statement.{statement}
 use Rattle.state.proofs.packets.starts_inside.Tie as tie
 
@@ -39,7 +39,7 @@ returns c = search rules
 returns-2 : tie.Need-returns-2
 returns-2 c =
     let start = before-binding c.before.before in
-    start-empty start.args.store.now start.args.base start.args.queued start.args.binding
+    start_empty start.args.store.now start.args.base start.args.queued start.args.binding
     c.before.before.binding.given.0.0 c.before.before.binding.given.1 c.if1.true
 
 mul-t10 : tie.Need-overflow-mul-t10
@@ -59,10 +59,10 @@ returns-3 c =
     let at-else1 = before-kind (before-starts c.before) in
     let at-binding = before-else1 at-else1 in
     let start = before-binding at-binding in
-    start-inside start.args.store.now start.args.base start.args.queued start.args.binding
+    start_inside start.args.store.now start.args.base start.args.queued start.args.binding
     at-binding.binding.given.0.0 at-binding.binding.given.1 start.pre.1 at-else1.if1.left
     (let l = start.pre.2 in let b = start.pre.0 in omega arith)
-    (ap startsKind (sym c.before.before.kind.ensures) ∙ sym c.before.starts.ensures
+    (ap starts_kind (sym c.before.before.kind.ensures) ∙ sym c.before.starts.ensures
     ∙ not-true c.before.starts.result c.if2.true)
 
 destination-requires : tie.Need-destination-requires
@@ -76,10 +76,10 @@ returns-4 c =
     let at-binding = before-else1 at-else1 in
     let start = before-binding at-binding in
     ap (λ d. not (eqb d at-binding.binding.given.0.0.output)) c.before.destination.ensures
-    ∙ start-front start.args.store.now start.args.base start.args.queued start.args.binding
+    ∙ start_front start.args.store.now start.args.base start.args.queued start.args.binding
     at-binding.binding.given.0.0 at-binding.binding.given.1 start.pre.1 at-else1.if1.left
     (let l = start.pre.2 in let b = start.pre.0 in omega arith)
-    (ap startsKind (sym at-kind.kind.ensures) ∙ sym at-starts.starts.ensures
+    (ap starts_kind (sym at-kind.kind.ensures) ∙ sym at-starts.starts.ensures
     ∙ not-false at-starts.starts.result c.before.before.if2.false)
 
 pub starts-inside-spec : {M : Type 1} → statement M

@@ -4,13 +4,13 @@ use mathlib.Core.Path.{◌≡◌, sym, ap, ◌∙◌}
 use mathlib.Core.Bool.{◌&&◌}
 use borrow.Author.Tests.{not-true, not-false}
 use lib.ListN.{length}
-use Rattle.base.specs.Sizes.{field_of, Bounds, illegalField}
-use Rattle.base.proofs.Configurations.{judged-field}
+use Rattle.base.specs.Sizes.{field_of, Bounds, illegal_field}
+use Rattle.base.proofs.Configurations.{judged_field}
 use borrow.Author.Rules.{rules}
 use mathlib.Core.Option.{none}
-use Rattle.state.specs.Sound.{wireLegal, homeLegal, lineUnused, arbitersSound, arbitersUnused, channelsUnused, slotsEmpty}
-use Rattle.state.proofs.Exact.{refused, legal-bounded, illegal-refused, late-refused, sound-wire, sound-home, all_sound, exact}
-use Rattle.state.proofs.Exact.{shape_is, length-any}
+use Rattle.state.specs.Sound.{wire_legal, home_legal, line_unused, arbiters_sound, arbiters_unused, channels_unused, slots_empty}
+use Rattle.state.proofs.Exact.{refused, legal_bounded, illegal_refused, late_refused, sound_wire, sound_home, all_sound, exact}
+use Rattle.state.proofs.Exact.{shape_is, length_any}
 use Rattle.state.proofs.soundness.is_sound.Statement.{statement}
 use Rattle.state.proofs.soundness.is_sound.Tie as tie
 
@@ -109,19 +109,19 @@ abbrev enum-told2-home3 : tie.After-home3 → tie.After-enum-told2
 enum-told2-home3 c = enum-told2-else7 (before-home3 c)
 
 -- the configuration that was judged has no field out of its range
-legal : (c : tie.After-enum-told2) → illegalField (before-judged (before-enum-told2 c)).args.router.config ≡ none
+legal : (c : tie.After-enum-told2) → illegal_field (before-judged (before-enum-told2 c)).args.router.config ≡ none
 legal c =
-    judged-field (before-enum-told2 c).judged.result _ (before-enum-told2 c).judged.ensures ∙ ap field_of c.enum-told2.given.1
+    judged_field (before-enum-told2 c).judged.result _ (before-enum-told2 c).judged.ensures ∙ ap field_of c.enum-told2.given.1
 
 bounded : (c : tie.After-enum-told2) → Bounds 0 (before-judged (before-enum-told2 c)).args.router.config
-bounded c = legal-bounded (before-judged (before-enum-told2 c)).args.router.config (legal c)
+bounded c = legal_bounded (before-judged (before-enum-told2 c)).args.router.config (legal c)
 
 -- the arrays of a struct that is handed in are as long as they are declared
 inputs_long : (c : tie.Start) → length c.args.router.inputs ≡ 32
-inputs_long c = search (rules, length-any)
+inputs_long c = search (rules, length_any)
 
 outputs-long : (c : tie.Start) → length c.args.router.outputs ≡ 32
-outputs-long c = search (rules, length-any)
+outputs-long c = search (rules, length_any)
 
 store_long : (c : tie.Start) → length c.args.router.store ≡ 512
 store_long c = search rules
@@ -140,14 +140,14 @@ enum_told c = search rules
 
 returns : tie.Need-returns
 returns c =
-    illegal-refused (before-judged c.before.before).args.router _
-    (judged-field c.before.before.judged.result _ c.before.before.judged.ensures ∙ ap field_of c.enum_told.given.1)
+    illegal_refused (before-judged c.before.before).args.router _
+    (judged_field c.before.before.judged.result _ c.before.before.judged.ensures ∙ ap field_of c.enum_told.given.1)
 
 enum-told-2 : tie.Need-enum-told-2
 enum-told-2 c = search rules
 
 returns-2 : tie.Need-returns-2
-returns-2 c = late-refused (before-judged (before-enum-told2 c.before.before)).args.router c.if1.true
+returns-2 c = late_refused (before-judged (before-enum-told2 c.before.before)).args.router c.if1.true
 
 is-wire-sound-requires : tie.Need-is-wire-sound-requires
 is-wire-sound-requires c κs =
@@ -157,9 +157,9 @@ is-wire-sound-requires c κs =
 returns-3 : tie.Need-returns-3
 returns-3 c =
     let start = before-judged (before-enum-told2 (enum-told2-is-wire-sound c.before)) in
-    refused start.args.router (wireLegal start.args.router.config start.args.router.wire
-    && lineUnused start.args.router.config.forward start.args.router.config.ports start.args.router.wire)
-    (sound-wire start.args.router) (sym c.before.is-wire-sound.ensures
+    refused start.args.router (wire_legal start.args.router.config start.args.router.wire
+    && line_unused start.args.router.config.forward start.args.router.config.ports start.args.router.wire)
+    (sound_wire start.args.router) (sym c.before.is-wire-sound.ensures
     ∙ not-true c.before.is-wire-sound.result c.if2.true)
 
 is-home-sound-requires : tie.Need-is-home-sound-requires
@@ -170,9 +170,9 @@ is-home-sound-requires c κs =
 returns-4 : tie.Need-returns-4
 returns-4 c =
     let start = before-judged (before-enum-told2 (enum-told2-is-home-sound c.before)) in
-    refused start.args.router (homeLegal start.args.router.config start.args.router.home
-    && lineUnused start.args.router.config.back start.args.router.config.ports start.args.router.home)
-    (sound-home start.args.router) (sym c.before.is-home-sound.ensures
+    refused start.args.router (home_legal start.args.router.config start.args.router.home
+    && line_unused start.args.router.config.back start.args.router.config.ports start.args.router.home)
+    (sound_home start.args.router) (sym c.before.is-home-sound.ensures
     ∙ not-true c.before.is-home-sound.result c.if3.true)
 
 are-sound-requires : tie.Need-are-sound-requires
@@ -181,7 +181,7 @@ are-sound-requires c κs = bounded (enum-told2-outs c)
 returns-5 : tie.Need-returns-5
 returns-5 c =
     let start = before-judged (before-enum-told2 (enum-told2-are-sound c.before)) in
-    refused start.args.router (arbitersSound start.args.router.config start.args.router.arbiters)
+    refused start.args.router (arbiters_sound start.args.router.config start.args.router.arbiters)
     (λ x. x.arbitration.arbiters)
     (sym c.before.are-sound.ensures ∙ not-true c.before.are-sound.result c.if4.true)
 
@@ -191,7 +191,7 @@ are-unused-requires c κs = bounded (enum-told2-else4 c)
 returns-6 : tie.Need-returns-6
 returns-6 c =
     let start = before-judged (before-enum-told2 (enum-told2-are-unused c.before)) in
-    refused start.args.router (arbitersUnused start.args.router.config start.args.router.arbiters)
+    refused start.args.router (arbiters_unused start.args.router.config start.args.router.arbiters)
     (λ x. x.arbitration.others)
     (sym c.before.are-unused.ensures ∙ not-true c.before.are-unused.result c.if5.true)
 
@@ -201,7 +201,7 @@ are-unused-requires-2 c κs = bounded (enum-told2-else5 c.before.before)
 returns-7 : tie.Need-returns-7
 returns-7 c =
     let start = before-judged (before-enum-told2 (enum-told2-are-unused2 c.before)) in
-    refused start.args.router (channelsUnused start.args.router.config start.args.router.inputs
+    refused start.args.router (channels_unused start.args.router.config start.args.router.inputs
     start.args.router.outputs) (λ x. x.flow.channels) (sym c.before.are-unused2.ensures
     ∙ not-true c.before.are-unused2.result c.if6.true)
 
@@ -211,7 +211,7 @@ are-slots-empty-requires c κs = search rules
 returns-8 : tie.Need-returns-8
 returns-8 c =
     let start = before-judged (before-enum-told2 (enum-told2-are-slots-empty c.before)) in
-    refused start.args.router (slotsEmpty start.args.router.inputs start.args.router.store) (λ x. x.flow.slots)
+    refused start.args.router (slots_empty start.args.router.inputs start.args.router.store) (λ x. x.flow.slots)
     (sym c.before.are-slots-empty.ensures ∙ not-true c.before.are-slots-empty.result c.if7.true)
 
 are-sound-requires-2 : tie.Need-are-sound-requires-2
@@ -219,7 +219,7 @@ are-sound-requires-2 c κs =
     let at-enum-told2 = enum-told2-home3 c in
     let at-judged = before-enum-told2 at-enum-told2 in
     let start = before-judged at-judged in (
-      (legal-bounded start.args.router.config (legal at-enum-told2)),
+      (legal_bounded start.args.router.config (legal at-enum-told2)),
       store_long start,
     )
 

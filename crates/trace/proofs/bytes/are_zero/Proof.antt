@@ -4,7 +4,7 @@ use Prim.Native.Nat.{◌≤◌, ◌-◌}
 use mathlib.Core.Path.{◌≡◌, ap, ◌∙◌}
 use native.Mathlib.Omega.{arith}
 use lib.Dec.{eqb}
-use Rattle.base.proofs.Zeros.{blank_none, blank-more}
+use Rattle.base.proofs.Zeros.{blank_none, blank_more}
 use borrow.Author.Rules.{rules}
 use Rattle.trace.specs.Bytes.{zeros}
 use Rattle.trace.proofs.bytes.are_zero.Statement.{statement}
@@ -35,7 +35,7 @@ loop-again c =
     let i = c.before.before.loop.invariant in (
       search rules,
       search rules,
-      blank-more c.before.before.before.args.from c.before.before.loop.i
+      blank_more c.before.before.before.args.from c.before.before.loop.i
           c.before.before.loop.any c.before.before.before.args.block.now i.0 i.2,
     )
 

@@ -4,7 +4,7 @@ use mathlib.Core.Path.{ap₂, ◌∙◌}
 use Prim.Native.Nat.{ℕ, ◌+◌, ◌*◌}
 use native.Mathlib.Omega.{arith}
 use borrow.Author.Rules.{rules}
-use Rattle.trace.proofs.Spelling.{four-spell, two-lt}
+use Rattle.trace.proofs.Spelling.{four_spell, two_lt}
 use Rattle.trace.proofs.bytes.four_bytes.Statement.{statement}
 use Rattle.trace.proofs.bytes.four_bytes.Tie as tie
 
@@ -15,7 +15,7 @@ mul-result : tie.Need-overflow-mul-result
 mul-result c = omega (
   arith,
   c.two_bytes.ensures,
-  two-lt c.before.before.args.block.now c.before.before.args.from
+  two_lt c.before.before.args.block.now c.before.before.args.from
       (λ i. (c.before.shared-slice-known.given i).fits),
 )
 
@@ -32,16 +32,16 @@ add-result c =
       arith,
       c.before.two_bytes.ensures,
       c.two-bytes2.ensures,
-      two-lt start.args.block.now start.args.from
+      two_lt start.args.block.now start.args.from
           (λ i. (c.before.before.shared-slice-known.given i).fits),
-      two-lt start.args.block.now (start.args.from + 2)
+      two_lt start.args.block.now (start.args.from + 2)
           (λ i. (c.before.before.shared-slice-known.given i).fits),
     )
 
 returns : tie.Need-returns
 returns c =
     ap₂ (λ (a b : ℕ). 65536 * a + b) c.before.two_bytes.ensures c.two-bytes2.ensures
-    ∙ four-spell c.before.before.before.args.block.now c.before.before.before.args.from
+    ∙ four_spell c.before.before.before.args.block.now c.before.before.before.args.from
 
 pub four-bytes-spec : {M : Type 1} → statement M
 four-bytes-spec =

@@ -4,7 +4,7 @@ use mathlib.Core.Path.{ap₂, ◌∙◌}
 use Prim.Native.Nat.{ℕ, ◌+◌, ◌*◌}
 use native.Mathlib.Omega.{arith}
 use borrow.Author.Rules.{rules}
-use Rattle.trace.proofs.Spelling.{two-spell}
+use Rattle.trace.proofs.Spelling.{two_spell}
 use Rattle.trace.proofs.bytes.two_bytes.Statement.{statement}
 use Rattle.trace.proofs.bytes.two_bytes.Tie as tie
 
@@ -41,7 +41,7 @@ add-result c =
 returns : tie.Need-returns
 returns c =
     ap₂ (λ (a b : ℕ). 256 * a + b) c.before.before.wide.ensures c.wide2.ensures
-    ∙ two-spell c.before.before.before.before.before.args.block.now c.before.before.before.before.before.args.from
+    ∙ two_spell c.before.before.before.before.before.args.block.now c.before.before.before.before.before.args.from
 
 pub two-bytes-spec : {M : Type 1} → statement M
 two-bytes-spec =

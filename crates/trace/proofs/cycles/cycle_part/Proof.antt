@@ -5,7 +5,7 @@ use native.Mathlib.Nat.{add-sub_cancel_left}
 use lib.ListN.{length, get_or}
 use borrow.Author.Tests.{lt-ltb, le-ltb, le-leb, lt-leb}
 use borrow.Author.Rules.{rules}
-use Rattle.trace.specs.Cycles.{shows, cyclePart}
+use Rattle.trace.specs.Cycles.{shows, part_of_cycle}
 use Rattle.trace.proofs.cycles.cycle_part.Statement.{statement}
 use Rattle.trace.proofs.cycles.cycle_part.Tie as tie
 
@@ -19,7 +19,7 @@ part-result-end : tie.Need-slice-bounds-result-end
 part-result-end c = search rules
 
 returns : tie.Need-returns
-unfolding cyclePart shows
+unfolding part_of_cycle shows
 returns c = rw (lt-leb 512 (length c.before.before.args.block.now) c.before.if1.true)
 
 shared-slice-read-held : tie.Need-shared-slice-read-held
@@ -35,7 +35,7 @@ part-result-end-2 : tie.Need-slice-bounds-result-end-2
 part-result-end-2 c = search rules
 
 returns-2 : tie.Need-returns-2
-unfolding cyclePart shows
+unfolding part_of_cycle shows
 returns-2 c = rw (
   le-leb 512 (length c.before.before.before.before.args.block.now)
       c.before.before.before.if1.false,
@@ -56,7 +56,7 @@ part-result-end-3 : tie.Need-slice-bounds-result-end-3
 part-result-end-3 c = search rules
 
 returns-3 : tie.Need-returns-3
-unfolding cyclePart shows
+unfolding part_of_cycle shows
 returns-3 c = rw (
   le-leb 512 (length c.before.before.before.before.before.args.block.now)
       c.before.before.before.before.if1.false,
@@ -85,7 +85,7 @@ part-result-end-4 : tie.Need-slice-bounds-result-end-4
 part-result-end-4 c = search rules
 
 returns-4 : tie.Need-returns-4
-unfolding cyclePart shows
+unfolding part_of_cycle shows
 returns-4 c = rw (
   le-leb 512 (length c.before.before.before.before.before.args.block.now)
       c.before.before.before.before.if1.false,

@@ -4,7 +4,7 @@ use lib.ListN.{get_or}
 use native.Mathlib.Omega.{arith}
 use borrow.Author.Tests.{eq-eqb, ne_eqb}
 use borrow.Author.Rules.{rules}
-use Rattle.trace.specs.Blocks.{bodyEnd}
+use Rattle.trace.specs.Blocks.{end_of_body}
 use Rattle.trace.proofs.form.body_end.Statement.{statement}
 use Rattle.trace.proofs.form.body_end.Tie as tie
 
@@ -12,7 +12,7 @@ shared-slice-read-kind : tie.Need-shared-slice-read-kind
 shared-slice-read-kind c = search rules
 
 returns : tie.Need-returns
-unfolding bodyEnd
+unfolding end_of_body
 returns c = rw (eq-eqb (get_or c.before.before.args.block.now 0 0) 1 c.if1.true)
 
 shared-slice-read-result : tie.Need-shared-slice-read-result
@@ -28,7 +28,7 @@ add-result : tie.Need-overflow-add-result
 add-result c = omega (arith, c.shared-slice-known2.given 1)
 
 returns-2 : tie.Need-returns-2
-unfolding bodyEnd
+unfolding end_of_body
 returns-2 c = rw (
   ne_eqb (get_or c.before.before.before.before.args.block.now 0 0) 1 c.before.before.if1.false,
   eq-eqb
@@ -36,7 +36,7 @@ returns-2 c = rw (
 )
 
 returns-3 : tie.Need-returns-3
-unfolding bodyEnd
+unfolding end_of_body
 returns-3 c = rw (
   ne_eqb (get_or c.before.before.before.args.block.now 0 0) 1 c.before.if1.false,
   ne_eqb

@@ -3,8 +3,8 @@
 use lib.ListN.{get_or}
 use borrow.Author.Tests.{le-leb, lt-leb, eq-eqb, ne_eqb}
 use borrow.Author.Rules.{rules}
-use Rattle.trace.specs.Rules.{countWrong}
-use Rattle.trace.proofs.Tests.{not-leb}
+use Rattle.trace.specs.Rules.{has_wrong_count}
+use Rattle.trace.proofs.Tests.{not_leb}
 use Rattle.trace.proofs.form.count_wrong.Statement.{statement}
 use Rattle.trace.proofs.form.count_wrong.Tie as tie
 
@@ -15,11 +15,11 @@ shared-slice-read-held : tie.Need-shared-slice-read-held
 shared-slice-read-held c = search rules
 
 returns : tie.Need-returns
-unfolding countWrong
+unfolding has_wrong_count
 returns c = rw (ne_eqb (get_or c.before.before.before.args.block.now 0 0) 2 c.if1.true)
 
 returns-2 : tie.Need-returns-2
-unfolding countWrong
+unfolding has_wrong_count
 returns-2 c = rw (
   eq-eqb (get_or c.before.before.before.before.args.block.now 0 0) 2 c.before.if1.false,
   lt-leb 1
@@ -27,12 +27,12 @@ returns-2 c = rw (
 )
 
 returns-3 : tie.Need-returns-3
-unfolding countWrong
+unfolding has_wrong_count
 returns-3 c = rw (
   eq-eqb (get_or c.before.before.before.before.args.block.now 0 0) 2 c.before.if1.false,
   le-leb 1
       (get_or c.before.before.before.before.args.block.now 1 0) c.if2.false,
-  not-leb
+  not_leb
       (get_or c.before.before.before.before.args.block.now 1 0) 7,
 )
 

@@ -2,7 +2,7 @@
 -- Assumes nothing.
 use mathlib.Core.Path.{sym, ◌∙◌}
 use borrow.Author.Rules.{rules}
-use Rattle.trace.specs.Rules.{formWrong}
+use Rattle.trace.specs.Rules.{form_wrong}
 use Rattle.trace.proofs.form.is_wrong.Statement.{statement}
 use Rattle.trace.proofs.form.is_wrong.Tie as tie
 
@@ -38,14 +38,14 @@ kind-wrong-requires : tie.Need-kind-wrong-requires
 kind-wrong-requires c κs = search rules
 
 returns : tie.Need-returns
-unfolding formWrong
+unfolding form_wrong
 returns c = rw (sym c.before.kind-wrong.ensures ∙ c.if1.true)
 
 number-wrong-requires : tie.Need-number-wrong-requires
 number-wrong-requires c κs = search rules
 
 returns-2 : tie.Need-returns-2
-unfolding formWrong
+unfolding form_wrong
 returns-2 c =
     rw (
       sym (before-else1 (before-number-wrong c.before)).kind-wrong.ensures
@@ -57,7 +57,7 @@ count-wrong-requires : tie.Need-count-wrong-requires
 count-wrong-requires c κs = search rules
 
 returns-3 : tie.Need-returns-3
-unfolding formWrong
+unfolding form_wrong
 returns-3 c =
     let at-number-wrong = before-else2 (before-count-wrong c.before) in
     let at-else1 = before-number-wrong at-number-wrong in
@@ -73,7 +73,7 @@ unused-wrong-requires : tie.Need-unused-wrong-requires
 unused-wrong-requires c κs = (search rules, sym c.before.count-wrong.ensures ∙ c.if3.false)
 
 returns-4 : tie.Need-returns-4
-unfolding formWrong
+unfolding form_wrong
 returns-4 c =
     let at-count-wrong = count-wrong-unused-wrong c.before in
     let at-else2 = before-count-wrong at-count-wrong in
@@ -93,7 +93,7 @@ order-wrong-requires : tie.Need-order-wrong-requires
 order-wrong-requires c κs = search rules
 
 returns-5 : tie.Need-returns-5
-unfolding formWrong
+unfolding form_wrong
 returns-5 c =
     let at-unused-wrong = before-else4 c.before.before in
     let at-else3 = before-unused-wrong at-unused-wrong in
@@ -117,7 +117,7 @@ total-wrong-requires : tie.Need-total-wrong-requires
 total-wrong-requires c κs = search rules
 
 returns-6 : tie.Need-returns-6
-unfolding formWrong
+unfolding form_wrong
 returns-6 c =
     let at-else4 = before-total-wrong c in
     let at-unused-wrong = before-else4 at-else4 in

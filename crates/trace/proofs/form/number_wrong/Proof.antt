@@ -5,7 +5,7 @@ use mathlib.Core.Bool.{not}
 use Prim.Native.Nat.{ℕ}
 use lib.Dec.{eqb}
 use borrow.Author.Rules.{rules}
-use Rattle.trace.specs.Rules.{numberWrong}
+use Rattle.trace.specs.Rules.{has_wrong_number}
 use Rattle.trace.proofs.form.number_wrong.Statement.{statement}
 use Rattle.trace.proofs.form.number_wrong.Tie as tie
 
@@ -16,7 +16,7 @@ cast-result : tie.Need-overflow-cast-result
 cast-result c = search rules
 
 returns : tie.Need-returns
-unfolding numberWrong
+unfolding has_wrong_number
 returns c = ap (λ (n : ℕ). not (eqb n c.before.before.before.args.place.number)) c.before.four_bytes.ensures
 
 pub number-wrong-spec : {M : Type 1} → statement M

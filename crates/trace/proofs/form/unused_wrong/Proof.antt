@@ -7,8 +7,8 @@ use native.Mathlib.Omega.{arith}
 use borrow.Author.Tests.{not-true, not-false}
 use borrow.Author.Rules.{rules}
 use Rattle.trace.specs.Bytes.{zeros}
-use Rattle.trace.specs.Rules.{unusedWrong}
-use Rattle.trace.proofs.Used.{count-end}
+use Rattle.trace.specs.Rules.{has_wrong_unused}
+use Rattle.trace.proofs.Used.{count_end}
 use Rattle.trace.proofs.form.unused_wrong.Statement.{statement}
 use Rattle.trace.proofs.form.unused_wrong.Tie as tie
 
@@ -16,18 +16,18 @@ are-zero-requires : tie.Need-are-zero-requires
 are-zero-requires c κs = search rules
 
 returns : tie.Need-returns
-unfolding unusedWrong
+unfolding has_wrong_unused
 returns c = rw (sym c.before.are-zero.ensures ∙ not-true c.before.are-zero.result c.if1.true)
 
 body-end-requires : tie.Need-body-end-requires
 body-end-requires c κs = search rules
 
 are-zero-requires-2 : tie.Need-are-zero-requires-2
-are-zero-requires-2 c κs = let end = count-end c.before.before.before.before.args.block.now
+are-zero-requires-2 c κs = let end = count_end c.before.before.before.before.args.block.now
     c.before.before.before.before.requires.1 in (omega (arith, c.body-end.ensures), search rules)
 
 returns-2 : tie.Need-returns-2
-unfolding unusedWrong
+unfolding has_wrong_unused
 returns-2 c = rw (sym c.before.before.before.are-zero.ensures
     ∙ not-false c.before.before.before.are-zero.result c.before.before.if1.false)
     (ap not (c.are-zero2.ensures ∙ ap (λ (n : ℕ). zeros c.before.before.before.before.before.args.block.now n 510)

@@ -3,8 +3,8 @@
 use mathlib.Core.Path.{sym, ◌∙◌}
 use borrow.Author.Tests.{not-true, not-false}
 use borrow.Author.Rules.{rules}
-use Rattle.trace.proofs.Order.{judged-unsound, judged-follows, judged-done, judged-short, judged-check, judged-form, judged-read}
-use Rattle.trace.proofs.Places.{good-number}
+use Rattle.trace.proofs.Order.{judged_unsound, judged-follows, judged-done, judged-short, judged-check, judged-form, judged-read}
+use Rattle.trace.proofs.Places.{good_number}
 use Rattle.trace.proofs.judging.judge.Statement.{statement}
 use Rattle.trace.proofs.judging.judge.Tie as tie
 
@@ -51,7 +51,7 @@ refused-requires c κs = search rules
 returns : tie.Need-returns
 returns c =
     let start = before-is-good c.before.before in
-    c.refused.ensures ∙ sym (judged-unsound start.args.place start.args.cycles start.args.block.now
+    c.refused.ensures ∙ sym (judged_unsound start.args.place start.args.cycles start.args.block.now
     (sym c.before.before.is-good.ensures ∙ not-true c.before.before.is-good.result c.before.if1.true))
 
 refused-requires-2 : tie.Need-refused-requires-2
@@ -131,7 +131,7 @@ read-requires c κs =
     let at-is-good = before-else1 at-else1 in
     let start = before-is-good at-is-good in (
       at-else2.if2.left,
-      good-number start.args.place start.args.cycles
+      good_number start.args.place start.args.cycles
           (sym at-is-good.is-good.ensures ∙ not-false at-is-good.is-good.result at-else1.if1.left),
       search rules,
     )

@@ -2,11 +2,11 @@
 -- Assumes nothing.
 use mathlib.Core.Path.{sym, ap, ◌∙◌}
 use Rattle.base.specs.declared.config.Config.{Config}
-use Rattle.base.specs.Sizes.{illegalField, field_of}
-use Rattle.base.proofs.Configurations.{judged-field}
+use Rattle.base.specs.Sizes.{illegal_field, field_of}
+use Rattle.base.proofs.Configurations.{judged_field}
 use borrow.Author.Rules.{rules}
-use Rattle.trace.specs.Judged.{aConfiguration, accepted, nextPlace}
-use Rattle.trace.proofs.Reading.{read-illegal, read-configuration, read-cycles, read-end}
+use Rattle.trace.specs.Judged.{a_configuration, accepted, next_place}
+use Rattle.trace.proofs.Reading.{read_illegal, read_configuration, read_cycles, read_end}
 use Rattle.trace.proofs.judging.read.Statement.{statement}
 use Rattle.trace.proofs.judging.read.Tie as tie
 
@@ -53,10 +53,10 @@ returns c =
     let at-configuration = before-judged at-judged in
     let at-then1 = before-configuration at-configuration in
     let start = before-then1 at-then1 in
-    c.refused.ensures ∙ read-illegal start.args.place start.args.block.now start.pre.0
+    c.refused.ensures ∙ read_illegal start.args.place start.args.block.now start.pre.0
     c.before.before.field.given.0.0 at-then1.if1.taken
-    (sym (ap illegalField at-configuration.configuration.ensures)
-    ∙ judged-field at-judged.judged.result _ at-judged.judged.ensures ∙ ap field_of c.before.before.field.given.1)
+    (sym (ap illegal_field at-configuration.configuration.ensures)
+    ∙ judged_field at-judged.judged.result _ at-judged.judged.ensures ∙ ap field_of c.before.before.field.given.1)
 
 enum_told : tie.Need-enum-told
 enum_told c = search rules
@@ -66,10 +66,10 @@ returns-2 c =
     let at-configuration = before-judged c.before.before in
     let at-then1 = before-configuration at-configuration in
     let start = before-then1 at-then1 in
-    ap (λ (x : Config). accepted (aConfiguration x) (nextPlace start.args.place start.args.block.now))
-    at-configuration.configuration.ensures ∙ read-configuration start.args.place start.args.block.now start.pre.0
-    at-then1.if1.taken (sym (ap illegalField at-configuration.configuration.ensures)
-    ∙ judged-field c.before.before.judged.result _ c.before.before.judged.ensures ∙ ap field_of c.enum_told.given.1)
+    ap (λ (x : Config). accepted (a_configuration x) (next_place start.args.place start.args.block.now))
+    at-configuration.configuration.ensures ∙ read_configuration start.args.place start.args.block.now start.pre.0
+    at-then1.if1.taken (sym (ap illegal_field at-configuration.configuration.ensures)
+    ∙ judged_field c.before.before.judged.result _ c.before.before.judged.ensures ∙ ap field_of c.enum_told.given.1)
 
 shared-slice-read-t14 : tie.Need-shared-slice-read-t14
 shared-slice-read-t14 c = search rules
@@ -77,12 +77,12 @@ shared-slice-read-t14 c = search rules
 returns-3 : tie.Need-returns-3
 returns-3 c =
     let start = before-shared-slice-known3 c in
-    read-cycles start.args.place start.args.block.now start.pre.0 c.before.before.if1.false c.before.if2.true
+    read_cycles start.args.place start.args.block.now start.pre.0 c.before.before.if1.false c.before.if2.true
 
 returns-4 : tie.Need-returns-4
 returns-4 c =
     let start = before-else2 c in
-    read-end start.args.place start.args.block.now start.pre.0 c.before.if1.false c.if2.false
+    read_end start.args.place start.args.block.now start.pre.0 c.before.if1.false c.if2.false
 
 pub read_spec : {M : Type 1} → statement M
 read_spec =

@@ -2,16 +2,16 @@
 -- Assumes nothing.
 use native.Mathlib.Omega.{arith}
 use borrow.Author.Tests.{eq-eqb, ne_eqb, le-leb, lt-leb, not-true, not-false}
-use Rattle.trace.specs.Place.{goodPlace}
+use Rattle.trace.specs.Place.{good_place}
 use Rattle.trace.proofs.place.is_good.Statement.{statement}
 use Rattle.trace.proofs.place.is_good.Tie as tie
 
 returns : tie.Need-returns
-unfolding goodPlace
+unfolding good_place
 returns c = rw (not-true c.before.before.before.args.place.configured c.before.if1.true, c.if2.true)
 
 returns-2 : tie.Need-returns-2
-unfolding goodPlace
+unfolding good_place
 returns-2 c = rw (
   not-true c.before.before.before.before.before.args.place.configured
       c.before.before.before.if1.true,
@@ -21,7 +21,7 @@ returns-2 c = rw (
 )
 
 returns-3 : tie.Need-returns-3
-unfolding goodPlace
+unfolding good_place
 returns-3 c = rw (
   not-true c.before.before.before.before.before.args.place.configured
       c.before.before.before.if1.true,
@@ -31,7 +31,7 @@ returns-3 c = rw (
 )
 
 returns-4 : tie.Need-returns-4
-unfolding goodPlace
+unfolding good_place
 returns-4 c = rw (
   not-false c.before.before.before.before.args.place.configured c.before.before.if1.false,
   lt-leb c.before.before.before.before.args.place.number 4294967296 c.if4.true,
@@ -42,7 +42,7 @@ abbrev start-else4 : tie.Else4 → tie.Start
 start-else4 c = c.before.before.before.before
 
 returns-5 : tie.Need-returns-5
-unfolding goodPlace
+unfolding good_place
 returns-5 c =
     let at = c.before.before.before in
     let p = (start-else4 at).args.place in
@@ -57,7 +57,7 @@ may-hold-requires : tie.Need-may-hold-requires
 may-hold-requires c κs = let l = c.before.before.before.before.if4.false in omega arith
 
 returns-6 : tie.Need-returns-6
-unfolding goodPlace
+unfolding good_place
 returns-6 c =
     let at = c.before.before.before.before.before in
     let p = (start-else4 at).args.place in
@@ -70,7 +70,7 @@ returns-6 c =
     c.may-hold.ensures
 
 returns-7 : tie.Need-returns-7
-unfolding goodPlace
+unfolding good_place
 returns-7 c =
     let at = c.before.before.before in
     let p = (start-else4 at).args.place in
@@ -85,7 +85,7 @@ may-hold-requires-2 : tie.Need-may-hold-requires-2
 may-hold-requires-2 c κs = let l = c.before.before.before.before.if4.false in omega arith
 
 returns-8 : tie.Need-returns-8
-unfolding goodPlace
+unfolding good_place
 returns-8 c =
     let at = c.before.before.before.before.before in
     let p = (start-else4 at).args.place in

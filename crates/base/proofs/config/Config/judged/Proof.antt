@@ -4,7 +4,7 @@ use mathlib.Core.Path.{◌≡◌, sym, ◌∙◌}
 use mathlib.Core.Bool.{true, false}
 use borrow.Author.Rules.{rules}
 use borrow.Author.Tests.{not-true, not-false}
-use Rattle.base.specs.Sizes.{field, in_range, firstIllegal, illegalField}
+use Rattle.base.specs.Sizes.{field, in_range, first_illegal, illegal_field}
 use Rattle.base.proofs.config.Config.judged.Statement.{statement}
 use Rattle.base.proofs.config.Config.judged.Tie as tie
 
@@ -90,19 +90,19 @@ arbiter-out : (c : tie.Then7)
 arbiter-out c = sym c.before.within7.ensures ∙ not-true c.before.within7.result c.if7.true
 
 returns : tie.Need-returns
-unfolding illegalField firstIllegal
+unfolding illegal_field first_illegal
 returns c = rw (ports-out c)
 
 returns-2 : tie.Need-returns-2
-unfolding illegalField firstIllegal
+unfolding illegal_field first_illegal
 returns-2 c = rw (ports-in c.before.before, vcs-out c)
 
 returns-3 : tie.Need-returns-3
-unfolding illegalField firstIllegal
+unfolding illegal_field first_illegal
 returns-3 c = rw (ports-in (before-else2 c.before.before), vcs-in c.before.before, depth-out c)
 
 returns-4 : tie.Need-returns-4
-unfolding illegalField firstIllegal
+unfolding illegal_field first_illegal
 returns-4 c =
     rw (
       ports-in (before-else2 (before-else3 c.before.before)),
@@ -113,7 +113,7 @@ returns-4 c =
     )
 
 returns-5 : tie.Need-returns-5
-unfolding illegalField firstIllegal
+unfolding illegal_field first_illegal
 returns-5 c =
     let at-else3 = before-else4 c.before.before in
     let at-else2 = before-else3 at-else3 in
@@ -121,7 +121,7 @@ returns-5 c =
     rw (ports-in at-else1, vcs-in at-else2, depth-in at-else3, downstream-in c.before.before, forward-out c)
 
 returns-6 : tie.Need-returns-6
-unfolding illegalField firstIllegal
+unfolding illegal_field first_illegal
 returns-6 c =
     let at-else4 = before-else5 c.before.before in
     let at-else3 = before-else4 at-else4 in
@@ -138,7 +138,7 @@ returns-6 c =
     )
 
 returns-7 : tie.Need-returns-7
-unfolding illegalField firstIllegal
+unfolding illegal_field first_illegal
 returns-7 c =
     let at-else5 = before-then7 c in
     let at-else4 = before-else5 at-else5 in
@@ -157,7 +157,7 @@ returns-7 c =
     )
 
 returns-8 : tie.Need-returns-8
-unfolding illegalField firstIllegal
+unfolding illegal_field first_illegal
 returns-8 c =
     let at-else5 = before-else7 c in
     let at-else4 = before-else5 at-else5 in

@@ -2,7 +2,7 @@
 -- Assumes nothing.
 use mathlib.Core.Path.{refl}
 use borrow.Author.Rules.{rules}
-use Rattle.base.specs.Flit.{flitOf}
+use Rattle.base.specs.Flit.{flit_of}
 use Rattle.base.proofs.flit.Flit.new.Statement.{statement}
 use Rattle.base.proofs.flit.Flit.new.Tie as tie
 
@@ -19,7 +19,7 @@ add-t10 : tie.Need-overflow-add-t10
 add-t10 c = search rules
 
 returns : tie.Need-returns
-unfolding flitOf
+unfolding flit_of
 returns c = refl
 
 pub new_spec : {M : Type 1} → statement M

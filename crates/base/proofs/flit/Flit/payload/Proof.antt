@@ -2,7 +2,7 @@
 -- Assumes nothing.
 use mathlib.Core.Path.{refl}
 use borrow.Author.Rules.{rules}
-use Rattle.base.specs.Flit.{payloadOf}
+use Rattle.base.specs.Flit.{payload_of}
 use Rattle.base.proofs.flit.Flit.payload.Statement.{statement}
 use Rattle.base.proofs.flit.Flit.payload.Tie as tie
 
@@ -10,7 +10,7 @@ cast-result : tie.Need-overflow-cast-result
 cast-result c = search rules
 
 returns : tie.Need-returns
-unfolding payloadOf
+unfolding payload_of
 returns c = refl
 
 pub payload-spec : {M : Type 1} → statement M
