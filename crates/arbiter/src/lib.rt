@@ -2,6 +2,8 @@
 //
 // Choice and move are two functions, so that a caller decides which picks are kept. There are two structs, alike but for their
 // room: `Wide` for the P*V requesters of an output's VC allocation, `Narrow` for the V or P of switch allocation.
+#![tactic(auto)]
+
 mod asking;
 mod either;
 mod matrix;
@@ -13,27 +15,27 @@ ghost use Rattle.arbiter.specs.Requests.{asks, winner_of};
 ghost use Rattle.arbiter.specs.Arbiter.{of_narrow, of_wide, choice, moved, fresh, sound};
 
 // Who asks: requester i when bit i of the set is 1.
-#[derive(Drop)]
+#[derive(Clone, Copy)]
 pub struct Requests {
     pub set: u32,
 }
 
 // What a choice answers.
-#[derive(Drop)]
+#[derive(Clone, Copy)]
 pub enum Pick {
     Nobody,
     Winner(u32),
 }
 
 // An arbiter with room for 8 requesters: the round-robin pointer, and for each requester the row of those that it beats.
-#[derive(Drop)]
+#[derive(Clone, Copy)]
 pub struct Narrow {
     pub pointer: u32,
     pub rows: [u32; 8],
 }
 
 // An arbiter with room for 32 requesters.
-#[derive(Drop)]
+#[derive(Clone, Copy)]
 pub struct Wide {
     pub pointer: u32,
     pub rows: [u32; 32],

@@ -5,7 +5,7 @@ ghost use Rattle.base.specs.Sizes.{no_config, field, in_range, illegal_field, nu
 use crate::bounds::{PORTS, VCS};
 
 // "Ports P", "VCs per port V", "Input depth D", "Downstream depth E", "Forward delay F", "credit delay B", "Arbiter code".
-#[derive(Drop)]
+#[derive(Clone, Copy)]
 pub struct Config {
     pub ports: u8,
     pub vcs: u8,
@@ -17,7 +17,7 @@ pub struct Config {
 }
 
 // Legal, or "the first such field, 1..7" that is out of its range.
-#[derive(Drop)]
+#[derive(Clone, Copy)]
 pub enum Judged {
     Legal,
     Illegal(u8),

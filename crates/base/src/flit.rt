@@ -12,7 +12,7 @@ pub const TAIL: u8 = 3;
 
 pub const SINGLE: u8 = 4;
 
-#[derive(Drop)]
+#[derive(Clone, Copy)]
 pub struct Flit {
     pub word: u64,
 }

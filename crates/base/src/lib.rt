@@ -1,5 +1,7 @@
 // Shared words: what more than one crate speaks of. The configuration and its one test, a flit, the reply of a cycle, the numbers
 // of document 01's table and its bounds. In specs and proofs also sets of small numbers as the bits of a word.
+#![tactic(auto)]
+
 mod bounds;
 mod config;
 mod flit;

@@ -3,19 +3,19 @@ ghost use Rattle.std.specs.Prelude.{◌≡◌};
 ghost use Rattle.base.specs.Reply.{empty_reply};
 
 // The VC whose credit reached the sender of an input.
-#[derive(Drop)]
+#[derive(Clone, Copy)]
 pub enum Reached {
     Nothing,
     Vc(u8),
 }
 
-#[derive(Drop)]
+#[derive(Clone, Copy)]
 pub struct Sender {
     pub reached: Reached,
 }
 
 // A flit that left: on which VC of its output, from which input and VC, of which kind, with which payload.
-#[derive(Drop)]
+#[derive(Clone, Copy)]
 pub struct Departure {
     pub out_vc: u8,
     pub input: u8,
@@ -25,18 +25,18 @@ pub struct Departure {
 }
 
 // What left by an output.
-#[derive(Drop)]
+#[derive(Clone, Copy)]
 pub enum Left {
     Nothing,
     Flit(Departure),
 }
 
-#[derive(Drop)]
+#[derive(Clone, Copy)]
 pub struct Output {
     pub left: Left,
 }
 
-#[derive(Drop)]
+#[derive(Clone, Copy)]
 pub struct Reply {
     pub senders: [Sender; 8],
     pub outputs: [Output; 8],

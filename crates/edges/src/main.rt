@@ -1,4 +1,6 @@
 // What no trace reaches, run on the public functions: each check is a proof obligation, and is run too.
+#![tactic(auto)]
+
 mod answers;
 mod arbiters;
 mod broken;

@@ -4,7 +4,7 @@ ghost use Rattle.io.specs.Counts.{IsPrefixLen};
 use crate::TRIES;
 
 // The bytes at the start of a buffer that were read, and whether the input could not be read on.
-#[derive(Drop)]
+#[derive(Clone, Copy)]
 pub struct Filled {
     pub bytes: usize,
     pub failed: bool,

@@ -1,5 +1,7 @@
 // The run floor's streams: bytes read until a buffer is full, bytes written, a part handed over to the run entry. What the system answers
 // is in no contract; what a part that was handed over comes to is (specs/Handing).
+#![tactic(auto)]
+
 mod input;
 mod output;
 mod passing;

@@ -7,7 +7,7 @@ use base::DONE;
 use runs::Run;
 
 // Why no further call was made.
-#[derive(Drop)]
+#[derive(Clone, Copy)]
 pub enum Stop {
     // all of the part was used, or the run is over
     Whole,
@@ -24,7 +24,7 @@ pub enum Stop {
 }
 
 // The run after so many calls, and why they were no more.
-#[derive(Drop)]
+#[derive(Clone, Copy)]
 pub struct Passed {
     pub run: Run,
     pub calls: usize,

@@ -8,7 +8,7 @@ use crate::{input, passing};
 use runs::Run;
 
 // How a night ended.
-#[derive(Drop)]
+#[derive(Clone, Copy)]
 pub enum Ended {
     // the list has its last line
     Over,
@@ -18,7 +18,7 @@ pub enum Ended {
     Stopped(Stop),
 }
 
-#[derive(Drop)]
+#[derive(Clone, Copy)]
 pub struct Listed {
     pub run: Run,
     pub ended: Ended,

@@ -1,6 +1,8 @@
 // The lines of the list: one cycle's C and F lines, an E line, an R line, each written into the caller's buffer from a named place
 // on. Every public function tests what it is given, first the ranges (12), then the room (11), and then lends the part that starts
 // at the place to the writer inside, so that no byte before it can change.
+#![tactic(auto)]
+
 mod digits;
 mod judge;
 mod lines;
@@ -13,7 +15,7 @@ use base::Reply;
 pub use judge::has_room;
 
 // What a write answers: how many bytes its lines took, or why it wrote none.
-#[derive(Drop)]
+#[derive(Clone, Copy)]
 pub enum Written {
     Lines(usize),
     NoRoom,

@@ -1,9 +1,9 @@
 -- The cycles' numbers: "up to t−n" leaves out the newest n entries, and "after t−n" is those.
 -- Assumes nothing.
-use mathlib.Core.Path.{◌≡◌, refl, ap}
+use mathlib.Core.Path.{◌≡◌, refl, ap, subst}
 use mathlib.Core.List.{[], ◌∷◌}
 use Prim.Native.Nat.{ℕ, zero, suc, ◌+◌, ◌≤◌}
-use native.Mathlib.Nat.{zero-add, add-suc, suc-add}
+use native.Mathlib.Nat.{zero-add}
 use native.Mathlib.Omega.{arith}
 use lib.ListN.{take, drop}
 use Rattle.model.specs.History.{History, Numbered, up_to, after}
@@ -25,15 +25,19 @@ module _ {Flit : Type 0} where
   after_take t j zero n h q l = after_none t (j + 0) n h q (omega arith)
   after_take t j (suc k) n [] q l = refl
   after_take t j (suc k) n (e ∷ h) q l =
-      rw (leb_yes (suc t) (e.cycle + (j + suc k)) (omega arith))
-      (ap (λ (r : History Flit). e ∷ r) (rw (add-suc j k, ← suc-add j k) (after_take t (suc j) k e.cycle h q.1 (omega arith))))
+      let shift : suc j + k ≡ j + suc k = omega arith in
+      let rest : after t (j + suc k) h ≡ take k h =
+      subst (λ (m : ℕ). after t m h ≡ take k h) shift (after_take t (suc j) k e.cycle h q.1 (omega arith)) in
+      rw (leb_yes (suc t) (e.cycle + (j + suc k)) (omega arith)) (ap (λ (r : History Flit). e ∷ r) rest)
 
   up_to_drop : (t j k n : ℕ) (h : History Flit) → Numbered n h → n + j ≡ suc t → up_to t (j + k) h ≡ drop k h
   up_to_drop t j zero n h q l = up_to_all t (j + 0) n h q (omega arith)
   up_to_drop t j (suc k) n [] q l = refl
   up_to_drop t j (suc k) n (e ∷ h) q l =
-      rw (leb_no (e.cycle + (j + suc k)) t (omega arith), add-suc j k, ← suc-add j k)
-      (up_to_drop t (suc j) k e.cycle h q.1 (omega arith))
+      let shift : suc j + k ≡ j + suc k = omega arith in
+      let rest : up_to t (j + suc k) h ≡ drop k h =
+      subst (λ (m : ℕ). up_to t m h ≡ drop k h) shift (up_to_drop t (suc j) k e.cycle h q.1 (omega arith)) in
+      rw (leb_no (e.cycle + (j + suc k)) t (omega arith)) rest
 
   -- After cycle t, "after t−k" is the newest k entries, and "up to t−k" the others.
   pub after_newest : (t k : ℕ) (h : History Flit) → Numbered (suc t) h → after t k h ≡ take k h

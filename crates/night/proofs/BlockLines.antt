@@ -15,7 +15,7 @@ use Rattle.trace.specs.declared.place.Place.{Place}
 use Rattle.trace.specs.Bytes.{AreBytes}
 use Rattle.trace.specs.Blocks.{held_of, config_of}
 use Rattle.trace.specs.Judged.{BlockOutcome, next_place, judged}
-use Rattle.trace.proofs.Found.{FoundAs, refuses, configures, holds, ends, is_over, found_as}
+use Rattle.trace.proofs.Findings.{FoundAs, refuses, configures, holds, ends, is_over, found_as}
 use Rattle.listing.specs.Lines.{finish, refusal, flit_lines}
 use Rattle.runs.specs.declared.Run.{Run}
 use Rattle.router.specs.Running.{Writing, wrote, with_place, on_run, ended_by, cycles_from, by_outcome, block_taken, room_of_block}

@@ -17,7 +17,7 @@ use Rattle.trace.specs.Blocks.{kind_of, held_of, config_of, cycle_length, cycle_
 use Rattle.trace.specs.Bytes.{AreBytes}
 use Rattle.trace.specs.Place.{start}
 use Rattle.trace.specs.Judged.{BlockOutcome, next_place, judged}
-use Rattle.trace.proofs.Found.{FoundAs, refuses, configures, holds, ends, is_over, found_as}
+use Rattle.trace.proofs.Findings.{FoundAs, refuses, configures, holds, ends, is_over, found_as}
 use Rattle.listing.specs.Lines.{Line, finish, cycle_lines, flit_lines}
 use Rattle.model.specs.Lists.{All}
 use Rattle.model.proofs.Lists.{all_append}

@@ -27,7 +27,7 @@ use Rattle.trace.specs.Place.{cycle_blocks, good_place}
 use Rattle.trace.specs.Judged.{Read, a_configuration, some_cycles, the_end, no_more, BlockOutcome, accepted, next_place, read_of, taken, judged}
 use Rattle.trace.specs.Way.{cycles_in}
 use Rattle.trace.proofs.Exactness.{accepted_taken}
-use Rattle.trace.proofs.Found.{FoundAs, refuses, configures, holds, ends, is_over, found_as}
+use Rattle.trace.proofs.Findings.{FoundAs, refuses, configures, holds, ends, is_over, found_as}
 use Rattle.trace.proofs.Places.{Good, nothing, after, good_is}
 use Rattle.trace.proofs.Ways.{accepted_leads_on}
 use Rattle.listing.specs.Writing.{lacks_room}

@@ -22,7 +22,7 @@ use Rattle.trace.specs.Place.{start, good_place}
 use Rattle.trace.specs.Judged.{BlockOutcome, Read, a_configuration, some_cycles, the_end, no_more, accepted, refused, read_of}
 use Rattle.trace.specs.Judged.{next_place, taken, judged}
 use Rattle.trace.proofs.Exactness.{accepted_taken}
-use Rattle.trace.proofs.Found.{FoundAs, refuses, configures, holds, ends, is_over, found_as}
+use Rattle.trace.proofs.Findings.{FoundAs, refuses, configures, holds, ends, is_over, found_as}
 use Rattle.trace.proofs.Order.{judged_unsound, judged-follows}
 use Rattle.trace.proofs.OneByte as block
 use Rattle.listing.specs.Lines.{refusal, text, cycle_lines}

@@ -18,7 +18,7 @@ use Rattle.trace.specs.Blocks.{held_of}
 use Rattle.trace.specs.Place.{good_place}
 use Rattle.trace.specs.Rules.{place_unsound, block_short, check_wrong, bytes_follow, block_wrong, field_wrong}
 use Rattle.trace.specs.Judged.{BlockOutcome, no_more, accepted, refused, next_place, taken, judged_by_field, judged}
-use Rattle.trace.proofs.Found.{FoundAs, refuses, configures, holds, ends, is_over, found_as}
+use Rattle.trace.proofs.Findings.{FoundAs, refuses, configures, holds, ends, is_over, found_as}
 use Rattle.runs.proofs.Places.{between_is, right_between}
 use Rattle.router.specs.Running.{Writing, wrote, on_run, with_place, ended_by, by_outcome, block_taken, block_at, lacks_block_room, Call}
 use Rattle.router.specs.Running.{takes, stops, going_on}

@@ -1,5 +1,7 @@
 // The program of the run floor: a trace from standard input, its list to standard output. It only lends two buffers and says on standard
 // error where a list is left without its last line; the night itself is the floor's.
+#![tactic(auto)]
+
 mod messages;
 
 use floor::Ended;

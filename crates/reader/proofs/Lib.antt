@@ -1,3 +1,1 @@
-pub mod Apart
-pub mod Operands
 pub mod Walking

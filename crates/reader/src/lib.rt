@@ -1,11 +1,13 @@
 // "The block reader is a small view over one lent block that remembers its place" (01, blocks). The functions over the struct are thin:
 // the work is done over a slice and a number, by `next_cycle` here and by `trace::cycle_part`.
+#![tactic(auto)]
+
 ghost use Rattle.std.specs.Prelude.{◌≡◌};
 ghost use Rattle.trace.specs.Cycles.{slice_of, part_of_cycle};
 ghost use Rattle.reader.specs.Reader.{following_cycle};
 
 // The block lent, and the number of the cycle to show, counted from 0.
-#[derive(Drop)]
+#[derive(Clone, Copy)]
 pub struct Reader<'a> {
     pub block: &'a [u8],
     pub cycle: usize,

@@ -1,6 +1,8 @@
 // Stored traces through the run entry, cut into parts of any number of blocks. Standard input is a row of parts: two bytes with a part's
 // length, the higher first, and its bytes; a part of no bytes is the end of a trace, and the next part begins another. The lists go to
 // standard output one after another. Traces and lists are the second model's (docs/FORMATS.md says how they are made).
+#![tactic(auto)]
+
 use floor::Stop;
 use runs::Run;
 

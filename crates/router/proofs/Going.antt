@@ -16,7 +16,7 @@ use Rattle.trace.specs.Bytes.{AreBytes}
 use Rattle.trace.specs.declared.place.Place.{Place}
 use Rattle.trace.specs.Blocks.{held_of, cycle_length, cycle_start, part_at}
 use Rattle.trace.specs.Judged.{BlockOutcome, next_place, judged}
-use Rattle.trace.proofs.Found.{FoundAs, refuses, configures, holds, ends, is_over, found_as}
+use Rattle.trace.proofs.Findings.{FoundAs, refuses, configures, holds, ends, is_over, found_as}
 use Rattle.listing.specs.Lines.{Line, finish, refusal, cycle_lines, flit_lines}
 use Rattle.listing.proofs.Lengths.{cycle_length-law}
 use Rattle.listing.proofs.Counting.{flits_most, cycle_flit_lines}

@@ -20,7 +20,7 @@ use Rattle.trace.specs.declared.place.Place.{Place}
 use Rattle.trace.specs.Blocks.{config_of}
 use Rattle.trace.specs.Place.{good_place}
 use Rattle.trace.specs.Judged.{BlockOutcome, judged}
-use Rattle.trace.proofs.Found.{FoundAs, refuses, configures, holds, ends, is_over, found_as}
+use Rattle.trace.proofs.Findings.{FoundAs, refuses, configures, holds, ends, is_over, found_as}
 use Rattle.trace.proofs.Places.{Good, nothing, after, good_is}
 use Rattle.listing.specs.Writing.{lacks_room}
 use Rattle.rules.proofs.Facts.{sound_legal}

@@ -14,7 +14,7 @@ use Rattle.trace.specs.declared.place.Place.{Place}
 use Rattle.trace.specs.Blocks.{held_of}
 use Rattle.trace.specs.Judged.{BlockOutcome, Read, a_configuration, some_cycles, the_end, no_more, accepted, refused, judged}
 use Rattle.trace.specs.Way.{cycles_in}
-use Rattle.trace.proofs.Found.{FoundAs, refuses, configures, holds, ends, is_over, found_as}
+use Rattle.trace.proofs.Findings.{FoundAs, refuses, configures, holds, ends, is_over, found_as}
 use Rattle.listing.specs.Lines.{finish, refusal}
 use Rattle.router.specs.Running.{Writing, on_run, with_place, with_router, ended_by, cycles_from, block_taken}
 

@@ -13,7 +13,7 @@ use crate::parts::Parts;
 use crate::{allocation, intake, leaving, switching};
 use base::{Config, Left, Output, Reply};
 
-#[derive(Drop)]
+#[derive(Clone, Copy)]
 pub struct PartsAndReply {
     pub parts: Parts,
     pub reply: Reply,

@@ -16,14 +16,14 @@ use base::{CHANNEL_PLACES, Config, PORT_PLACES, starts};
 use state::{Binding, Holder, InVc, InputVc, OutVc, OutputVc};
 
 // What an output grants: 1 + the requester that is bound, or 0, and the VC that it is bound to.
-#[derive(Drop)]
+#[derive(Clone, Copy)]
 pub struct Granted {
     pub requester: u8,
     pub vc: u8,
 }
 
 // Input VCs and output VCs.
-#[derive(Drop)]
+#[derive(Clone, Copy)]
 pub struct Vcs {
     pub inputs: [InputVc; 32],
     pub outputs: [OutputVc; 32],

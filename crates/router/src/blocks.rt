@@ -11,7 +11,7 @@ use base::{Config, ROOM};
 pub const BLOCK_ROOM: usize = 8 * ROOM;
 
 // How far a call has come: the run, the bytes of the part that were used, and `BLOCK_ROOM` where it stopped for want of it, else 0.
-#[derive(Drop)]
+#[derive(Clone, Copy)]
 pub struct RunAndUsed {
     pub run: RunParts,
     pub used: usize,

@@ -12,7 +12,7 @@ use rules::{Refusal, Stepped, Verdict};
 use state::Router;
 
 // A cycle's verdict and reply, with the cycle count and the parts after it.
-#[derive(Drop)]
+#[derive(Clone, Copy)]
 pub struct SteppedParts {
     pub verdict: Verdict,
     pub cycle: u64,

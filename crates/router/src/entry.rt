@@ -13,7 +13,7 @@ use trace::Found;
 // What a call answers: the number, the run after it, how many bytes of the part were used, and how many were written. `asks` is
 // `BLOCK_ROOM` where the next block's lines might not have fitted, so that the call stopped before it, and else 0: all of the part was used
 // or the run is over.
-#[derive(Drop)]
+#[derive(Clone, Copy)]
 pub struct Ran {
     pub number: u8,
     pub run: Run,
@@ -23,7 +23,7 @@ pub struct Ran {
 }
 
 // After the configuration block: the run, and where the next line comes.
-#[derive(Drop)]
+#[derive(Clone, Copy)]
 pub struct RunAndAt {
     pub run: Run,
     pub at: usize,

@@ -14,7 +14,7 @@ use base::{CHANNEL_PLACES, Config, Departure, Flit, Left, Output, PORT_PLACES, e
 use state::{Binding, Holder, InputVc, OutputVc};
 
 // Input VCs and output VCs after the departures, and what left.
-#[derive(Drop)]
+#[derive(Clone, Copy)]
 pub struct VcsAndLeft {
     pub inputs: [InputVc; 32],
     pub outputs: [OutputVc; 32],

@@ -1,5 +1,7 @@
 // The code of a cycle: judged first, then acted on, phase by phase; equal to the rules. Over it the run entry: many blocks of a trace in a
 // call, their lines into the caller's buffer.
+#![tactic(auto)]
+
 mod acting;
 mod allocation;
 mod blocks;

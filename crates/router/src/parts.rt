@@ -6,7 +6,7 @@ use arbiter::{Narrow, Wide};
 use base::Config;
 use state::{Arbiters, InputVc, OutputVc, Router};
 
-#[derive(Drop)]
+#[derive(Clone, Copy)]
 pub struct Parts {
     pub inputs: [InputVc; 32],
     pub outputs: [OutputVc; 32],

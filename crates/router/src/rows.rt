@@ -7,14 +7,14 @@ ghost use Rattle.router.specs.Rows.{offer_of, offer_at};
 use base::{Config, Flit, SINGLE, starts};
 
 // A flit that a port brings, and on which VC.
-#[derive(Drop)]
+#[derive(Clone, Copy)]
 pub struct Offer {
     pub vc: u8,
     pub flit: Flit,
 }
 
 // "The step acts on ports that bring a flit and passes over the rest."
-#[derive(Drop)]
+#[derive(Clone, Copy)]
 pub enum Row {
     Idle,
     Brings(Offer),

@@ -14,7 +14,7 @@ use rules::Verdict;
 use trace::{Found, Place};
 
 // A run inside a call: the router's parts that travel by value, its cycle count, the run's other fields, and where the next line comes.
-#[derive(Drop)]
+#[derive(Clone, Copy)]
 pub struct RunParts {
     pub parts: Parts,
     pub cycle: u64,

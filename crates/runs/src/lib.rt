@@ -1,4 +1,6 @@
 // A run between two calls.
+#![tactic(auto)]
+
 ghost use Rattle.std.specs.Prelude.{◌≡◌};
 ghost use Rattle.runs.specs.Run.{started, between_blocks, stopped_inside, place_right, run_sound};
 
@@ -7,7 +9,7 @@ use state::Router;
 use trace::Place;
 
 // The router, the place in the file, the F lines so far, and whether the list has had its last line.
-#[derive(Drop)]
+#[derive(Clone, Copy)]
 pub struct Run {
     pub router: Router,
     pub place: Place,

@@ -10,7 +10,7 @@ use arbiter::{Narrow, Wide};
 use base::{Config, Judged};
 
 // What a construction gives: the configuration judged, and the router, which is all zero where the configuration is refused.
-#[derive(Drop)]
+#[derive(Clone, Copy)]
 pub struct Built {
     pub judged: Judged,
     pub router: Router,

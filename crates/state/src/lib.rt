@@ -2,6 +2,8 @@
 //
 // A channel is a VC of a port; channel i * V + v of the inputs and of the outputs stands at that place of its array, so that the places
 // from P * V on are not in use. The struct goes by value at the public entries only.
+#![tactic(auto)]
+
 ghost use Rattle.std.specs.Prelude.{◌≡◌};
 ghost use Rattle.state.specs.Setters.{set_binding, set_holder};
 
@@ -23,28 +25,28 @@ pub use building::{Built, fresh};
 pub use soundness::is_sound;
 
 // One VC of one output.
-#[derive(Drop)]
+#[derive(Clone, Copy)]
 pub struct OutVc {
     pub output: u8,
     pub vc: u8,
 }
 
 // One VC of one input.
-#[derive(Drop)]
+#[derive(Clone, Copy)]
 pub struct InVc {
     pub input: u8,
     pub vc: u8,
 }
 
 // "An input VC is either unbound or bound to one output and one of its VCs."
-#[derive(Drop)]
+#[derive(Clone, Copy)]
 pub enum Binding {
     Unbound,
     Bound(OutVc),
 }
 
 // An input VC: what it is bound to, its sender's credit, whether its sender has a packet open, and how many flits are queued.
-#[derive(Drop)]
+#[derive(Clone, Copy)]
 pub struct InputVc {
     pub binding: Binding,
     pub credit: u8,
@@ -67,13 +69,13 @@ impl InputVc {
 }
 
 // Who holds an output VC.
-#[derive(Drop)]
+#[derive(Clone, Copy)]
 pub enum Holder {
     Nobody,
     Held(InVc),
 }
 
-#[derive(Drop)]
+#[derive(Clone, Copy)]
 pub struct OutputVc {
     pub holder: Holder,
     pub credit: u8,
@@ -92,14 +94,14 @@ impl OutputVc {
 }
 
 // The arbiters: for each output one over all input VCs and one over the inputs, for each input one over its VCs.
-#[derive(Drop)]
+#[derive(Clone, Copy)]
 pub struct Arbiters {
     pub vcs: [Wide; 8],
     pub inputs: [Narrow; 8],
     pub outputs: [Narrow; 8],
 }
 
-#[derive(Drop)]
+#[derive(Clone, Copy)]
 pub struct Router {
     pub config: Config,
     pub cycle: u64,

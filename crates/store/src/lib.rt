@@ -1,5 +1,7 @@
 // The store: 512 slots, 16 for each channel, the front of its queue in the first. These three are how a step reaches it, so that where a
 // slot stands is known here and to the sound test alone. A channel that there is not is left alone.
+#![tactic(auto)]
+
 ghost use Rattle.std.specs.Prelude.{◌≡◌};
 ghost use Rattle.store.specs.Store.{front_of, pushed, popped};
 

@@ -12,7 +12,7 @@ pub mod Exactness
 pub mod Passing
 pub mod OneByte
 pub mod Formed
-pub mod Found
+pub mod Findings
 pub mod Ways
 pub mod Sealed
 pub mod Made

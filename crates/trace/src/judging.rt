@@ -7,7 +7,7 @@ ghost use Rattle.trace.specs.Judged.{block_outcome, refused, judged_by_field, ju
 use crate::{Place, check, form, place};
 
 // What a block is found to be. A refusal has its number, and with 1 the field, else 0.
-#[derive(Drop)]
+#[derive(Clone, Copy)]
 pub enum Found {
     Configuration(base::Config),
     Cycles(u8),
@@ -17,7 +17,7 @@ pub enum Found {
 }
 
 // What was found, and the place after it: "a refused block leaves the reading place".
-#[derive(Drop)]
+#[derive(Clone, Copy)]
 pub struct Answer {
     pub place: Place,
     pub found: Found,

@@ -1,4 +1,6 @@
 // The 512-byte blocks of a trace: a block judged at its place in the file, and the cycles that it holds.
+#![tactic(auto)]
+
 mod bytes;
 mod check;
 mod cycles;

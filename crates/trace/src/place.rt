@@ -4,7 +4,7 @@ ghost use Rattle.trace.specs.Blocks.{block_numbers};
 ghost use Rattle.trace.specs.Place.{start, can_hold, good_place};
 
 // The number of the next block, and whether the configuration block and the end block were read.
-#[derive(Drop)]
+#[derive(Clone, Copy)]
 pub struct Place {
     pub number: u64,
     pub configured: bool,
