@@ -17,7 +17,6 @@ use Rattle.base.proofs.Search.{both}
 use Rattle.model.specs.Channel.{queue_now, after_cycle}
 use Rattle.model.specs.Cycle.{Event, Choice}
 use Rattle.model.specs.History.{departures_on}
-use Rattle.model.specs.Line.{out}
 use Rattle.model.specs.Phases as phases
 use Rattle.model.specs.Phases.{out_credit_now, granted}
 use Rattle.model.specs.Router as free

@@ -11,7 +11,6 @@ use lib.Dec.{ltb}
 use lib.ListN.{get_or, replicate, get_or-replicate, get_or-eq_default, length-replicate}
 use borrow.Author.Tests.{ltb-true, ltb-false}
 use Rattle.base.specs.declared.config.Config.{Config}
-use Rattle.base.specs.declared.flit.Flit.{Flit}
 use Rattle.base.specs.declared.reply.Departure.{Departure}
 use Rattle.base.specs.declared.reply.Left.{Left}
 use Rattle.base.specs.declared.reply.Left.TheVariants as left
@@ -24,7 +23,7 @@ use Rattle.trace.specs.Bytes.{AreBytes}
 use Rattle.rules.specs.declared.Verdict.TheVariants.{Accepted}
 use Rattle.rules.specs.declared.Stepped.{Stepped}
 use Rattle.rules.specs.Allocation.{allocated}
-use Rattle.rules.specs.Departures.{departure, leaving_of}
+use Rattle.rules.specs.Departures.{leaving_of}
 use Rattle.rules.specs.Intake.{credits_reached, credits_returned, landed, offers_taken}
 use Rattle.rules.specs.Step.{taken_in, reply_of, step_of}
 use Rattle.rules.proofs.Acts.{Actor, Untouched, touched_or_not}

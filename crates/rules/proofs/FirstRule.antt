@@ -71,6 +71,7 @@ why (r ∷ rs) = go (first_from r.holds r.ports 0) refl (first_of rs) (why rs)
 
 pub first_refuses : (rs : List Rule) (n p : ℕ) → First rs n p → first_of rs ≡ refusing n p
 unfolding first_of
+first_refuses [] n p x' = elim x' [ ]
 first_refuses (r ∷ rs) _ p (this f) = rw (finds r p f)
 first_refuses (r ∷ rs) n p (later f g) = rw (misses r f) (first_refuses rs n p g)
 
@@ -110,6 +111,7 @@ passed_over r rs n p e (later g f) = (g, f)
 
 -- n comes first where no rule before the first of number n holds, and of the others n comes first
 pub split : (n : ℕ) (rs : List Rule) (p : ℕ) → First rs n p → None (before n rs) × First (from n rs) n p
+split n [] p f = elim f [ ]
 split n (r ∷ rs) p f = go (eqb n r.number) refl (split n rs p) f
   where
     go : (b : Bool) → eqb n r.number ≡ b → (First rs n p → None (before n rs) × First (from n rs) n p) → First (r ∷ rs) n p
@@ -135,10 +137,14 @@ numbered n [] = false
 numbered n (r ∷ rs) = eqb n r.number || numbered n rs
 
 first_numbered : (rs : List Rule) (n p : ℕ) → First rs n p → numbered n rs ≡ true
+first_numbered [] n p x' = elim x' [ ]
 first_numbered (r ∷ rs) _ p (this f) = rw (eq-eqb r.number r.number refl)
 first_numbered (r ∷ rs) n p (later f g) = rw (first_numbered rs n p g) (or-true (eqb n r.number))
 
 -- a rule whose number no later rule has
 pub alone : (r : Rule) (rs : List Rule) (p : ℕ) → numbered r.number rs ≡ false → First (r ∷ rs) r.number p → FirstAt r p
-alone r rs p e (this f) = f
-alone r rs p e (later _ f) = absurd (true≢false (sym (first_numbered rs r.number p f) ∙ e))
+alone r rs p e f = at r.number refl e f
+  where
+    at : (n : ℕ) → n ≡ r.number → numbered n rs ≡ false → First (r ∷ rs) n p → FirstAt r p
+    at _ same none_so (this g) = g
+    at n same none_so (later _ g) = absurd (true≢false (sym (first_numbered rs n p g) ∙ none_so))

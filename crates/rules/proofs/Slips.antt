@@ -28,7 +28,7 @@ use Rattle.trace.specs.Bytes.{AreBytes}
 use Rattle.rules.specs.declared.Verdict.TheVariants.{Accepted}
 use Rattle.rules.specs.declared.Stepped.{Stepped}
 use Rattle.rules.specs.Allocation.{Grant, grant_of, allocated}
-use Rattle.rules.specs.Departures.{departure, leaving_of}
+use Rattle.rules.specs.Departures.{leaving_of}
 use Rattle.rules.specs.Intake.{credits_reached, credits_returned, landed, offers_taken}
 use Rattle.rules.specs.Step.{taken_in, sent_out, router_after, step_by, step_of}
 use Rattle.rules.proofs.Acts.{Actor, Untouched, touched_or_not}
