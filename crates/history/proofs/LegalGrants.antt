@@ -17,7 +17,6 @@ use Rattle.base.proofs.Search.{both}
 use Rattle.model.specs.Channel.{queue_now}
 use Rattle.model.specs.Router as free
 use Rattle.model.specs.Legal.{Asks, Free}
-use Rattle.state.specs.declared.OutVc.{OutVc}
 use Rattle.state.specs.declared.Binding.{Binding}
 use Rattle.state.specs.declared.Binding.TheVariants.{Unbound, Bound}
 use Rattle.state.specs.declared.Router.{Router}
