@@ -340,6 +340,17 @@ def tidy(text):
     return text
 
 
+def by_name_of_clause(text, names):
+    """Where a function has several clauses, the answer at its return is a record of them by name."""
+    m = re.search(r"^\S+ \S+ =\s*((?:.|\n)*)$", text)
+    whole = m.group(1).strip() if m else ""
+    if names and whole.startswith("(") and whole.endswith(")"):
+        parts = pieces(whole[1:-1])
+        if len(parts) == len(names):
+            return text[: m.start(1)].rstrip() + "\n    record {\n" + "".join(f"      {n} = {t};\n" for n, t in zip(names, parts)) + "    }"
+    return text
+
+
 def turn(path, names, crate):
     said = []
     text = open(path, encoding="utf-8").read()
@@ -419,15 +430,9 @@ def turn(path, names, crate):
                 continue
             if len(params) == 2 and params[1] == "κs":
                 params = params[:1]
-            names = CLAUSES.get(f.own, {}).get("ensures")
-            whole = rhs.strip()
-            if now.startswith("returns") and names and whole.startswith("(") and whole.endswith(")"):
-                parts = pieces(whole[1:-1])
-                if len(parts) == len(names):
-                    rhs = "\n    record {\n" + "".join(f"      {n} = {t};\n" for n, t in zip(names, parts)) + "    }"
             # other names of the answer in its own text
             term = now + " " + " ".join(params) + " =" + rhs
-            lines = ([comment] if comment else []) + [f"pub {now} : goal.{now}"] + unf + [tidy(f.body(term, f.env(now, params[0]), now))]
+            lines = ([comment] if comment else []) + [f"pub {now} : goal.{now}"] + unf + [by_name_of_clause(tidy(f.body(term, f.env(now, params[0]), now)), CLAUSES.get(f.own, {}).get("ensures") if now.startswith("returns") else None)]
             out.append("\n".join(lines))
             continue
         m = re.search(r"^abbrev (?:pub )?((?:invariant|decreases)\S*) : tie\.", b, re.M)
@@ -482,7 +487,7 @@ def invariants_of(f, inv, head, uses, goals, said):
             said.append(f"{f.path}: {name} has {len(params)} variables, the loop {len(fields)}: {fields}")
         for p, fld in zip(params, fields):
             if p != "_":
-                rhs = re.sub(r"(?<![\w.'₀-₉-])" + re.escape(p) + r"(?![\w'₀-₉-])", lambda mm: "l." + fld, rhs)
+                rhs = re.sub(r"(?<![\w.'₀-₉-])" + re.escape(p) + r"(?![\w'₀-₉-])(?! = )", lambda mm: "l." + fld, rhs)
         out.append("\n".join(comment + [f"abbrev pub {kind}-{new_loop} : goal.{kind}-{new_loop}"] + unf + [f"{kind}-{new_loop} l =" + rhs]))
     return "\n".join(head + uses + [goals + ".Given as goal", ""]) + "\n" + "\n\n".join(out) + "\n"
 

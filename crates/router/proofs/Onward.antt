@@ -33,12 +33,14 @@ module _ (part : List ℕ) (n : ℕ) (c : Call) where
 pub goes_full : (part : List ℕ) (n : ℕ) (c : Call) → 0 < n → c.writing.run.over ≡ false
     → lacks_block_room c.writing.buffer c.writing.at ≡ true → going_on part n c ≡ stops c
 unfolding going_on
+goes_full part zero c l e f = elim l [ ]
 goes_full part (suc n) c l e f = rw (e, f)
 
 pub goes_more : (part : List ℕ) (n : ℕ) (c : Call) → 0 < n → c.writing.run.over ≡ false
     → lacks_block_room c.writing.buffer c.writing.at ≡ false
     → going_on part (n - 1) (takes part c) ≡ going_on part n c
 unfolding going_on
+goes_more part zero c l e f = elim l [ ]
 goes_more part (suc n) c l e f = let g : suc n - 1 ≡ n = omega arith in rw (e, f, g)
 
 -- as many bytes as a piece has are that piece

@@ -1,0 +1,13 @@
+-- `router::allocation::move_on` meets its contract.
+-- Assumes nothing.
+use mathlib.Core.Path.{◌≡◌}
+use Prim.Native.Nat.{◌-◌, ◌≤◌}
+use Rattle.rules.specs.Ports.{over_ports}
+use Rattle.router.proofs.Binding.{arbiter_turn}
+use Rattle.router.proofs.allocation.move_on.Given as goal
+
+abbrev pub invariant-loop-next : goal.invariant-loop-next
+invariant-loop-next l = (l.next ≤ l.config.ports) × (l.vcs ≡ over_ports l.next (arbiter_turn l.config l.n l.made) l.initial.vcs)
+
+abbrev pub decreases-loop-next : goal.decreases-loop-next
+decreases-loop-next l = l.config.ports - l.next
