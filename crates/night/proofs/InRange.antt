@@ -70,6 +70,7 @@ refusal_named s part sound r e = go r.number r.port ((refused_exactly s part r.n
         f.inside
     go _ p (later _ (later _ (later _ (later _ (later _ (later _ (this f))))))) = named 5 p s.config.ports (omega arith) (omega arith)
         ports f.inside
+    go n p (later _ (later _ (later _ (later _ (later _ (later _ (later _ x70))))))) = elim x70 [ ]
 
 -- the field that goes with 1 is one of seven
 field_few : (c : Config) (k : ℕ) → illegal_field c ≡ some k → k ≤ 7
