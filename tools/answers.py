@@ -415,6 +415,7 @@ def turn(path, names, crate):
                 now = old
             comment = "\n".join(l for l in b.split("\n") if l.startswith("--"))
             code = "\n".join(l for l in b.split("\n") if not l.startswith("--"))
+            code = re.sub(r"(?m)^(unfolding [^\n]*)\n +(?=[^\n]*$)", lambda k: k.group(1) + " ", code)
             sig, *more = code.split("\n")
             unf = [l for l in more if l.startswith("unfolding")]
             term = "\n".join(l for l in more if not l.startswith("unfolding"))

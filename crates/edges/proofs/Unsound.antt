@@ -10,7 +10,6 @@ use Rattle.base.specs.Flit.{flit_of, kind_of, destination_of, starts_kind, ends_
 use Rattle.base.specs.Numbers as numbers
 use Rattle.base.specs.Search.{every}
 use Rattle.base.specs.Sizes.{illegal_field, first_illegal, in_range}
-use Rattle.base.proofs.Search as search
 use Rattle.arbiter.specs.Arbiter as arbiter
 use Rattle.arbiter.specs.Matrix.{list_of, blank_from}
 use Rattle.state.specs.declared.Router.{Router}

@@ -1,0 +1,11 @@
+-- `edges::arbiters::same_wide` meets its contract: all its parts are compared.
+-- Assumes nothing.
+use Rattle.edges.proofs.Telling.{numbers, paired}
+use Rattle.edges.proofs.Structs.{wide_tells}
+use Rattle.edges.proofs.arbiters.same_wide.Goals as goal
+
+pub returns : goal.returns
+returns c =
+    let x = c.args.a in
+    let y = c.args.b in
+    wide_tells x y (paired _ _ _ c.both.ensures (numbers x.pointer y.pointer) c.rows.ensures)
