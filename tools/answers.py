@@ -110,6 +110,18 @@ def lent_names(root):
     return out
 
 
+def generic_names(root):
+    """The functions with a type parameter: their answers and invariants take `g` first."""
+    out = set()
+    for path in glob.glob(os.path.join(root, "crates/*/src/**/*.rt"), recursive=True):
+        parts = os.path.relpath(path, os.path.join(root, "crates"))[:-3].split("/")
+        module = [parts[0]] + [p for p in parts[2:] if p not in ("lib", "main", "mod")]
+        for m in re.finditer(r"\bfn (\w+)<[A-Z]", open(path, encoding="utf-8").read()):
+            out.add("::".join(module + [m.group(1)]))
+    return out
+
+
+GENERIC = set()
 LENT = {}
 WORDS = {}
 CLAUSES = {}
@@ -432,7 +444,7 @@ def turn(path, names, crate):
             if len(params) == 2 and params[1] == "κs":
                 params = params[:1]
             # other names of the answer in its own text
-            term = now + " " + " ".join(params) + " =" + rhs
+            term = now + " " + " ".join((["g"] if f.own in GENERIC else []) + params) + " =" + rhs
             lines = ([comment] if comment else []) + [f"pub {now} : goal.{now}"] + unf + [by_name_of_clause(tidy(f.body(term, f.env(now, params[0]), now)), CLAUSES.get(f.own, {}).get("ensures") if now.startswith("returns") else None)]
             out.append("\n".join(lines))
             continue
@@ -489,7 +501,7 @@ def invariants_of(f, inv, head, uses, goals, said):
         for p, fld in zip(params, fields):
             if p != "_":
                 rhs = re.sub(r"(?<![\w.'₀-₉-])" + re.escape(p) + r"(?![\w'₀-₉-])(?! = )", lambda mm: "l." + fld, rhs)
-        out.append("\n".join(comment + [f"abbrev pub {kind}-{new_loop} : goal.{kind}-{new_loop}"] + unf + [f"{kind}-{new_loop} l =" + rhs]))
+        out.append("\n".join(comment + [f"abbrev pub {kind}-{new_loop} : goal.{kind}-{new_loop}"] + unf + [f"{kind}-{new_loop} {'g ' if f.own in GENERIC else ''}l =" + rhs]))
     return "\n".join(head + uses + [goals + ".Given as goal", ""]) + "\n" + "\n\n".join(out) + "\n"
 
 
@@ -498,6 +510,7 @@ def main():
     crate = sys.argv[2]
     only = sys.argv[3:]
     CLAUSES.update(clause_names(os.path.join(crate, "../..")))
+    GENERIC.update(generic_names(os.path.join(crate, "../..")))
     LENT.update(lent_names(os.path.join(crate, "../..")))
     if os.environ.get("WORDS"):
         WORDS.update(l.split() for l in open(os.environ["WORDS"], encoding="utf-8") if len(l.split()) == 2)

@@ -1,7 +1,8 @@
-// Reading from a descriptor.
+// Reading from a stream.
 ghost use Rattle.io.specs.Counts.{IsPrefixLen};
 
 use crate::TRIES;
+use std::io::Read;
 
 // The bytes at the start of a buffer that were read, and whether the input could not be read on.
 #[derive(Clone, Copy)]
@@ -11,32 +12,33 @@ pub struct Filled {
 }
 
 // Reads until the buffer is full or the input ends. The tries are given back after each byte that came.
-pub fn fill(from: i32, buf: &mut [u8]) -> Filled
+pub fn fill<R: Read>(from: &mut R, buf: &mut [u8]) -> Filled
     ensures { IsPrefixLen result.bytes buf.new }
 {
     let mut bytes: usize = 0;
     let mut tries = TRIES;
     while bytes < buf.len() {
-        let got = libc::read(from, &mut buf[bytes..]);
-        if got == 0 {
-            return Filled {
-                bytes,
-                failed: false,
-            };
-        }
-        let more = io::count(got, &buf[bytes..]);
-        if more == 0 {
-            if tries == 0 {
-                return Filled {
-                    bytes,
-                    failed: true,
-                };
+        match from.read(&mut buf[bytes..]) {
+            Ok(more) => {
+                if more == 0 {
+                    return Filled {
+                        bytes,
+                        failed: false,
+                    };
+                }
+                bytes += more;
+                tries = TRIES;
             }
-            tries -= 1;
-            continue;
+            Err(_) => {
+                if tries == 0 {
+                    return Filled {
+                        bytes,
+                        failed: true,
+                    };
+                }
+                tries -= 1;
+            }
         }
-        bytes += more;
-        tries = TRIES;
     }
     Filled {
         bytes,

@@ -1,10 +1,11 @@
-// Writing to a descriptor.
+// Writing to a stream.
 ghost use Rattle.floor.specs.Handing.{Puts};
 
 use crate::TRIES;
+use std::io::Write;
 
 // Writes the first bytes of a buffer, or answers false. The tries are given back after each byte that went.
-pub fn put(to: i32, buf: &[u8], bytes: usize) -> bool
+pub fn put<W: Write>(to: &mut W, buf: &[u8], bytes: usize) -> bool
     ensures { Puts buf.now bytes result }
 {
     if buf.len() < bytes {
@@ -13,17 +14,25 @@ pub fn put(to: i32, buf: &[u8], bytes: usize) -> bool
     let mut done: usize = 0;
     let mut tries = TRIES;
     while done < bytes {
-        let gone = libc::write(to, &buf[done..bytes]);
-        let more = io::count(gone, &buf[done..bytes]);
-        if more == 0 {
-            if tries == 0 {
-                return false;
+        match to.write(&buf[done..bytes]) {
+            Ok(more) => {
+                if 0 < more {
+                    done += more;
+                    tries = TRIES;
+                    continue;
+                }
+                if tries == 0 {
+                    return false;
+                }
+                tries -= 1;
             }
-            tries -= 1;
-            continue;
+            Err(_) => {
+                if tries == 0 {
+                    return false;
+                }
+                tries -= 1;
+            }
         }
-        done += more;
-        tries = TRIES;
     }
     true
 }

@@ -6,18 +6,18 @@ mod messages;
 
 use floor::Ended;
 
-fn main() {
+fn main(rt: HostRuntime) {
     let mut buf = io::large_buffer();
     let mut out = io::large_buffer();
-    let listed = floor::list(libc::STDIN_FILENO, &mut buf, &mut out, libc::STDOUT_FILENO);
+    let listed = floor::list(&mut rt.stdin(), &mut buf, &mut out, &mut rt.stdout());
     let ended = listed.ended;
     match ended {
         Ended::Over => {}
         Ended::Unread => {
-            messages::read_failed();
+            messages::read_failed(&rt.stderr());
         }
         Ended::Stopped(_) => {
-            messages::write_failed();
+            messages::write_failed(&rt.stderr());
         }
     }
 }

@@ -5,6 +5,7 @@
 
 use floor::Stop;
 use runs::Run;
+use std::io::{Read, Write};
 
 // A part's length, from the two bytes before it.
 fn length(high: u8, low: u8) -> usize {
@@ -12,12 +13,18 @@ fn length(high: u8, low: u8) -> usize {
 }
 
 // A proved loop has to end, so the parts are counted down.
-fn replay(head: &mut [u8], buf: &mut [u8], out: &mut [u8]) {
+fn replay<R: Read, W: Write>(
+    from: &mut R,
+    head: &mut [u8],
+    buf: &mut [u8],
+    out: &mut [u8],
+    to: &mut W,
+) {
     let mut run = Run::start();
     let mut parts = u64::MAX;
     while 0 < parts {
         parts -= 1;
-        let before = floor::fill(libc::STDIN_FILENO, head);
+        let before = floor::fill(from, head);
         if before.bytes < 2 {
             return;
         }
@@ -25,11 +32,11 @@ fn replay(head: &mut [u8], buf: &mut [u8], out: &mut [u8]) {
         if buf.len() < bytes {
             return;
         }
-        let filled = floor::fill(libc::STDIN_FILENO, &mut buf[0..bytes]);
+        let filled = floor::fill(from, &mut buf[0..bytes]);
         if filled.bytes < bytes {
             return;
         }
-        let passed = floor::pass(run, &buf[0..bytes], out, libc::STDOUT_FILENO);
+        let passed = floor::pass(run, &buf[0..bytes], out, to);
         let stop = passed.stop;
         let Stop::Whole = stop else {
             return;
@@ -42,9 +49,15 @@ fn replay(head: &mut [u8], buf: &mut [u8], out: &mut [u8]) {
     }
 }
 
-fn main() {
+fn main(rt: HostRuntime) {
     let mut head = [0u8; 2];
     let mut buf = io::large_buffer();
     let mut out = io::large_buffer();
-    replay(&mut head, &mut buf, &mut out);
+    replay(
+        &mut rt.stdin(),
+        &mut head,
+        &mut buf,
+        &mut out,
+        &mut rt.stdout(),
+    );
 }

@@ -1,0 +1,25 @@
+-- `floor::whole::list` meets its contract: pieces of the input handed over one after another.
+-- Assumes nothing.
+use mathlib.Core.Path.{◌≡◌, refl, sym, subst, ◌∙◌}
+use mathlib.Core.Bool.{true}
+use mathlib.Core.List.{List, [], ◌∷◌}
+use Prim.Native.Nat.{ℕ}
+use lib.ListN.{length, take}
+use borrow.Author.Rules.{rules}
+use borrow.Author.Tests.{not-true, not-false}
+use Rattle.floor.specs.declared.whole.Ended.{Ended}
+use Rattle.runs.specs.declared.Run.{Run}
+use Rattle.runs.specs.Run.{started}
+use Rattle.floor.specs.Handing.{Handed, is_whole_list, HandsOver, Lists, unread, stopped, over, goes}
+use Rattle.floor.proofs.Calls.{handing_piece}
+use Rattle.floor.proofs.whole.list.Given as goal
+
+-- pieces after those that were handed over make a night with them
+abbrev pub invariant-loop-left : goal.invariant-loop-left
+invariant-loop-left g l =
+    (length l.buf ≡ length l.initial.buf) × (length l.out ≡ length l.initial.out)
+    × ((pieces : List (List ℕ)) (r : Ended) (g : Handed) → Lists (length l.initial.buf) (record { run = l.run; buffer = l.out }) pieces r g
+    → (all : List (List ℕ)) × Lists (length l.initial.buf) (record { run = started; buffer = l.initial.out }) all r g)
+
+abbrev pub decreases-loop-left : goal.decreases-loop-left
+decreases-loop-left g l = l.left
