@@ -2,10 +2,10 @@
 -- Assumes nothing.
 use mathlib.Core.Path.{◌≡◌, refl, sym, ap, subst, ◌∙◌}
 use mathlib.Core.Logic.{◌⊎◌, inl, inr}
-use mathlib.Core.Bool.{Bool, true, false, cond, ◌&&◌, true≢false}
+use mathlib.Core.Bool.{Bool, true, false, cond, true≢false}
 use mathlib.Core.List.{List, [], ◌∷◌, ◌++◌, append_assoc, append-nil}
 use mathlib.Core.Option.{some, none, none-ne-some, some-injective}
-use Prim.Native.Nat.{ℕ, suc, ◌+◌, ◌-◌, ◌*◌, ◌/◌, ◌%◌, ◌≤◌, ◌<◌}
+use Prim.Native.Nat.{ℕ, ◌-◌, ◌*◌, ◌/◌, ◌%◌, ◌≤◌, ◌<◌}
 use native.Mathlib.Omega.{arith}
 use lib.Dec.{eqb, ltb}
 use lib.ListN.{length, take, drop, length-append, length-drop}
@@ -13,7 +13,6 @@ use lib.Seq.{take-append_seam, drop-append_seam, drop-append-le}
 use borrow.Author.Tests.{eqb-true, ltb-true}
 use Rattle.base.proofs.Search.{both}
 use Rattle.trace.specs.Bytes.{AreBytes}
-use Rattle.runs.specs.declared.Run.{Run}
 use Rattle.runs.specs.Run.{started, run_sound}
 use Rattle.router.specs.declared.entry.Ran.{Ran}
 use Rattle.night.specs.Calls.{wrote_in, MayHand, whole, all, Hands, done, hand}

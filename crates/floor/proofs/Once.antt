@@ -3,12 +3,12 @@
 use mathlib.Core.Path.{◌≡◌, refl, sym, ap, subst, ◌∙◌}
 use mathlib.Core.Bool.{Bool, true, false, true≢false}
 use mathlib.Core.List.{List}
-use mathlib.Core.Option.{some, none, none-ne-some, some-injective}
+use mathlib.Core.Option.{none-ne-some, some-injective}
 use Prim.Native.Nat.{ℕ, suc, ◌+◌}
 use native.Mathlib.Omega.{arith}
 use Rattle.floor.specs.declared.passing.Stop.{Stop}
 use Rattle.floor.specs.declared.passing.Stop.TheVariants.{Whole, Beyond, Uneven, Refused, NoRoom, NotWritten}
-use Rattle.floor.specs.Handing.{Handed, called, handed_by, stop_of, Passes, stops, fails, goes, calls, is_whole_list, Finishes, stopped, over}
+use Rattle.floor.specs.Handing.{Handed, Passes, stops, fails, goes, calls, is_whole_list, Finishes, stopped, over}
 use Rattle.floor.specs.Handing.{ends, HandsOver, uneven, fills, last, Handing, beyond, hands}
 
 -- with the calls made, run and buffer are an equation, where lines were not written too

@@ -3,9 +3,7 @@
 use mathlib.Core.Path.{sym, ◌∙◌}
 use mathlib.Core.List.{[]}
 use native.Mathlib.Omega.{arith}
-use borrow.Author.Rules.{rules}
-use borrow.Author.Tests.{not-true, not-false}
-use Rattle.floor.specs.Handing.{Finishes, stopped, over, ends}
+use Rattle.floor.specs.Handing.{stopped, over, ends}
 use Rattle.floor.proofs.Calls.{passes_few}
 use Rattle.floor.proofs.passing.finish.Goals as goal
 

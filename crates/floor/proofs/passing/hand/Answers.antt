@@ -8,7 +8,6 @@ use native.Mathlib.Omega.{arith}
 use lib.ListN.{length, take}
 use lib.Seq.{length-take-le}
 use borrow.Author.Rules.{rules}
-use borrow.Author.Tests.{not-true, not-false}
 use Rattle.trace.specs.Bytes.{AreBytes}
 use Rattle.router.proofs.Going.{piece_bytes}
 use Rattle.floor.specs.Handing.{Passes, is_whole_blocks, uneven, fills, last, beyond, hands}

@@ -1,6 +1,5 @@
 -- `floor::passing::holds_blocks` meets its contract.
 -- Assumes nothing.
-use mathlib.Core.Path.{refl}
 use native.Mathlib.Omega.{arith}
 use borrow.Author.Tests.{lt-ltb}
 use Rattle.floor.proofs.passing.holds_blocks.Goals as goal

@@ -1,7 +1,6 @@
 -- `floor::passing::is_whole` meets its contract.
 -- Assumes nothing.
 use mathlib.Core.Path.{sym, ap}
-use borrow.Author.Rules.{rules}
 use Rattle.floor.specs.Handing.{is_whole_list}
 use Rattle.floor.proofs.passing.is_whole.Goals as goal
 

@@ -1,7 +1,7 @@
 -- `floor::passing::pass` meets its contract: a part handed over call by call; it stays inside its part and its buffer and ends.
 -- Assumes nothing.
 use mathlib.Core.Path.{◌≡◌, refl, sym, ap, subst, ◌∙◌}
-use mathlib.Core.Bool.{true, true≢false}
+use mathlib.Core.Bool.{true≢false}
 use mathlib.Core.List.{List}
 use native.Mathlib.Nat.{zero-add}
 use native.Mathlib.Omega.{arith}
@@ -9,11 +9,9 @@ use Prim.Native.Nat.{ℕ, suc, ◌+◌, ◌-◌, ◌≤◌, ◌<◌}
 use lib.ListN.{length, take, drop, length-drop}
 use lib.Seq.{drop-drop}
 use borrow.Author.Rules.{rules}
-use borrow.Author.Tests.{not-true, not-false}
 use Rattle.base.proofs.Lists.{rest_of}
 use Rattle.runs.specs.declared.Run.{Run}
 use Rattle.router.specs.Running.{CallOutcome, ran_of}
-use Rattle.floor.specs.declared.passing.Stop.{Stop}
 use Rattle.floor.specs.Handing.{Handed, called, handed_by, Passes}
 use Rattle.floor.proofs.Calls.{call_most, refused_passes, unwritten-passes, whole-passes, full-passes, more-passes}
 use Rattle.floor.proofs.passing.pass.Goals as goal

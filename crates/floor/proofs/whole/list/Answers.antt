@@ -6,10 +6,7 @@ use mathlib.Core.List.{List, [], ◌∷◌}
 use Prim.Native.Nat.{ℕ}
 use lib.ListN.{length, take}
 use borrow.Author.Rules.{rules}
-use borrow.Author.Tests.{not-true, not-false}
-use Rattle.floor.specs.declared.whole.Ended.{Ended}
 use Rattle.runs.specs.declared.Run.{Run}
-use Rattle.runs.specs.Run.{started}
 use Rattle.floor.specs.Handing.{Handed, is_whole_list, HandsOver, Lists, unread, stopped, over, goes}
 use Rattle.floor.proofs.Calls.{handing_piece}
 use Rattle.floor.proofs.whole.list.Given.{Over}

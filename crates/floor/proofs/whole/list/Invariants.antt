@@ -1,17 +1,12 @@
 -- `floor::whole::list` meets its contract: pieces of the input handed over one after another.
 -- Assumes nothing.
-use mathlib.Core.Path.{◌≡◌, refl, sym, subst, ◌∙◌}
-use mathlib.Core.Bool.{true}
-use mathlib.Core.List.{List, [], ◌∷◌}
+use mathlib.Core.Path.{◌≡◌}
+use mathlib.Core.List.{List}
 use Prim.Native.Nat.{ℕ}
-use lib.ListN.{length, take}
-use borrow.Author.Rules.{rules}
-use borrow.Author.Tests.{not-true, not-false}
+use lib.ListN.{length}
 use Rattle.floor.specs.declared.whole.Ended.{Ended}
-use Rattle.runs.specs.declared.Run.{Run}
 use Rattle.runs.specs.Run.{started}
-use Rattle.floor.specs.Handing.{Handed, is_whole_list, HandsOver, Lists, unread, stopped, over, goes}
-use Rattle.floor.proofs.Calls.{handing_piece}
+use Rattle.floor.specs.Handing.{Handed, Lists}
 use Rattle.floor.proofs.whole.list.Given as goal
 
 -- pieces after those that were handed over make a night with them
