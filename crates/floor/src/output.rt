@@ -2,10 +2,10 @@
 ghost use Rattle.floor.specs.Handing.{Puts};
 
 use crate::TRIES;
-use std::io::Write;
+use std::io::Print;
 
 // Writes the first bytes of a buffer, or answers false. The tries are given back after each byte that went.
-pub fn put<W: Write>(to: &mut W, buf: &[u8], bytes: usize) -> bool
+pub fn put<P: Print>(to: &P, buf: &[u8], bytes: usize) -> bool
     ensures { Puts buf.now bytes result }
 {
     if buf.len() < bytes {
@@ -14,7 +14,7 @@ pub fn put<W: Write>(to: &mut W, buf: &[u8], bytes: usize) -> bool
     let mut done: usize = 0;
     let mut tries = TRIES;
     while done < bytes {
-        match to.write(&buf[done..bytes]) {
+        match to.write_some(&buf[done..bytes]) {
             Ok(more) => {
                 if 0 < more {
                     done += more;

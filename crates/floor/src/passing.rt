@@ -5,7 +5,7 @@ ghost use Rattle.floor.specs.Handing.{Passes, is_whole_list, is_whole_blocks, Fi
 use crate::output;
 use base::DONE;
 use runs::Run;
-use std::io::Write;
+use std::io::Print;
 
 // Why no further call was made.
 #[derive(Clone, Copy)]
@@ -33,7 +33,7 @@ pub struct Passed {
 }
 
 // Hands a part over until it is used up or the run is over. Each call but the last uses a block at least.
-pub fn pass<W: Write>(before: Run, part: &[u8], out: &mut [u8], to: &mut W) -> Passed
+pub fn pass<P: Print>(before: Run, part: &[u8], out: &mut [u8], to: &P) -> Passed
     ensures { Passes part.now (record { run = before; buffer = out.old }) result.calls result.stop
         (record { run = result.run; buffer = out.new }) }
 {
@@ -105,7 +105,7 @@ fn holds_blocks(bytes: usize) -> bool
 }
 
 // The end of the input: an empty part, where all before it was handed over and the run is not over.
-fn finish<W: Write>(passed: Passed, buf: &[u8], out: &mut [u8], to: &mut W) -> Passed
+fn finish<P: Print>(passed: Passed, buf: &[u8], out: &mut [u8], to: &P) -> Passed
     requires { passed.calls ≤ 9223372036854775808 }
     ensures { Finishes (record { run = passed.run; buffer = out.old }) passed.calls passed.stop result.calls result.stop
         (record { run = result.run; buffer = out.new }) }
@@ -129,7 +129,7 @@ fn finish<W: Write>(passed: Passed, buf: &[u8], out: &mut [u8], to: &mut W) -> P
 }
 
 // Hands over what was read into a buffer of some whole blocks: its first bytes, and where they do not fill it, the end of the input.
-pub fn hand<W: Write>(run: Run, buf: &[u8], bytes: usize, out: &mut [u8], to: &mut W) -> Passed
+pub fn hand<P: Print>(run: Run, buf: &[u8], bytes: usize, out: &mut [u8], to: &P) -> Passed
     ensures { Handing buf.now bytes (record { run = run; buffer = out.old }) result.calls result.stop
         (record { run = result.run; buffer = out.new }) }
 {

@@ -6,7 +6,7 @@ ghost use Rattle.floor.specs.Handing.{Lists};
 use crate::passing::Stop;
 use crate::{input, passing};
 use runs::Run;
-use std::io::{Read, Write};
+use std::io::{Print, Read};
 
 // How a night ended.
 #[derive(Clone, Copy)]
@@ -27,7 +27,7 @@ pub struct Listed {
 
 // Reads until the buffer is full or the input ends, hands over what was read, and so on until the run is over. A proved loop has to end, so
 // the pieces are counted down from more than there can be.
-pub fn list<R: Read, W: Write>(from: &mut R, buf: &mut [u8], out: &mut [u8], to: &mut W) -> Listed
+pub fn list<R: Read, P: Print>(from: &mut R, buf: &mut [u8], out: &mut [u8], to: &P) -> Listed
     ensures { (pieces : List (List ℕ)) × Lists (length buf.old) (record { run = started; buffer = out.old })
         pieces result.ended (record { run = result.run; buffer = out.new }) }
 {

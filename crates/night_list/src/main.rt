@@ -9,7 +9,7 @@ use floor::Ended;
 fn main(rt: HostRuntime) {
     let mut buf = io::large_buffer();
     let mut out = io::large_buffer();
-    let listed = floor::list(&mut rt.stdin(), &mut buf, &mut out, &mut rt.stdout());
+    let listed = floor::list(&mut rt.stdin(), &mut buf, &mut out, &rt.stdout());
     let ended = listed.ended;
     match ended {
         Ended::Over => {}

@@ -10,9 +10,13 @@ use Rattle.listing.specs.declared.Written.{Written}
 use Rattle.listing.specs.declared.Written.TheVariants.{Lines, NoRoom, OutOfRange}
 use Rattle.listing.specs.Writing.{WriteOutcome, write_outcome}
 use Rattle.listing.proofs.has_room as room
+use Rattle.listing.specs.contracts.has_room as room_contract
 use Rattle.listing.proofs.write_cycle as cycle
+use Rattle.listing.specs.contracts.write_cycle as cycle_contract
 use Rattle.listing.proofs.write_end as end
+use Rattle.listing.specs.contracts.write_end as end_contract
 use Rattle.listing.proofs.write_refusal as refusal
+use Rattle.listing.specs.contracts.write_refusal as refusal_contract
 use Rattle.outcomes.specs.Once.{Once}
 use Rattle.outcomes.proofs.Seen.{seen_once}
 
@@ -34,14 +38,14 @@ write_once r s b d p q =
     let e = seen_once said_by written_of written_back (r, b) (s, d) p q in
     (ap (λ (x : Written × List ℕ). x.0) e, ap (λ (x : Written × List ℕ). x.1) e)
 
-pub write_cycle_once : Once cycle.ended cycle.Reads.Asked cycle.Reads.Learnt
+pub write_cycle_once : Once cycle_contract.ended cycle.Reads.Asked cycle.Reads.Learnt
 write_cycle_once κs a = (tt, λ r s u v p q. let e = write_once r s u.0 v.0 p q in (e.0, λ i. (e.1 i, v.1)))
 
-pub write_end_once : Once end.ended end.Reads.Asked end.Reads.Learnt
+pub write_end_once : Once end_contract.ended end.Reads.Asked end.Reads.Learnt
 write_end_once κs a = (tt, λ r s u v p q. let e = write_once r s u.0 v.0 p q in (e.0, λ i. (e.1 i, v.1)))
 
-pub write_refusal_once : Once refusal.ended refusal.Reads.Asked refusal.Reads.Learnt
+pub write_refusal_once : Once refusal_contract.ended refusal.Reads.Asked refusal.Reads.Learnt
 write_refusal_once κs a = (tt, λ r s u v p q. let e = write_once r s u.0 v.0 p q in (e.0, λ i. (e.1 i, v.1)))
 
-pub has_room_once : Once room.ended room.Reads.Asked room.Reads.Learnt
+pub has_room_once : Once room_contract.ended room.Reads.Asked room.Reads.Learnt
 has_room_once κs a = (tt, λ r s u v p q. (p ∙ sym q, refl))

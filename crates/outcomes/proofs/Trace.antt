@@ -15,9 +15,13 @@ use Rattle.trace.specs.declared.judging.Answer.{Answer}
 use Rattle.trace.specs.Judged.{Read, a_configuration, some_cycles, the_end, no_more, BlockOutcome, meaning, block_outcome}
 use Rattle.trace.specs.Cycles.{slice_of}
 use Rattle.trace.proofs.judge as judge
+use Rattle.trace.specs.contracts.judge as judge_contract
 use Rattle.trace.proofs.cycle_part as part
+use Rattle.trace.specs.contracts.cycle_part as part_contract
 use Rattle.trace.proofs.place.Place.start as start
+use Rattle.trace.specs.contracts.place.Place.start as start_contract
 use Rattle.trace.proofs.is_good as good
+use Rattle.trace.specs.contracts.is_good as good_contract
 use Rattle.outcomes.specs.Once.{Once, OnceSeen}
 use Rattle.outcomes.proofs.Seen.{seen_once}
 
@@ -40,21 +44,28 @@ found_back found.End p = refl
 found_back found.Done p = refl
 found_back (found.Refused n k) p = refl
 
-pub judge_once : Once judge.ended judge.Reads.Asked judge.Reads.Learnt
+pub judge_once : Once judge_contract.ended judge.Reads.Asked judge.Reads.Learnt
 judge_once κs a = (tt, λ r s u v p q. (seen_once block_outcome answer_of (λ x. found_back x.found x.place) r s p q, refl))
 
 -- The one exception: of the slice handed back the contract determines memory, start and bytes, all that a program has of it.
 -- The name under which the proofs follow a reference is free, as the second law says: any other does as well.
-pub cycle_part_once : OnceSeen part.ended (λ κs. slice_of) part.Reads.Asked part.Reads.Learnt
+pub cycle_part_once : OnceSeen part_contract.ended (λ κs. slice_of) part.Reads.Asked part.Reads.Learnt
 cycle_part_once κs a = (tt, λ r s u v p q. (p ∙ sym q, refl))
 
-pub cycle_part_name_free : (κs : Lfts 1) (a : Args part.signature κs) (r : Bor (List ℕ)) (u : Lasts part.ended κs a) (other : ℕ)
-    → part.Reads.Learnt κs a r (at_exit part.ended κs a u)
-    → part.Reads.Learnt κs a (record { ref_ptr = r.ref_ptr; ghost_name = other; now = r.now }) (at_exit part.ended κs a u)
+-- Today's Rattle gives a slice that is only read no such name, so that nothing is left open.
+pub cycle_part_whole_once : Once part_contract.ended part.Reads.Asked part.Reads.Learnt
+cycle_part_whole_once κs a = (
+  tt,
+  λ r s u v p q. (λ i. let e = (p ∙ sym q) i in record { ref_ptr = (e.memory, e.start); now = e.bytes }, refl),
+)
+
+pub cycle_part_name_free : (κs : Lfts 1) (a : Args part_contract.signature κs) (r : Bor (List ℕ)) (u : Lasts part_contract.ended κs a) (other : ℕ)
+    → part.Reads.Learnt κs a r (at_exit part_contract.ended κs a u)
+    → part.Reads.Learnt κs a (record { ref_ptr = r.ref_ptr; now = r.now }) (at_exit part_contract.ended κs a u)
 cycle_part_name_free κs a r u other p = p
 
-pub start_once : Once start.ended start.Reads.Asked start.Reads.Learnt
+pub start_once : Once start_contract.ended start.Reads.Asked start.Reads.Learnt
 start_once κs a = (tt, λ r s u v p q. (p ∙ sym q, refl))
 
-pub is_good_once : Once good.ended good.Reads.Asked good.Reads.Learnt
+pub is_good_once : Once good_contract.ended good.Reads.Asked good.Reads.Learnt
 is_good_once κs a = (tt, λ r s u v p q. (p ∙ sym q, refl))

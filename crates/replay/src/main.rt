@@ -5,7 +5,7 @@
 
 use floor::Stop;
 use runs::Run;
-use std::io::{Read, Write};
+use std::io::{Print, Read};
 
 // A part's length, from the two bytes before it.
 fn length(high: u8, low: u8) -> usize {
@@ -13,12 +13,12 @@ fn length(high: u8, low: u8) -> usize {
 }
 
 // A proved loop has to end, so the parts are counted down.
-fn replay<R: Read, W: Write>(
+fn replay<R: Read, P: Print>(
     from: &mut R,
     head: &mut [u8],
     buf: &mut [u8],
     out: &mut [u8],
-    to: &mut W,
+    to: &P,
 ) {
     let mut run = Run::start();
     let mut parts = u64::MAX;
@@ -53,11 +53,5 @@ fn main(rt: HostRuntime) {
     let mut head = [0u8; 2];
     let mut buf = io::large_buffer();
     let mut out = io::large_buffer();
-    replay(
-        &mut rt.stdin(),
-        &mut head,
-        &mut buf,
-        &mut out,
-        &mut rt.stdout(),
-    );
+    replay(&mut rt.stdin(), &mut head, &mut buf, &mut out, &rt.stdout());
 }
