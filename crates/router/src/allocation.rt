@@ -97,7 +97,7 @@ fn free_vc(config: Config, outputs: [OutputVc; 32], o: usize) -> u8
     w
 }
 
-// "One arbiter per output, p_V wide, .. picks one; it is bound to the lowest-numbered free VC."
+// "One arbiter per output, P·V wide, .. picks one; it is bound to the lowest-numbered free VC."
 fn grant(config: Config, outputs: [OutputVc; 32], arbiter: Wide, o: usize, set: u32) -> Granted
     requires { (o < config.ports) × (config.ports ≤ 8) × (config.vcs ≤ 4) }
     ensures { grant_in result ≡ granted (lowest_free_vc config outputs o)

@@ -1,4 +1,4 @@
--- Channels by number: VC v of port i is number i·V+v, below P-as-V, and no other channel has that number.
+-- Channels by number: VC v of port i is number i·V+v, below P·V, and no other channel has that number.
 -- Assumes nothing.
 use mathlib.Core.Path.{◌≡◌, refl, sym, ap, ◌∙◌}
 use mathlib.Core.Bool.{Bool, true, false}
@@ -18,7 +18,7 @@ use Rattle.state.proofs.Made.{channels_fit}
 use Rattle.state.proofs.Naming.{channel_fits}
 
 module _ (c : Config) where
-  -- a channel that there is has a number below P-as-V
+  -- a channel that there is has a number below P·V
   pub channel_below : (i v : ℕ) → i < c.ports → v < c.vcs → channel_number c i v < c.ports * c.vcs
   channel_below i v h g = digits_lt h g
 
@@ -37,7 +37,7 @@ module _ (c : Config) where
       go true e = eq-eqb (channel_number c i u) (channel_number c i v) (ap (channel_number c i) (eqb-true u v e))
       go false e = ne_eqb (channel_number c i u) (channel_number c i v) (λ q. eqb-false u v e (omega arith))
 
-  -- each number below P-as-V is a channel's
+  -- each number below P·V is a channel's
   pub record Split (x : ℕ) : Type 0 where
     pub port : ℕ
     pub vc : ℕ

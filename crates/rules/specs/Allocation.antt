@@ -42,7 +42,7 @@ granted none winner = none
 granted (some w) none = none
 granted (some w) (some x) = some (record { requester = x; vc = w })
 
--- "One arbiter per output, p_V wide, .. picks one; it is bound to the lowest-numbered free VC." What output o grants: at most one a cycle.
+-- "One arbiter per output, P·V wide, .. picks one; it is bound to the lowest-numbered free VC." What output o grants: at most one a cycle.
 unfoldable pub grant_of : Router → ℕ → Option Grant
 grant_of s o =
     granted (lowest_free_vc s.config s.outputs o)

@@ -50,7 +50,7 @@ module _ (c : Config) (a : Arbiters) (s : Router Flit) (e : Event Flit) where
   if_free none winner = none
   if_free (some w) winner = winner
 
-  -- "One arbiter per output, p_V wide, requester number i·V+v, picks one"
+  -- "One arbiter per output, P·V wide, requester number i·V+v, picks one"
   unfoldable pub binds_at : ℕ → Option ℕ
   binds_at o =
       if_free (least_free o)

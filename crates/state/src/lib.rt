@@ -55,7 +55,8 @@ pub struct InputVc {
 }
 
 impl InputVc {
-    // The same input VC with this binding. A field that is an enum cannot be written by itself, so the literal is here.
+    // The same input VC with this binding. The literal is here since, with the older kit, a field that is an enum could not be written by
+    // itself.
     pub fn with_binding(self, binding: Binding) -> Self
         ensures { result ≡ set_binding binding self }
     {
