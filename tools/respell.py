@@ -74,7 +74,8 @@ LAWS = {
     "is-some", "good-place", "field-wrong", "cycle-length", "sent-out", "output-credits-fit", "names-agree", "output-credits",
     "passes-by", "leaves-from", "bound-now", "changed-at", "on-vc", "binding-is", "holder-is", "wire-rest", "home-rest", "row-legal",
     "input-unused", "names-pass", "input-names", "output-unused", "output-names", "channels-unused", "fresh-view",
-    "configuration-legal", "wire-flit", "check-wrong",
+    "configuration-legal", "wire-flit", "check-wrong", "leaves-credit", "leaves-flit", "leaves-bound", "binds-vc", "binds-free",
+    "offer-destination", "binds-front", "offer-vc", "binds-unbound", "input-at",
 }
 
 WORD = r"[^\s(){}\[\].,;:=\"`]+"
@@ -86,7 +87,8 @@ def texts(pattern):
 
 
 def made(path):
-    return path.endswith("/Proof.antt")
+    """A file of a function's proof: most of its names are Rattle's."""
+    return path.endswith(("/Proof.antt", "/Answers.antt", "/Invariants.antt"))
 
 
 def bare(text):
@@ -113,10 +115,7 @@ def taken_from_std(text):
 def declared(text):
     """Names at the head of a line: definitions, lemmas; and the fields of records and constructors."""
     for line in text.split("\n"):
-        m = re.match(r"^(?:(?:abbrev|unfoldable|pub|opaque)\s+)*([a-z][^\s:(){}]*)\s*(?:\(|\{|:)", line)
-        if m:
-            yield m.group(1)
-        m = re.match(r"^  (?:pub )?([a-z][^\s:(){}]*)\s*:", line)
+        m = re.match(r"^\s*(?:(?:abbrev|unfoldable|pub|opaque)\s+)*([a-z][^\s:(){}]*)\s*(?:\(|\{|:)", line)
         if m:
             yield m.group(1)
 
@@ -126,7 +125,7 @@ def table():
     everything = antt + texts("crates/*/src/**/*.rt")
     read = {p: bare(open(p, encoding="utf-8").read()) for p in everything}
     std = {w for t in read.values() for w in taken_from_std(t)}
-    words = {w for t in read.values() for w in re.findall(WORD, t)}
+    words = {w for p, t in read.items() if not p.endswith(("/Answers.antt", "/Invariants.antt")) for w in re.findall(WORD, t)}
     functions = {m for p in everything if p.endswith(".rt") for m in re.findall(r"\bfn (\w+)", read[p])}
     names = {}
     for w in words:
@@ -136,7 +135,7 @@ def table():
     for p in antt:
         if not made(p):
             for w in declared(read[p]):
-                if CAMEL.match(w) and "-" in w and w not in std:
+                if CAMEL.match(w) and "-" in w and w not in std and not w.endswith("-law"):
                     names[w] = snake(w)
     together = {}
     for old, new in names.items():
@@ -185,7 +184,7 @@ def main():
     for p in texts("crates/*/specs/**/*.antt") + texts("crates/*/proofs/**/*.antt") + texts("crates/*/src/**/*.rt"):
         text = open(p, encoding="utf-8").read()
         was = text
-        text = re.sub(r"\b([A-Z]\w*)·(\w+)", lambda m: m.group(1).lower() + "_" + m.group(2), text)
+        text = re.sub(r"\b(Line|Digits)·(\w+)", lambda m: m.group(1).lower() + "_" + m.group(2), text)
         if made(p):
             text = aliases(respell(text, names, wanted_in_walk(text, names)), names)
         else:

@@ -178,22 +178,22 @@ module _ (places code n : ℕ) (a : Arbiter) where
 
   module _ (e : known places code n ≡ true) (long : length a.rows ≡ places) where
     -- round robin
-    pub sound-past : code ≡ 1 → n ≤ a.pointer → false ≡ sound places code n a
+    pub sound_past : code ≡ 1 → n ≤ a.pointer → false ≡ sound places code n a
     unfolding sound
-    sound-past k h = rw (e, eq-eqb (length a.rows) places long, eq-eqb code 1 k, le-ltb a.pointer n h)
+    sound_past k h = rw (e, eq-eqb (length a.rows) places long, eq-eqb code 1 k, le-ltb a.pointer n h)
 
-    pub sound-turn : code ≡ 1 → a.pointer < n → blank_from 0 places a.rows ≡ sound places code n a
+    pub sound_turn : code ≡ 1 → a.pointer < n → blank_from 0 places a.rows ≡ sound places code n a
     unfolding sound
-    sound-turn k h = rw (e, eq-eqb (length a.rows) places long, eq-eqb code 1 k, lt-ltb a.pointer n h)
+    sound_turn k h = rw (e, eq-eqb (length a.rows) places long, eq-eqb code 1 k, lt-ltb a.pointer n h)
 
     -- matrix
-    pub sound-pointer : (code ≡ 1 → ⊥) → (a.pointer ≡ 0 → ⊥) → false ≡ sound places code n a
+    pub sound_pointer : (code ≡ 1 → ⊥) → (a.pointer ≡ 0 → ⊥) → false ≡ sound places code n a
     unfolding sound
-    sound-pointer k d = rw (e, eq-eqb (length a.rows) places long, ne_eqb code 1 k, ne_eqb a.pointer 0 d)
+    sound_pointer k d = rw (e, eq-eqb (length a.rows) places long, ne_eqb code 1 k, ne_eqb a.pointer 0 d)
 
-    pub sound-beyond : (code ≡ 1 → ⊥) → blank_from n places a.rows ≡ false → false ≡ sound places code n a
+    pub sound_beyond : (code ≡ 1 → ⊥) → blank_from n places a.rows ≡ false → false ≡ sound places code n a
     unfolding sound
-    sound-beyond k b =
+    sound_beyond k b =
         rw (
           e,
           eq-eqb (length a.rows) places long,
@@ -203,10 +203,10 @@ module _ (places code n : ℕ) (a : Arbiter) where
           and-false (eqb a.pointer 0),
         )
 
-    pub sound-order : (code ≡ 1 → ⊥) → a.pointer ≡ 0 → blank_from n places a.rows ≡ true
+    pub sound_order : (code ≡ 1 → ⊥) → a.pointer ≡ 0 → blank_from n places a.rows ≡ true
         → (total_order n a.rows && within n a.rows) ≡ sound places code n a
     unfolding sound
-    sound-order k z b =
+    sound_order k z b =
         rw (
           e,
           eq-eqb (length a.rows) places long,

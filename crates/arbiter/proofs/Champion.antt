@@ -69,33 +69,33 @@ trying_all n asking rows h = record { low = h; among = λ j p. p; rest = refl }
 
 module _ (n asking : ℕ) (rows : List ℕ) (left : ℕ) (w : n ≤ 32) (h : asking < 2 ^ n) (t : Trying n asking rows left) (some_left : 0 < left)
   where
-    pub trying-first : First (bit left) 32 0 (count_trailing_zeros 32 left)
-    trying-first = trailing_first 32 left (lt_of_lt_of_le t.low (pow_mono w)) some_left
+    pub trying_first : First (bit left) 32 0 (count_trailing_zeros 32 left)
+    trying_first = trailing_first 32 left (lt_of_lt_of_le t.low (pow_mono w)) some_left
 
-    pub trying-below : count_trailing_zeros 32 left < n
-    trying-below = bit_below n left (count_trailing_zeros 32 left) t.low trying-first.passes
+    pub trying_below : count_trailing_zeros 32 left < n
+    trying_below = bit_below n left (count_trailing_zeros 32 left) t.low trying_first.passes
 
-    pub trying-own : 2 ^ count_trailing_zeros 32 left ≤ left
-    trying-own = bit_le left (count_trailing_zeros 32 left) trying-first.passes
+    pub trying_own : 2 ^ count_trailing_zeros 32 left ≤ left
+    trying_own = bit_le left (count_trailing_zeros 32 left) trying_first.passes
 
     asks : bit asking (count_trailing_zeros 32 left) ≡ true
-    asks = t.among (count_trailing_zeros 32 left) trying-first.passes
+    asks = t.among (count_trailing_zeros 32 left) trying_first.passes
 
-    pub trying-wins : covered asking rows (count_trailing_zeros 32 left) ≡ asking → some (count_trailing_zeros 32 left) ≡ champion n (bit asking) rows
-    trying-wins e =
+    pub trying_wins : covered asking rows (count_trailing_zeros 32 left) ≡ asking → some (count_trailing_zeros 32 left) ≡ champion n (bit asking) rows
+    trying_wins e =
         sym (first_at (λ (j : ℕ). bit left j && beats_every_other n (bit asking) rows j) n 0 (count_trailing_zeros 32 left)
         (record {
           from = omega arith;
-          below = let l = trying-below in omega arith;
-          passes = ap₂ ◌&&◌ trying-first.passes (covers_beats n asking rows (count_trailing_zeros 32 left) h asks e);
-          before = λ j l g. ap (λ (b : Bool). b && beats_every_other n (bit asking) rows j) (trying-first.before j l g);
+          below = let l = trying_below in omega arith;
+          passes = ap₂ ◌&&◌ trying_first.passes (covers_beats n asking rows (count_trailing_zeros 32 left) h asks e);
+          before = λ j l g. ap (λ (b : Bool). b && beats_every_other n (bit asking) rows j) (trying_first.before j l g);
         })) ∙ t.rest
 
-    pub trying-less : (covered asking rows (count_trailing_zeros 32 left) ≡ asking → ⊥) → Trying n asking rows (left - 2 ^ count_trailing_zeros 32 left)
-    trying-less d =
+    pub trying_less : (covered asking rows (count_trailing_zeros 32 left) ≡ asking → ⊥) → Trying n asking rows (left - 2 ^ count_trailing_zeros 32 left)
+    trying_less d =
         record {
           low = lt_of_le_of_lt (omega arith) t.low;
-          among = λ j p. t.among j (both (bit left j) (not (eqb j i)) (sym (bit_take left i j trying-first.passes) ∙ p)).0;
+          among = λ j p. t.among j (both (bit left j) (not (eqb j i)) (sym (bit_take left i j trying_first.passes) ∙ p)).0;
           rest = first_ext _ _ n 0 (λ j l g. same j (eqb j i) refl) ∙ t.rest;
         }
       where
@@ -116,7 +116,7 @@ module _ (n asking : ℕ) (rows : List ℕ) (left : ℕ) (w : n ≤ 32) (h : ask
             ∙ sym (ap (λ (b : Bool). bit left j && b) lost ∙ and-false (bit left j))
         same j false e =
             ap (λ (b : Bool). b && beats_every_other n (bit asking) rows j)
-            (bit_take left i j trying-first.passes ∙ ap (λ (b : Bool). bit left j && not b) e ∙ and-true (bit left j))
+            (bit_take left i j trying_first.passes ∙ ap (λ (b : Bool). bit left j && not b) e ∙ and-true (bit left j))
 
 pub trying_none : (n asking : ℕ) (rows : List ℕ) (left : ℕ) → Trying n asking rows left → left ≡ 0 → none ≡ champion n (bit asking) rows
 trying_none n asking rows left t e =

@@ -61,12 +61,12 @@ passed_more n rows at word rank h p l =
     record {
       low = omega arith;
       named = or_with word (at rank) ∙ ap (with_bit (at rank)) p.named ∙ ap (ranks_below at) (sym (add-one rank));
-      links = λ k g. at-rank k g (eqb k rank) refl;
+      links = λ k g. at_rank k g (eqb k rank) refl;
     }
   where
-    at-rank : (k : ℕ) → k < rank + 1 → (b : Bool) → eqb k rank ≡ b → Link rows at k
-    at-rank k g true e = subst (Link rows at) (sym (eqb-true k rank e)) l
-    at-rank k g false e = p.links k (lt_of_le-ne (omega arith) (eqb-false k rank e))
+    at_rank : (k : ℕ) → k < rank + 1 → (b : Bool) → eqb k rank ≡ b → Link rows at k
+    at_rank k g true e = subst (Link rows at) (sym (eqb-true k rank e)) l
+    at_rank k g false e = p.links k (lt_of_le-ne (omega arith) (eqb-false k rank e))
 
 module _ (n : ℕ) (rows : List ℕ) (at : ℕ → ℕ) (inside : (k : ℕ) → at k < n)
     (ranked : (i : ℕ) → i < n → rank_of rows (at (rank_of rows i)) ≡ rank_of rows i) where

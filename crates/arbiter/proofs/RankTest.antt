@@ -147,11 +147,11 @@ module _ (n : ℕ) (rows : List ℕ) (at : ℕ → ℕ) (o : Order n rows) (narr
   unfolding beats
   next r h low =
       go
-      (top n beaten-by (λ i j h g d. swapped (o.total i j h g d)) (λ i j k h g l p q. o.transitive k j i l g h q p)
+      (top n beaten_by (λ i j h g d. swapped (o.total i j h g d)) (λ i j k h g l p q. o.transitive k j i l g h q p)
       (λ (x : ℕ). not (bit (ranks_below at r) x)) n (le_refl n))
     where
-      beaten-by : ℕ → ℕ → Bool
-      beaten-by i j = beats rows j i
+      beaten_by : ℕ → ℕ → Bool
+      beaten_by i j = beats rows j i
 
       swapped : {A B : Type 0} → A ⊎ B → B ⊎ A
       swapped (inl p) = inr p
@@ -160,7 +160,7 @@ module _ (n : ℕ) (rows : List ℕ) (at : ℕ → ℕ) (o : Order n rows) (narr
       S : ℕ → Bool
       S = bit (ranks_below at r)
 
-      go : None (λ (x : ℕ). not (S x)) n ⊎ ((m : ℕ) × Top beaten-by (λ (x : ℕ). not (S x)) n m) → Link rows at r × Lowest (suc r)
+      go : None (λ (x : ℕ). not (S x)) n ⊎ ((m : ℕ) × Top beaten_by (λ (x : ℕ). not (S x)) n m) → Link rows at r × Lowest (suc r)
       go (inl none) = absurd (let e = sym low.many ∙ count_all S n (λ i l. not-false (S i) (none i l)) in omega arith)
       go (inr (m, q)) = (
         record { row = ap (λ (i : ℕ). get_or rows i 0) named ∙ row; new = ap S named ∙ not-true (S m) q.passes },
@@ -169,12 +169,12 @@ module _ (n : ℕ) (rows : List ℕ) (at : ℕ → ℕ) (o : Order n rows) (narr
         where
           -- m beats those of the lower ranks and nobody else
           exact : (j : ℕ) → j < n → beats rows m j ≡ S j
-          exact j g = by-set (S j) refl (eqb j m) refl
+          exact j g = by_set (S j) refl (eqb j m) refl
             where
-              by-set : (b : Bool) → S j ≡ b → (d : Bool) → eqb j m ≡ d → beats rows m j ≡ b
-              by-set true e d f = low.beaten j m g q.below e (not-true (S m) q.passes)
-              by-set false e true f = ap (beats rows m) (eqb-true j m f) ∙ o.irreflexive m q.below
-              by-set false e false f = o.asymmetric j m g q.below (q.others j g (ap not e) (eqb-false j m f))
+              by_set : (b : Bool) → S j ≡ b → (d : Bool) → eqb j m ≡ d → beats rows m j ≡ b
+              by_set true e d f = low.beaten j m g q.below e (not-true (S m) q.passes)
+              by_set false e true f = ap (beats rows m) (eqb-true j m f) ∙ o.irreflexive m q.below
+              by_set false e false f = o.asymmetric j m g q.below (q.others j g (ap not e) (eqb-false j m f))
 
           row : get_or rows m 0 ≡ ranks_below at r
           row = bit_ext n (get_or rows m 0) (ranks_below at r) (narrow m q.below) (ranks_lt n at inside r) exact
@@ -197,11 +197,11 @@ module _ (n : ℕ) (rows : List ℕ) (at : ℕ → ℕ) (o : Order n rows) (narr
 
           beaten : (s x : ℕ) → s < n → x < n → bit (ranks_below at (suc r)) s ≡ true → bit (ranks_below at (suc r)) x ≡ false
               → beats rows x s ≡ true
-          beaten s x g l p f = by-new (eqb s m) refl (neither (S x) (eqb x m) (sym (grown x) ∙ f))
+          beaten s x g l p f = by_new (eqb s m) refl (neither (S x) (eqb x m) (sym (grown x) ∙ f))
             where
-              by-new : (b : Bool) → eqb s m ≡ b → (S x ≡ false) × (eqb x m ≡ false) → beats rows x s ≡ true
-              by-new true e (off, d) = ap (beats rows x) (eqb-true s m e) ∙ q.others x l (ap not off) (eqb-false x m d)
-              by-new false e (off, d) =
+              by_new : (b : Bool) → eqb s m ≡ b → (S x ≡ false) × (eqb x m ≡ false) → beats rows x s ≡ true
+              by_new true e (off, d) = ap (beats rows x) (eqb-true s m e) ∙ q.others x l (ap not off) (eqb-false x m d)
+              by_new false e (off, d) =
                   low.beaten s x g l (sym (or-false (S s)) ∙ ap (λ (b : Bool). S s || b) (sym e) ∙ sym (grown s) ∙ p) off
 
   lowest : (r : ℕ) → r ≤ n → Lowest r

@@ -16,7 +16,7 @@ use Rattle.base.proofs.Search.{both}
 use Rattle.base.proofs.Zeros.{blank_at, all_blank}
 use Rattle.arbiter.specs.Matrix.{beats, defeated, fresh_rows, total_order, within, blank_from}
 use Rattle.arbiter.specs.Arbiter.{Arbiter, known, usable, moved, after, fresh, sound}
-use Rattle.arbiter.proofs.ByKind.{Known, known_is, known_holds, usable_holds, fresh_turn, fresh_order, sound-turn, sound-order}
+use Rattle.arbiter.proofs.ByKind.{Known, known_is, known_holds, usable_holds, fresh_turn, fresh_order, sound_turn, sound_order}
 use Rattle.arbiter.proofs.ByKind.{moved_nobody, moved_turn, moved_defeat}
 use Rattle.arbiter.proofs.OrderTest.{within_at, all_within}
 use Rattle.arbiter.proofs.RoundRobin.{pointer_after-law}
@@ -98,10 +98,10 @@ sound_holds places code n a s = go s.given.kind
 
     go : (code ≡ 1) ⊎ (code ≡ 2) → sound places code n a ≡ true
     go (inl k) =
-        sym (sound-turn places code n a is_known s.long k (s.pointer_below k))
+        sym (sound_turn places code n a is_known s.long k (s.pointer_below k))
         ∙ all_blank 0 places a.rows (λ i h g. s.no_rows k i g)
     go (inr k) =
-        sym (sound-order places code n a is_known s.long (λ one. one_not_two code one k) (s.no_pointer k)
+        sym (sound_order places code n a is_known s.long (λ one. one_not_two code one k) (s.no_pointer k)
         (all_blank n places a.rows (s.beyond_width k)))
         ∙ ap₂ ◌&&◌ (order_holds n a.rows (s.order k)) (all_within n a.rows (s.within_width k))
 
@@ -249,13 +249,13 @@ moved_sound places code n w a s = go (ltb w n) refl s.given.kind
     room : n ≤ length a.rows
     room = let k = s.given.room in let l = s.long in omega arith
 
-    is-usable : usable places code n a.pointer ≡ true
-    is-usable = usable_holds places code n a.pointer s.given s.pointer_below
+    is_usable : usable places code n a.pointer ≡ true
+    is_usable = usable_holds places code n a.pointer s.given s.pointer_below
 
     go : (b : Bool) → ltb w n ≡ b → (code ≡ 1) ⊎ (code ≡ 2) → Sound places code n (moved places code n w a)
     go false e q = subst (Sound places code n) (moved_nobody places code n w a (ltb-false w n e)) s
     go true e (inl one) =
-        subst (Sound places code n) (moved_turn places code n w a is-usable (ltb-true w n e) one)
+        subst (Sound places code n) (moved_turn places code n w a is_usable (ltb-true w n e) one)
         (record {
           given = s.given;
           long = s.long;
@@ -270,7 +270,7 @@ moved_sound places code n w a s = go (ltb w n) refl s.given.kind
         let low : w < n = ltb-true w n e in
         let at_zero = s.no_pointer two in
         let some = s.given.some in
-        subst (Sound places code n) (moved_defeat places code n w a is-usable low (λ one. one_not_two code one two))
+        subst (Sound places code n) (moved_defeat places code n w a is_usable low (λ one. one_not_two code one two))
         (record {
           given = s.given;
           long = length_defeated n w a.rows ∙ s.long;

@@ -47,31 +47,31 @@ module _ (n : ℕ) (rows : List ℕ) where
           let q = both (every n nobody_itself) (every n (λ (i : ℕ). every n (exactly_one i))) p.0 in
           (q.0, q.1, p.1)
 
-      one-wins : (i j : ℕ) → i < n → j < n → (i ≡ j → ⊥) → xor (beats rows i j) (beats rows j i) ≡ true
-      one-wins i j h g d =
+      one_wins : (i j : ℕ) → i < n → j < n → (i ≡ j → ⊥) → xor (beats rows i j) (beats rows j i) ≡ true
+      one_wins i j h g d =
           subst (λ (b : Bool). (b || xor (beats rows i j) (beats rows j i)) ≡ true) (ne_eqb i j d)
           (every_at n (exactly_one i) (every_at n (λ (i : ℕ). every n (exactly_one i)) parts.1 i h) j g)
 
       either : (a b : Bool) → xor a b ≡ true → (a ≡ true) ⊎ (b ≡ true)
       either true b q = inl refl
-      either false b q = inr (subst (λ (x : Bool). x ≡ true) (not-beq b) q)
+      either false b q = inr (subst (λ (x : Bool). x ≡ true) (not_beq b) q)
         where
-          not-beq : (b : Bool) → not (beq false b) ≡ b
-          not-beq true = refl
-          not-beq false = refl
+          not_beq : (b : Bool) → not (beq false b) ≡ b
+          not_beq true = refl
+          not_beq false = refl
 
       total : (i j : ℕ) → i < n → j < n → (i ≡ j → ⊥) → (beats rows i j ≡ true) ⊎ (beats rows j i ≡ true)
-      total i j h g d = either (beats rows i j) (beats rows j i) (one-wins i j h g d)
+      total i j h g d = either (beats rows i j) (beats rows j i) (one_wins i j h g d)
 
-      not-both : (a b : Bool) → xor a b ≡ true → a ≡ true → b ≡ false
-      not-both true true q p = absurd (false≢true q)
-      not-both true false q p = refl
-      not-both false b q p = absurd (false≢true p)
+      not_both : (a b : Bool) → xor a b ≡ true → a ≡ true → b ≡ false
+      not_both true true q p = absurd (false≢true q)
+      not_both true false q p = refl
+      not_both false b q p = absurd (false≢true p)
 
       asymmetric : (i j : ℕ) → i < n → j < n → beats rows i j ≡ true → beats rows j i ≡ false
       asymmetric i j h g b =
-          not-both (beats rows i j) (beats rows j i)
-          (one-wins i j h g (λ same. true≢false (sym b ∙ ap (beats rows i) (sym same)
+          not_both (beats rows i j) (beats rows j i)
+          (one_wins i j h g (λ same. true≢false (sym b ∙ ap (beats rows i) (sym same)
           ∙ not-true (beats rows i i) (every_at n nobody_itself parts.0 i h)))) b
 
       transitive : (i j k : ℕ) → i < n → j < n → k < n → beats rows i j ≡ true → beats rows j k ≡ true → beats rows i k ≡ true

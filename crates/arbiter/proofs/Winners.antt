@@ -170,8 +170,8 @@ module _ (n : ℕ) (ask : ℕ → Bool) (rows : List ℕ) where
 
   module _ (o : Order n rows) where
     -- in a total order only one beats every other requester
-    champion-only : (w x : ℕ) → w < n → x < n → ask w ≡ true → ask x ≡ true → BeatsOthers n ask rows w → BeatsOthers n ask rows x → w ≡ x
-    champion-only w x h g t u all also = go (eqb w x) refl
+    champion_only : (w x : ℕ) → w < n → x < n → ask w ≡ true → ask x ≡ true → BeatsOthers n ask rows w → BeatsOthers n ask rows x → w ≡ x
+    champion_only w x h g t u all also = go (eqb w x) refl
       where
         go : (b : Bool) → eqb w x ≡ b → w ≡ x
         go true e = eqb-true w x e
@@ -179,9 +179,9 @@ module _ (n : ℕ) (ask : ℕ → Bool) (rows : List ℕ) where
             let d = eqb-false w x e in
             absurd (true≢false (sym (also w h t d) ∙ o.asymmetric w x h g (all x g u (λ q. d (sym q)))))
 
-    champion-somebody : (i : ℕ) → i < n → ask i ≡ true → (w : ℕ) × (champion n ask rows ≡ some w)
+    champion_somebody : (i : ℕ) → i < n → ask i ≡ true → (w : ℕ) × (champion n ask rows ≡ some w)
     unfolding champion
-    champion-somebody i h t = go (top n (beats rows) o.total o.transitive ask n (le_refl n))
+    champion_somebody i h t = go (top n (beats rows) o.total o.transitive ask n (le_refl n))
       where
         go : None ask n ⊎ ((m : ℕ) × Top (beats rows) ask n m) → (w : ℕ) × (champion n ask rows ≡ some w)
         go (inl nobody) = absurd (true≢false (sym t ∙ nobody i h))
@@ -200,7 +200,7 @@ module _ (n : ℕ) (ask : ℕ → Bool) (rows : List ℕ) where
             only j g true e =
                 let p = both (ask j) (beats_every_other n ask rows j) e in
                 let l = q.below in
-                let same : j ≡ m = champion-only j m (omega arith) q.below p.0 q.passes (every_other j p.1) q.others in
+                let same : j ≡ m = champion_only j m (omega arith) q.below p.0 q.passes (every_other j p.1) q.others in
                 absurd (omega arith)
             only j g false e = refl
 
@@ -237,45 +237,45 @@ module _ (places code n : ℕ) (ask : ℕ → Bool) (a : Arbiter) where
   no_request_nothing_moves off = ap (λ (o : Option ℕ). after places code n o a) (no_request_no_winner off)
 
   module _ (s : Sound places code n a) where
-    is-usable : usable places code n a.pointer ≡ true
-    is-usable = usable_holds places code n a.pointer s.given s.pointer_below
+    is_usable : usable places code n a.pointer ≡ true
+    is_usable = usable_holds places code n a.pointer s.given s.pointer_below
 
-    turn-choice : code ≡ 1 → choice places code n ask a ≡ next_in_turn n ask a.pointer
+    turn_choice : code ≡ 1 → choice places code n ask a ≡ next_in_turn n ask a.pointer
     unfolding choice
-    turn-choice one = rw (is-usable, eq-eqb code 1 one)
+    turn_choice one = rw (is_usable, eq-eqb code 1 one)
 
-    matrix-choice : code ≡ 2 → choice places code n ask a ≡ champion n ask a.rows
+    matrix_choice : code ≡ 2 → choice places code n ask a ≡ champion n ask a.rows
     unfolding choice
-    matrix-choice two = rw (is-usable, ne_eqb code 1 (λ one. omega arith))
+    matrix_choice two = rw (is_usable, ne_eqb code 1 (λ one. omega arith))
 
     -- a sound arbiter that is asked has a winner
-    pub request-has-winner : (i : ℕ) → i < n → ask i ≡ true → (w : ℕ) × (choice places code n ask a ≡ some w)
-    request-has-winner i h t = go s.given.kind
+    pub request_has_winner : (i : ℕ) → i < n → ask i ≡ true → (w : ℕ) × (choice places code n ask a ≡ some w)
+    request_has_winner i h t = go s.given.kind
       where
         go : (code ≡ 1) ⊎ (code ≡ 2) → (w : ℕ) × (choice places code n ask a ≡ some w)
-        go (inl one) = let q = turn_somebody n a.pointer ask (s.pointer_below one) i h t in (q.0, turn-choice one ∙ q.1)
-        go (inr two) = let q = champion-somebody n ask a.rows (s.order two) i h t in (q.0, matrix-choice two ∙ q.1)
+        go (inl one) = let q = turn_somebody n a.pointer ask (s.pointer_below one) i h t in (q.0, turn_choice one ∙ q.1)
+        go (inr two) = let q = champion_somebody n ask a.rows (s.order two) i h t in (q.0, matrix_choice two ∙ q.1)
 
     -- round robin: the winner is "the first requester at or after" the pointer, "cyclically", and the only one
-    pub winner-first-in-turn : code ≡ 1 → (w : ℕ) → choice places code n ask a ≡ some w
+    pub winner_first_in_turn : code ≡ 1 → (w : ℕ) → choice places code n ask a ≡ some w
         → (j : ℕ) → j < n → ask j ≡ true → turns_from n a.pointer w ≤ turns_from n a.pointer j
-    winner-first-in-turn one w e = turn_nearest n a.pointer ask (s.pointer_below one) w (sym (turn-choice one) ∙ e)
+    winner_first_in_turn one w e = turn_nearest n a.pointer ask (s.pointer_below one) w (sym (turn_choice one) ∙ e)
 
-    pub first-in-turn-wins : code ≡ 1 → (w : ℕ) → w < n → ask w ≡ true
+    pub first_in_turn_wins : code ≡ 1 → (w : ℕ) → w < n → ask w ≡ true
         → ((j : ℕ) → j < n → ask j ≡ true → turns_from n a.pointer w ≤ turns_from n a.pointer j) → choice places code n ask a ≡ some w
-    first-in-turn-wins one w h t nearest =
-        let q = request-has-winner w h t in
+    first_in_turn_wins one w h t nearest =
+        let q = request_has_winner w h t in
         let r = winner_asks q.0 q.1 in
-        let x = winner-first-in-turn one q.0 q.1 w h t in
+        let x = winner_first_in_turn one q.0 q.1 w h t in
         let y = nearest q.0 r.0 r.1 in
         q.1 ∙ ap some (turns_differ n a.pointer q.0 w (s.pointer_below one) r.0 h (omega arith))
 
     -- matrix: the winner "beats every other requester", and is the only one that does
-    pub winner-beats-others : code ≡ 2 → (w : ℕ) → choice places code n ask a ≡ some w → BeatsOthers n ask a.rows w
-    winner-beats-others two w e = (champion_is n ask a.rows w (sym (matrix-choice two) ∙ e)).2
+    pub winner_beats_others : code ≡ 2 → (w : ℕ) → choice places code n ask a ≡ some w → BeatsOthers n ask a.rows w
+    winner_beats_others two w e = (champion_is n ask a.rows w (sym (matrix_choice two) ∙ e)).2
 
-    pub beats-others-wins : code ≡ 2 → (w : ℕ) → w < n → ask w ≡ true → BeatsOthers n ask a.rows w → choice places code n ask a ≡ some w
-    beats-others-wins two w h t all =
-        let q = request-has-winner w h t in
+    pub beats_others_wins : code ≡ 2 → (w : ℕ) → w < n → ask w ≡ true → BeatsOthers n ask a.rows w → choice places code n ask a ≡ some w
+    beats_others_wins two w h t all =
+        let q = request_has_winner w h t in
         let r = winner_asks q.0 q.1 in
-        q.1 ∙ ap some (champion-only n ask a.rows (s.order two) q.0 w r.0 h r.1 t (winner-beats-others two q.0 q.1) all)
+        q.1 ∙ ap some (champion_only n ask a.rows (s.order two) q.0 w r.0 h r.1 t (winner_beats_others two q.0 q.1) all)

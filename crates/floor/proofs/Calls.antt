@@ -30,26 +30,26 @@ module _ (part : List ℕ) (h : Handed) (o : CallOutcome) (is : o ≡ called par
       (λ n. stops part h _ (rw (ne_eqb (called part h).ran.number 0 n)))
 
   module _ (fine : o.ran.number ≡ 0) where
-    pub unwritten-passes : ¬ (o.ran.written ≡ 0) → Passes part h 1 NotWritten (handed_by o)
-    unwritten-passes =
+    pub unwritten_passes : ¬ (o.ran.written ≡ 0) → Passes part h 1 NotWritten (handed_by o)
+    unwritten_passes =
         of_call (λ (x : CallOutcome). x.ran.number ≡ 0 → ¬ (x.ran.written ≡ 0) → Passes part h 1 NotWritten (handed_by x))
         (λ e n. fails part h e (omega (arith, n))) fine
 
-    pub whole-passes : o.ran.asks ≡ 0 → Passes part h 1 Whole (handed_by o)
-    whole-passes =
+    pub whole_passes : o.ran.asks ≡ 0 → Passes part h 1 Whole (handed_by o)
+    whole_passes =
         of_call (λ (x : CallOutcome). x.ran.number ≡ 0 → x.ran.asks ≡ 0 → Passes part h 1 Whole (handed_by x))
         (λ e a. stops part h _ (rw (e, a))) fine
 
     module _ (asks : ¬ (o.ran.asks ≡ 0)) where
-      pub full-passes : o.ran.used ≡ 0 → Passes part h 1 (NoRoom o.ran.asks) (handed_by o)
-      full-passes =
+      pub full_passes : o.ran.used ≡ 0 → Passes part h 1 (NoRoom o.ran.asks) (handed_by o)
+      full_passes =
           of_call (λ (x : CallOutcome). x.ran.number ≡ 0 → ¬ (x.ran.asks ≡ 0) → x.ran.used ≡ 0
           → Passes part h 1 (NoRoom x.ran.asks) (handed_by x))
           (λ e a u. stops part h _ (rw (e, ne_eqb (called part h).ran.asks 0 a, u))) fine asks
 
-      pub more-passes : ¬ (o.ran.used ≡ 0) → (k : ℕ) (s : Stop) (g : Handed) → Passes (drop o.ran.used part) (handed_by o) k s g
+      pub more_passes : ¬ (o.ran.used ≡ 0) → (k : ℕ) (s : Stop) (g : Handed) → Passes (drop o.ran.used part) (handed_by o) k s g
           → Passes part h (suc k) s g
-      more-passes =
+      more_passes =
           of_call (λ (x : CallOutcome). x.ran.number ≡ 0 → ¬ (x.ran.asks ≡ 0) → ¬ (x.ran.used ≡ 0) → (k : ℕ) (s : Stop) (g : Handed)
           → Passes (drop x.ran.used part) (handed_by x) k s g → Passes part h (suc k) s g)
           (λ e a u k s g p. goes part h k s g

@@ -21,7 +21,7 @@ use Rattle.rules.specs.Chosen.{chosen}
 use Rattle.rules.specs.Free.{name_of, free_of, event_of}
 use Rattle.rules.specs.Step.{taken_in, step_of}
 use Rattle.rules.proofs.Choices.{grant_to}
-use Rattle.rules.proofs.ChosenGrants.{grant-alike, grant_beyond}
+use Rattle.rules.proofs.ChosenGrants.{grant_alike, grant_beyond}
 
 abbrev pub choice_of : Router → List ℕ → Choice
 choice_of s part = chosen s.config s.arbiters (free_of s) (event_of s.config part)
@@ -44,5 +44,5 @@ grant_there s part bytes accepted i v b q = go (is_there s.config i v) refl
     go : (t : Bool) → is_there s.config i v ≡ t → GrantedTo s part i v b
     go true e =
         let l = there_is s.config i v e in
-        record { port = l.0; vc = l.1; is = sym (grant-alike s part bytes accepted i v l.0 l.1) ∙ q }
+        record { port = l.0; vc = l.1; is = sym (grant_alike s part bytes accepted i v l.0 l.1) ∙ q }
     go false e = absurd (none-ne-some b (sym (grant_beyond s part bytes accepted i v e) ∙ q))

@@ -54,7 +54,7 @@ use Rattle.history.specs.Run.{offer_in, departure_in, departures_in, reached_in,
 use Rattle.history.proofs.Choice.{choice_of}
 use Rattle.history.proofs.LegalLeaves.{leaves_exits, departure_is}
 use Rattle.history.proofs.Sorted.{each_ext, from, sorted, sorted_from, sorted_few, sorted_many}
-use Rattle.history.proofs.Told.{told_inside, told-once}
+use Rattle.history.proofs.Told.{told_inside, told_once}
 use Rattle.history.proofs.Written.{exit_written}
 
 -- the VC that a reply names as reached
@@ -210,6 +210,6 @@ module _ (s : Router) (part : List ℕ) (bytes : AreBytes part) (accepted : (ste
         credits = refl;
         from = sorted_from c.ports c.vcs told there;
         on = λ o w. sorted_few c.ports c.vcs told there (λ (d : Departure Flit). same d.output d.out_vc o w)
-            (told-once s part bytes accepted _ o (λ d ne. same_other d.output d.out_vc o w (λ e. ne e.0)));
+            (told_once s part bytes accepted _ o (λ d ne. same_other d.output d.out_vc o w (λ e. ne e.0)));
         many = sorted_many c.ports c.vcs told there;
       })

@@ -107,30 +107,30 @@ module _ (s : Router) (part : List ℕ) (bytes : AreBytes part) (accepted : (ste
     granted = grant_is came b.output it.deed it.acts
 
     -- it was unbound
-    pub binds-unbound : (free_of s).bound i v ≡ none
+    pub binds_unbound-law : (free_of s).bound i v ≡ none
     unfolding taken_in offers_taken landed credits_returned credits_reached
-    binds-unbound =
+    binds_unbound-law =
         bound_came s part bytes accepted i v it.port it.below
         ∙ ap (λ (x : Binding). name_of (bound_to x))
         (ap (λ (x : ℕ). (get_or came.inputs x (fresh_input 0)).binding) (sym it.there) ∙ granted.unbound)
 
     -- its front asks at that output
-    pub binds-front : Asks look (queue_now ((free_of s).channel i v)) b.output
-    binds-front =
+    pub binds_front-law : Asks look (queue_now ((free_of s).channel i v)) b.output
+    binds_front-law =
         front_asks b.output (queue_now ((free_of s).channel i v))
         (ap (front_is_for b.output) (queue_came s part bytes accepted i v it.port it.below)
         ∙ ap (λ (x : ℕ). front_is_for b.output (queue_at came.store (first_slot x) (get_or came.inputs x (fresh_input 0)).queued))
         (sym it.there)
         ∙ granted.front)
 
-    pub binds-vc : b.vc < c.vcs
+    pub binds_vc-law : b.vc < c.vcs
     unfolding taken_in offers_taken landed credits_returned credits_reached
-    binds-vc = subst (λ (w : ℕ). w < c.vcs) it.vc granted.vc_below
+    binds_vc-law = subst (λ (w : ℕ). w < c.vcs) it.vc granted.vc_below
 
     -- nobody was bound to it
-    pub binds-free : Free (free_of s) b
+    pub binds_free-law : Free (free_of s) b
     unfolding free_of
-    binds-free j u p = go (is_there c j u) refl
+    binds_free-law j u p = go (is_there c j u) refl
       where
         go : (t : Bool) → is_there c j u ≡ t → ⊥
         go true e =

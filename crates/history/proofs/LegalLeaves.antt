@@ -87,18 +87,18 @@ module _ (s : Router) (part : List ℕ) (bytes : AreBytes part) (accepted : (ste
     is = exit_is mid it.output it.deed it.acts
 
     -- it is bound to the output VC that it leaves by
-    pub leaves-bound : bound_now (free_of s) (choice_of s part) i v ≡ some (record { output = it.output; vc = it.deed.by })
+    pub leaves_bound-law : bound_now (free_of s) (choice_of s part) i v ≡ some (record { output = it.output; vc = it.deed.by })
     unfolding second.chosen second.bound_now allocated taken_in offers_taken landed credits_returned credits_reached
-    leaves-bound =
+    leaves_bound-law =
         bound_alike s part bytes accepted i v it.port it.vc_there
         ∙ ap (λ (b : Binding). name_of (bound_to b))
         (ap₂ (λ (j u : ℕ). (input_at c mid.inputs j u).binding) (sym it.input) (sym it.vc) ∙ is.bound)
 
     -- its front is what the rules let leave
-    pub leaves-front : queue_now ((free_of s).channel i v)
+    pub leaves_front : queue_now ((free_of s).channel i v)
         ≡ it.deed.flit ∷ queue_of c (leaving_of mid).store i v (input_at c (leaving_of mid).inputs i v).queued
     unfolding allocated taken_in offers_taken landed credits_returned credits_reached
-    leaves-front =
+    leaves_front =
         queue_now-law s part bytes accepted i v it.port it.vc_there
         ∙ exit_front mid sound i v it.port it.vc_there (record {
           port = it.output;
@@ -108,15 +108,15 @@ module _ (s : Router) (part : List ℕ) (bytes : AreBytes part) (accepted : (ste
           there = ap₂ (channel_number c) it.input it.vc;
         })
 
-    pub leaves-flit : 0 < length (queue_now ((free_of s).channel i v))
-    leaves-flit = subst (λ (l : List Flit). 0 < length l) (sym leaves-front) (omega arith)
+    pub leaves_flit-law : 0 < length (queue_now ((free_of s).channel i v))
+    leaves_flit-law = subst (λ (l : List Flit). 0 < length l) (sym leaves_front) (omega arith)
 
     -- its output VC has a credit
-    pub leaves-credit : (b : free.OutVc) → bound_now (free_of s) (choice_of s part) i v ≡ some b
+    pub leaves_credit-law : (b : free.OutVc) → bound_now (free_of s) (choice_of s part) i v ≡ some b
         → 0 < out_credit_now (free_of s) (event_of c part) b.output b.vc
     unfolding allocated taken_in offers_taken landed credits_returned credits_reached
-    leaves-credit b p =
-        let by : record { output = it.output; vc = it.deed.by } ≡ b = some-injective _ b (sym leaves-bound ∙ p) in
+    leaves_credit-law b p =
+        let by : record { output = it.output; vc = it.deed.by } ≡ b = some-injective _ b (sym leaves_bound-law ∙ p) in
         let w = is.wins in
         let one : Bound w.to ≡ Bound (record { output = it.output; vc = it.deed.by }) = sym w.bound ∙ is.bound in
         let to : w.to ≡ record { output = it.output; vc = it.deed.by } = cc in
@@ -142,7 +142,7 @@ module _ (s : Router) (part : List ℕ) (bytes : AreBytes part) (accepted : (ste
       } ∷ []
   departure_is i v q =
       ap (λ (l : Bool). leaving i v l (bound_now (free_of s) (choice_of s part) i v) (queue_now ((free_of s).channel i v))) q
-      ∙ ap₂ (leaving i v true) (leaves-bound i v q) (leaves-front i v q)
+      ∙ ap₂ (leaving i v true) (leaves_bound-law i v q) (leaves_front i v q)
 
   -- two departures from one input are one
   pub leaves_input_once : (i v u : ℕ) → (choice_of s part).leaves i v ≡ true → (choice_of s part).leaves i u ≡ true → v ≡ u
@@ -160,8 +160,8 @@ module _ (s : Router) (part : List ℕ) (bytes : AreBytes part) (accepted : (ste
   leaves_output_once i v j u a b p q f g same =
       let x = leaves_exits i v p in
       let y = leaves_exits j u q in
-      let at : record { output = x.output; vc = x.deed.by } ≡ a = some-injective _ a (sym (leaves-bound i v p) ∙ f) in
-      let bt : record { output = y.output; vc = y.deed.by } ≡ b = some-injective _ b (sym (leaves-bound j u q) ∙ g) in
+      let at : record { output = x.output; vc = x.deed.by } ≡ a = some-injective _ a (sym (leaves_bound-law i v p) ∙ f) in
+      let bt : record { output = y.output; vc = y.deed.by } ≡ b = some-injective _ b (sym (leaves_bound-law j u q) ∙ g) in
       let o : x.output ≡ y.output = ap (λ (z : free.OutVc). z.output) at ∙ same ∙ ap (λ (z : free.OutVc). z.output) (sym bt) in
       let deed : x.deed ≡ y.deed = some-injective x.deed y.deed (sym x.acts ∙ ap (exit mid) o ∙ y.acts) in
       (sym x.input ∙ ap (λ (e : Exit). e.input) deed ∙ y.input, sym x.vc ∙ ap (λ (e : Exit). e.vc) deed ∙ y.vc)

@@ -29,7 +29,7 @@ use Rattle.rules.specs.Step.{step_of}
 use Rattle.rules.proofs.Accepted.{accepted_none, accepted_before}
 use Rattle.rules.proofs.Channels.{channel_at}
 use Rattle.rules.proofs.ChosenViews.{is_there-law, view_there}
-use Rattle.rules.proofs.CreditsReached.{credit-reaches}
+use Rattle.rules.proofs.CreditsReached.{credit_reaches}
 use Rattle.rules.proofs.Facts.{sound_legal, inputs_room, home_at}
 use Rattle.rules.proofs.IntakeChannel.{home_out}
 use Rattle.rules.proofs.Named.{named_there}
@@ -89,16 +89,16 @@ module _ (s : Router) (part : List ℕ) (bytes : AreBytes part) (accepted : (ste
     row = permitted.offers i it.port it.brought
 
     -- not 3
-    pub offer-vc : b.vc < c.vcs
-    offer-vc = subst (λ (x : Brought Flit). x.vc < c.vcs) it.is row.vc
+    pub offer_vc-law : b.vc < c.vcs
+    offer_vc-law = subst (λ (x : Brought Flit). x.vc < c.vcs) it.is row.vc
 
     starts_is : look.starts b.flit ≡ starts_kind (kind_at part i)
     starts_is =
         ap (λ (x : Brought Flit). starts_kind (kind_of x.flit)) (sym it.is)
         ∙ ap starts_kind (offered_kind c (sound_legal s sound) part bytes i row)
 
-    pub offer-destination : look.starts b.flit ≡ true → look.port b.flit < c.ports
-    offer-destination e =
+    pub offer_destination-law : look.starts b.flit ≡ true → look.port b.flit < c.ports
+    offer_destination-law e =
         subst (λ (n : ℕ). n < c.ports)
         (sym (offered_destination c (sound_legal s sound) part bytes i row) ∙ ap (λ (x : Brought Flit). destination_of x.flit) it.is)
         (ltb-true (destination_at part i) c.ports
@@ -106,23 +106,23 @@ module _ (s : Router) (part : List ℕ) (bytes : AreBytes part) (accepted : (ste
         ∙ row.destination))
 
     -- not 4
-    pub offer-kinds : look.starts b.flit ≡ not ((free_of s).opened i b.vc)
+    pub offer_kinds : look.starts b.flit ≡ not ((free_of s).opened i b.vc)
     unfolding free_of
-    offer-kinds =
+    offer_kinds =
         starts_is
         ∙ turned (input_at c s.inputs i (vc_at part i)).opened (starts_kind (kind_at part i)) (permitted.turns i it.port it.brought)
         ∙ ap (λ (x : Brought Flit). not (input_at c s.inputs i x.vc).opened) it.is
-        ∙ ap (λ (ch : ChannelView). not ch.opened) (sym (view_there s i b.vc it.port offer-vc))
+        ∙ ap (λ (ch : ChannelView). not ch.opened) (sym (view_there s i b.vc it.port offer_vc-law))
 
     -- not 5
-    pub offer-paid : taken_now ((free_of s).channel i b.vc) < c.depth
+    pub offer_paid : taken_now ((free_of s).channel i b.vc) < c.depth
     unfolding free_of
-    offer-paid =
-        subst (λ (ch : ChannelView). taken_now (channel_of ch) < c.depth) (sym (view_there s i b.vc it.port offer-vc))
+    offer_paid =
+        subst (λ (ch : ChannelView). taken_now (channel_of ch) < c.depth) (sym (view_there s i b.vc it.port offer_vc-law))
         (let legal = sound_legal s sound in
         let paid : 1 ≤ (input_at c s.inputs i b.vc).credit + out 0 (home_of c s.home i b.vc) =
         subst (λ (n : ℕ). 1 ≤ n)
-        (credit-reaches c s.home s.inputs (λ j l. home_at s sound 0 j legal.back.0 l) i b.vc it.port offer-vc
+        (credit_reaches c s.home s.inputs (λ j l. home_at s sound 0 j legal.back.0 l) i b.vc it.port offer_vc-law
         (inputs_room s sound)
         ∙ ap (λ (n : ℕ). (input_at c s.inputs i b.vc).credit + n) (sym (home_out c i b.vc s.home legal.back.0)))
         (subst (λ (x : Brought Flit). 1 ≤ (input_at c (senders_paid c s.home s.inputs) i x.vc).credit) it.is

@@ -17,7 +17,7 @@ use Rattle.rules.specs.declared.Verdict.TheVariants.{Accepted}
 use Rattle.rules.specs.Intake.{credits_reached, credits_returned, landed, offers_taken}
 use Rattle.rules.specs.Step.{taken_in, step_of}
 use Rattle.rules.proofs.Accepted.{taken_sound}
-use Rattle.rules.proofs.Channels.{channel-room}
+use Rattle.rules.proofs.Channels.{channel_room}
 use Rattle.rules.proofs.Facts.{credits_sum, sound_legal, sound_lengths}
 use Rattle.rules.proofs.LeftPackets.{queued_few}
 use Rattle.history.specs.Demand3.{buffered, queue, on_wire}
@@ -36,7 +36,7 @@ module _ (s : Router) (sound : Sound s) (i v : ℕ) (port : i < s.config.ports) 
   -- the buffered flits are as many as the router counts
   pub queue_counted : length (queue c s i v) ≡ buffered c s i v
   queue_counted =
-      let room = channel-room c (sound_legal s sound) i v port vc in
+      let room = channel_room c (sound_legal s sound) i v port vc in
       let size = (sound_lengths s sound).store in
       queue_length s.store (first_slot (channel_number c i v)) (buffered c s i v) (queued_few s sound i v port vc) (omega arith)
 

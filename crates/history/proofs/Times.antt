@@ -21,8 +21,8 @@ use Rattle.model.specs.Router.{OutVc}
 use Rattle.model.specs.Run.{Run}
 use Rattle.model.specs.Sizes.{Delayed}
 use Rattle.model.specs.Times.{Later, accepted_in, left_in, reached_in}
-use Rattle.model.proofs.Alike.{length_alike, up_to_alike, left-on-alike, credits-alike, accepted-in-alike, left-in-alike}
-use Rattle.model.proofs.Alike.{reached-in-alike, once_alike}
+use Rattle.model.proofs.Alike.{length_alike, up_to_alike, left_on_alike, credits_alike, accepted_in_alike, left_in_alike}
+use Rattle.model.proofs.Alike.{reached_in_alike, once_alike}
 use Rattle.model.proofs.Demand3.{demand3_at}
 use Rattle.model.proofs.Depth as depth
 use Rattle.model.proofs.Limits as limits
@@ -57,14 +57,14 @@ module _ (c : Config) (legal : illegal_field c ≡ none) (parts : List (List ℕ
   -- "a flit accepted in cycle t leaves in t+F at the earliest"
   pub leaves_after_f : (i v : ℕ) → Later c.forward (accepted_in i v (run_of c parts).history) (left_in i v (run_of c parts).history)
   leaves_after_f i v =
-      subst₂ (Later c.forward) (accepted-in-alike by_input told alike i v) (left-in-alike by_input told alike i v)
+      subst₂ (Later c.forward) (accepted_in_alike by_input told alike i v) (left_in_alike by_input told alike i v)
       (times.leaves_after_f look (sizes_of c) delayed i v ran)
 
   -- "and its credit serves again in t+F+B"
   pub serves_after_f_and_b : (i v : ℕ)
       → Later (c.forward + c.back) (accepted_in i v (run_of c parts).history) (reached_in i v (run_of c parts).history)
   serves_after_f_and_b i v =
-      subst₂ (Later (c.forward + c.back)) (accepted-in-alike by_input told alike i v) (reached-in-alike by_input told alike i v)
+      subst₂ (Later (c.forward + c.back)) (accepted_in_alike by_input told alike i v) (reached_in_alike by_input told alike i v)
       (times.serves_after_f_and_b look (sizes_of c) delayed i v ran)
 
   -- "Credits that left an input B cycles ago reach its sender": after accepted cycle t, a VC's credits have reached its sender in the
@@ -72,10 +72,10 @@ module _ (c : Config) (legal : illegal_field c ≡ none) (parts : List (List ℕ
   pub reaches_after_b : (i v t : ℕ) → length (run_of c parts).history ≡ suc t
       → reached_in i v (run_of c parts).history ≡ map (λ (a : ℕ). a + c.back) (left_in i v (up_to t c.back (run_of c parts).history))
   reaches_after_b i v t count =
-      sym (reached-in-alike by_input told alike i v)
+      sym (reached_in_alike by_input told alike i v)
       ∙ go by_input (demand3_at look (sizes_of c) delayed ran t (length_alike by_input told alike ∙ count)).cycles ran
       ∙ ap (map (λ (a : ℕ). a + c.back))
-      (left-in-alike (up_to t c.back by_input) (up_to t c.back told) (up_to_alike t c.back by_input told alike) i v)
+      (left_in_alike (up_to t c.back by_input) (up_to t c.back told) (up_to_alike t c.back by_input told alike) i v)
     where
       go : (h : History Flit) → Numbered (suc t) h → Run look (sizes_of c) (free_of (run_of c parts).router) h
           → reached_in i v h ≡ map (λ (a : ℕ). a + c.back) (left_in i v (up_to t c.back h))
@@ -111,6 +111,6 @@ module _ (c : Config) (legal : illegal_field c ≡ none) (parts : List (List ℕ
       ap (λ (t : Bool). cond t (output_at c s.outputs o w).credit c.downstream) (sym (is_there-law c o w port vc))
       ∙ ap (λ (d : Config). cond (is_there d o w) (output_at d s.outputs o w).credit d.downstream)
       (sym (run_runs c legal parts bytes).config) in
-      ap₂ (λ (n : ℕ) (l : List (Departure Flit)). n + length l) seen (sym (left-on-alike by_input told alike o w))
+      ap₂ (λ (n : ℕ) (l : List (Departure Flit)). n + length l) seen (sym (left_on_alike by_input told alike o w))
       ∙ (credits.output_credits-law look (sizes_of c) delayed ran o w).sum
-      ∙ ap (λ (l : List OutVc). c.downstream + length l) (credits-alike by_input told alike o w)
+      ∙ ap (λ (l : List OutVc). c.downstream + length l) (credits_alike by_input told alike o w)

@@ -18,7 +18,7 @@ use Rattle.base.specs.declared.reply.Reply.{Reply}
 use Rattle.base.specs.Reply.{departure_of}
 use Rattle.model.specs.History.{Departure}
 use Rattle.model.specs.Lists.{keep, All}
-use Rattle.model.proofs.Lists.{keep_one, all-each}
+use Rattle.model.proofs.Lists.{keep_one, all_each}
 use Rattle.state.specs.declared.Router.{Router}
 use Rattle.trace.specs.Bytes.{AreBytes}
 use Rattle.rules.specs.declared.Verdict.TheVariants.{Accepted}
@@ -58,7 +58,7 @@ module _ (s : Router) (part : List ℕ) (bytes : AreBytes part) (accepted : (ste
           ((omega (arith, wins.input_below, input), omega (arith, wins.vc_below, vc)), tt)
 
   pub told_inside : All (Inside c.ports c.vcs) (departures_in c told)
-  told_inside = all-each _ c.ports (λ o. departure_in o (departure_of (left_at o))) (λ o l. left_inside o)
+  told_inside = all_each _ c.ports (λ o. departure_in o (departure_of (left_at o))) (λ o l. left_inside o)
 
   module _ (p : Departure Flit → Bool) (o : ℕ) (fails : (d : Departure Flit) → d.output ≢ o → p d ≡ false) where
     -- a test that only what left by output o can pass, passes of all what it passes there
@@ -75,8 +75,8 @@ module _ (s : Router) (part : List ℕ) (bytes : AreBytes part) (accepted : (ste
         beyond (left.Flit d) q out = absurd (out (left_there s part bytes accepted o d q))
 
     -- and that is one at most
-    pub told-once : length (keep p (departures_in c told)) ≤ 1
-    told-once = subst (λ (l : List (Departure Flit)). length l ≤ 1) (sym told_at) (go (left_at o))
+    pub told_once : length (keep p (departures_in c told)) ≤ 1
+    told_once = subst (λ (l : List (Departure Flit)). length l ≤ 1) (sym told_at) (go (left_at o))
       where
         one : (b : Bool) (d : Departure Flit) → length (cond b (d ∷ []) []) ≤ 1
         one true d = omega arith

@@ -60,31 +60,31 @@ module _ {Flit : Type 0} where
 
   module _ (h g : History Flit) (a : Alike h g) (i v : ℕ) where
     -- the flits accepted on an input VC, what left from it, and when; its credits' times; what left on an output VC and came back for it
-    pub accepted-alike : accepted i v h ≡ accepted i v g
-    accepted-alike =
+    pub accepted_alike : accepted i v h ≡ accepted i v g
+    accepted_alike =
         gather_alike _ (λ x y s. ap (λ (os : List (Offer Flit)). map (λ (o : Offer Flit). o.flit)
         (keep (λ (o : Offer Flit). same o.input o.vc i v) os)) s.offers) h g a
 
-    pub left-alike : left_from i v h ≡ left_from i v g
-    left-alike = gather_alike (departures_from i v) (λ x y s. s.from i v) h g a
+    pub left_alike : left_from i v h ≡ left_from i v g
+    left_alike = gather_alike (departures_from i v) (λ x y s. s.from i v) h g a
 
-    pub left-on-alike : left_on i v h ≡ left_on i v g
-    left-on-alike = gather_alike (departures_on i v) (λ x y s. s.on i v) h g a
+    pub left_on_alike : left_on i v h ≡ left_on i v g
+    left_on_alike = gather_alike (departures_on i v) (λ x y s. s.on i v) h g a
 
-    pub credits-alike : credits_on i v h ≡ credits_on i v g
-    credits-alike =
+    pub credits_alike : credits_on i v h ≡ credits_on i v g
+    credits_alike =
         gather_alike (credits_for i v) (λ x y s. ap (keep (λ (r : OutVc). same r.output r.vc i v)) s.credits) h g a
 
-    pub accepted-in-alike : accepted_in i v h ≡ accepted_in i v g
-    accepted-in-alike =
+    pub accepted_in_alike : accepted_in i v h ≡ accepted_in i v g
+    accepted_in_alike =
         gather_alike _ (λ x y s. λ t. map (λ (o : Offer Flit). s.cycle t)
         (keep (λ (o : Offer Flit). same o.input o.vc i v) (s.offers t))) h g a
 
-    pub left-in-alike : left_in i v h ≡ left_in i v g
-    left-in-alike = gather_alike _ (λ x y s. λ t. map (λ (d : Departure Flit). s.cycle t) (s.from i v t)) h g a
+    pub left_in_alike : left_in i v h ≡ left_in i v g
+    left_in_alike = gather_alike _ (λ x y s. λ t. map (λ (d : Departure Flit). s.cycle t) (s.from i v t)) h g a
 
-    pub reached-in-alike : reached_in i v h ≡ reached_in i v g
-    reached-in-alike =
+    pub reached_in_alike : reached_in i v h ≡ reached_in i v g
+    reached_in_alike =
         gather_alike _ (λ x y s. λ t. map (λ (r : InVc). s.cycle t)
         (keep (λ (r : InVc). same r.input r.vc i v) (s.reached t))) h g a
 
@@ -156,21 +156,21 @@ module _ {Flit : Type 0} where
 
 module _ {Flit : Type 0} (look : Look Flit) (c : Config) (h g : History Flit) (a : Alike h g) (t : ℕ) where
   taken_up_to : (n i v : ℕ) → length (accepted i v (up_to t n h)) ≡ length (accepted i v (up_to t n g))
-  taken_up_to n i v = ap length (accepted-alike (up_to t n h) (up_to t n g) (up_to_alike t n h g a) i v)
+  taken_up_to n i v = ap length (accepted_alike (up_to t n h) (up_to t n g) (up_to_alike t n h g a) i v)
 
   taken_after : (n i v : ℕ) → length (accepted i v (after t n h)) ≡ length (accepted i v (after t n g))
-  taken_after n i v = ap length (accepted-alike (after t n h) (after t n g) (after_alike t n h g a) i v)
+  taken_after n i v = ap length (accepted_alike (after t n h) (after t n g) (after_alike t n h g a) i v)
 
   left_up_to : (n i v : ℕ) → length (left_from i v (up_to t n h)) ≡ length (left_from i v (up_to t n g))
-  left_up_to n i v = ap length (left-alike (up_to t n h) (up_to t n g) (up_to_alike t n h g a) i v)
+  left_up_to n i v = ap length (left_alike (up_to t n h) (up_to t n g) (up_to_alike t n h g a) i v)
 
   left_after : (n i v : ℕ) → length (left_from i v (after t n h)) ≡ length (left_from i v (after t n g))
-  left_after n i v = ap length (left-alike (after t n h) (after t n g) (after_alike t n h g a) i v)
+  left_after n i v = ap length (left_alike (after t n h) (after t n g) (after_alike t n h g a) i v)
 
   input_alike : (ch : Channel Flit) (i v : ℕ) → InputDemand look c ch h t i v → InputDemand look c ch g t i v
   input_alike ch i v d =
-      let taken = accepted-alike h g a i v in
-      let left = left-alike h g a i v in
+      let taken = accepted_alike h g a i v in
+      let left = left_alike h g a i v in
       record {
         wire = d.wire ∙ taken_after c.forward i v;
         buffered = omega (arith, d.buffered, left_up_to 0 i v, taken_up_to c.forward i v);
@@ -190,5 +190,5 @@ module _ {Flit : Type 0} (look : Look Flit) (c : Config) (h g : History Flit) (a
         cycles = numbered_alike (suc t) h g a d.cycles;
         names = all_alike (NamesInRange c) (names_same c) h g a d.names;
         inputs = λ i v p q. input_alike (s.channel i v) i v (d.inputs i v p q);
-        outputs = λ o w p q. subst (Packets look FromOneSource) (left-on-alike h g a o w) (d.outputs o w p q);
+        outputs = λ o w p q. subst (Packets look FromOneSource) (left_on_alike h g a o w) (d.outputs o w p q);
       }

@@ -18,7 +18,7 @@ use Rattle.model.proofs.Reading.{reading_packets}
 use Rattle.model.proofs.Invariant.{Inv, inv_run}
 use Rattle.model.proofs.Depth.{stored_and_taken}
 use Rattle.model.proofs.Destinations.{left_by_destination}
-use Rattle.model.proofs.Limits.{names-in-range}
+use Rattle.model.proofs.Limits.{names_in_range}
 
 module _ {Flit : Type 0} (look : Look Flit) (c : Config) (delayed : Delayed c) {s : Router Flit} {h : History Flit}
     (run : Run look c s h) (t : ℕ)
@@ -51,7 +51,7 @@ module _ {Flit : Type 0} (look : Look Flit) (c : Config) (delayed : Delayed c) {
   demand =
       record {
         cycles = cycles;
-        names = names-in-range look c delayed run;
+        names = names_in_range look c delayed run;
         inputs = λ i v p q. input_demand i v;
         outputs = λ o w p q. inv.outputs (record { output = o; vc = w });
       }

@@ -64,13 +64,13 @@ module _ (i v : ℕ) where
     goes_by d = same d.output d.out_vc i v
 
     -- the offer of input j
-    offers-other : (j : ℕ) (b : Option (Brought Flit)) → j ≢ i → keep offered_to (offers_at j b) ≡ []
-    offers-other j none ne = refl
-    offers-other j (some b) ne = rw (same_other j b.vc i v (λ q. ne q.0))
+    offers_other : (j : ℕ) (b : Option (Brought Flit)) → j ≢ i → keep offered_to (offers_at j b) ≡ []
+    offers_other j none ne = refl
+    offers_other j (some b) ne = rw (same_other j b.vc i v (λ q. ne q.0))
 
-    offers-own : (b : Option (Brought Flit)) → map (λ (o : Offer Flit). o.flit) (keep offered_to (offers_at i b)) ≡ on_vc v b
-    offers-own none = refl
-    offers-own (some b) = rw (eqb_same i) (go (eqb b.vc v))
+    offers_own : (b : Option (Brought Flit)) → map (λ (o : Offer Flit). o.flit) (keep offered_to (offers_at i b)) ≡ on_vc v b
+    offers_own none = refl
+    offers_own (some b) = rw (eqb_same i) (go (eqb b.vc v))
       where
         go : (t : Bool) → map (λ (o : Offer Flit). o.flit) (cond t (record { input = i; vc = b.vc; flit = b.flit } ∷ []) [])
             ≡ cond t (b.flit ∷ []) []
@@ -78,28 +78,28 @@ module _ (i v : ℕ) where
         go false = refl
 
     -- what leaves from VC u of input j, read by its source
-    leaving-other : (j u : ℕ) (l : Bool) (b : Option OutVc) (q : List Flit) → ¬ ((j ≡ i) × (u ≡ v)) → keep comes_from (leaving j u l b q)
+    leaving_other : (j u : ℕ) (l : Bool) (b : Option OutVc) (q : List Flit) → ¬ ((j ≡ i) × (u ≡ v)) → keep comes_from (leaving j u l b q)
         ≡ []
-    leaving-other j u l b q ne = leaving_cases j u (λ ds. keep comes_from ds ≡ []) l b q refl (λ a f x y. rw (same_other j u i v ne))
+    leaving_other j u l b q ne = leaving_cases j u (λ ds. keep comes_from ds ≡ []) l b q refl (λ a f x y. rw (same_other j u i v ne))
 
-    leaving-own : (l : Bool) (b : Option OutVc) (q : List Flit) → keep comes_from (leaving i v l b q) ≡ leaving i v l b q
-    leaving-own l b q = leaving_cases i v (λ ds. keep comes_from ds ≡ ds) l b q refl (λ a f x y. rw (same_own i v))
+    leaving_own : (l : Bool) (b : Option OutVc) (q : List Flit) → keep comes_from (leaving i v l b q) ≡ leaving i v l b q
+    leaving_own l b q = leaving_cases i v (λ ds. keep comes_from ds ≡ ds) l b q refl (λ a f x y. rw (same_own i v))
 
     -- the same, read by its output VC
-    leaving-by : (j u : ℕ) (l : Bool) (b : Option OutVc) (q : List Flit) → b ≡ some (record { output = i; vc = v }) →
+    leaving_by : (j u : ℕ) (l : Bool) (b : Option OutVc) (q : List Flit) → b ≡ some (record { output = i; vc = v }) →
         keep goes_by (leaving j u l b q) ≡ leaving j u l b q
-    leaving-by j u l b q e =
+    leaving_by j u l b q e =
         leaving_cases j u (λ ds. keep goes_by ds ≡ ds) l b q refl
         (λ a f x y. rw (some-injective a (record { output = i; vc = v }) (sym y ∙ e), same_own i v))
 
-    leaving-past : (j u : ℕ) (l : Bool) (b : Option OutVc) (q : List Flit) → b ≢ some (record { output = i; vc = v })
+    leaving_past : (j u : ℕ) (l : Bool) (b : Option OutVc) (q : List Flit) → b ≢ some (record { output = i; vc = v })
         → keep goes_by (leaving j u l b q) ≡ []
-    leaving-past j u l b q ne = leaving_cases j u (λ ds. keep goes_by ds ≡ []) l b q refl
+    leaving_past j u l b q ne = leaving_cases j u (λ ds. keep goes_by ds ≡ []) l b q refl
         (λ a f x y. rw (same_other a.output a.vc i v (λ e. ne (y ∙ ap {B = Option OutVc} some (out_vc_path a i v e.0 e.1)))))
 
-    leaving-found : (j u : ℕ) (l : Bool) (b : Option OutVc) (q : List Flit) (d : Departure Flit) (ds : List (Departure Flit)) →
+    leaving_found : (j u : ℕ) (l : Bool) (b : Option OutVc) (q : List Flit) (d : Departure Flit) (ds : List (Departure Flit)) →
         keep goes_by (leaving j u l b q) ≡ d ∷ ds → (l ≡ true) × (b ≡ some (record { output = i; vc = v }))
-    leaving-found j u l b q d ds =
+    leaving_found j u l b q d ds =
         leaving_cases j u (λ x. keep goes_by x ≡ d ∷ ds → (l ≡ true) × (b ≡ some (record { output = i; vc = v }))) l b q
         (λ e. absurd (nil≢cons e))
         (λ a f x y. go a f x y (same a.output a.vc i v) refl)
@@ -137,23 +137,23 @@ module _ {Flit : Type 0} (c : Config) (s : Router Flit) (e : Event Flit) (k : Ch
       map (λ (o : Offer Flit). o.flit) (offers_on i v (entry c s e k)) ≡ offered e i v
   entry_offers inside i v =
       ap (map (λ (o : Offer Flit). o.flit))
-      (keep_one (offered_to i v) c.ports (λ j. offers_at j (e.offer j)) i (λ j ne. offers-other i v j (e.offer j) ne)
-      (λ out. none-beyond out (e.offer i) refl)) ∙ offers-own i v (e.offer i)
+      (keep_one (offered_to i v) c.ports (λ j. offers_at j (e.offer j)) i (λ j ne. offers_other i v j (e.offer j) ne)
+      (λ out. none_beyond out (e.offer i) refl)) ∙ offers_own i v (e.offer i)
     where
-      none-beyond : ¬ (i < c.ports) → (b : Option (Brought Flit)) → e.offer i ≡ b → keep (offered_to i v) (offers_at i b) ≡ []
-      none-beyond out none q = refl
-      none-beyond out (some b) q = absurd (out (inside i b q))
+      none_beyond : ¬ (i < c.ports) → (b : Option (Brought Flit)) → e.offer i ≡ b → keep (offered_to i v) (offers_at i b) ≡ []
+      none_beyond out none q = refl
+      none_beyond out (some b) q = absurd (out (inside i b q))
 
   -- The credits of the entry for an output VC are what the step adds to it, if no port beyond the last brings one.
   pub entry_credits : ((o w : ℕ) → e.credit o ≡ some w → o < c.ports) → (o w : ℕ) → length (credits_for o w (entry c s e k))
       ≡ credit_for w (e.credit o)
   entry_credits inside o w =
       ap length (keep_one (comes_back_to o w) c.ports (λ j. credits_at j (e.credit j)) o (λ j ne. credits_other o w j (e.credit j) ne)
-      (λ out. none-beyond out (e.credit o) refl)) ∙ credits_own o w (e.credit o)
+      (λ out. none_beyond out (e.credit o) refl)) ∙ credits_own o w (e.credit o)
     where
-      none-beyond : ¬ (o < c.ports) → (b : Option ℕ) → e.credit o ≡ b → keep (comes_back_to o w) (credits_at o b) ≡ []
-      none-beyond out none q = refl
-      none-beyond out (some b) q = absurd (out (inside o b q))
+      none_beyond : ¬ (o < c.ports) → (b : Option ℕ) → e.credit o ≡ b → keep (comes_back_to o w) (credits_at o b) ≡ []
+      none_beyond out none q = refl
+      none_beyond out (some b) q = absurd (out (inside o b q))
 
   -- what is beyond the ports and VCs does not leave, so that the entry misses no departure
   abbrev pub LeavesInside : Type 0
@@ -170,11 +170,11 @@ module _ {Flit : Type 0} (c : Config) (s : Router Flit) (e : Event Flit) (k : Ch
   pub entry_from : LeavesInside → (i v : ℕ) → departures_from i v (entry c s e k) ≡ departure s k i v
   entry_from inside i v =
       keep_grid_one (comes_from i v) c.ports c.vcs (departure s k) i v
-      (λ j u ne. leaving-other i v j u (k.leaves j u) (bound_now s k j u) (queue_now (s.channel j u)) ne)
+      (λ j u ne. leaving_other i v j u (k.leaves j u) (bound_now s k j u) (queue_now (s.channel j u)) ne)
       (λ out. own ∙ stays inside i v out) ∙ own
     where
       own : keep (comes_from i v) (departure s k i v) ≡ departure s k i v
-      own = leaving-own i v (k.leaves i v) (bound_now s k i v) (queue_now (s.channel i v))
+      own = leaving_own i v (k.leaves i v) (bound_now s k i v) (queue_now (s.channel i v))
 
   -- The departures of the entry on an output VC are what leaves from the one input VC that is bound to it ..
   pub entry_on : LeavesInside → (i v : ℕ) (b : OutVc) → bound_now s k i v ≡ some b
@@ -182,12 +182,12 @@ module _ {Flit : Type 0} (c : Config) (s : Router Flit) (e : Event Flit) (k : Ch
       departures_on b.output b.vc (entry c s e k) ≡ departure s k i v
   entry_on inside i v b q alone =
       keep_grid_one (goes_by b.output b.vc) c.ports c.vcs (departure s k) i v
-      (λ j u ne. leaving-past b.output b.vc j u (k.leaves j u) (bound_now s k j u) (queue_now (s.channel j u))
+      (λ j u ne. leaving_past b.output b.vc j u (k.leaves j u) (bound_now s k j u) (queue_now (s.channel j u))
       (λ p. ne (alone j u p)))
       (λ out. own ∙ stays inside i v out) ∙ own
     where
       own : keep (goes_by b.output b.vc) (departure s k i v) ≡ departure s k i v
-      own = leaving-by b.output b.vc i v (k.leaves i v) (bound_now s k i v) (queue_now (s.channel i v)) q
+      own = leaving_by b.output b.vc i v (k.leaves i v) (bound_now s k i v) (queue_now (s.channel i v)) q
 
   -- .. and whatever left on an output VC left from an input VC that is bound to it.
   pub entry_source : (b : OutVc) (d : Departure Flit) (ds : List (Departure Flit)) → departures_on b.output b.vc (entry c s e k)
@@ -196,14 +196,14 @@ module _ {Flit : Type 0} (c : Config) (s : Router Flit) (e : Event Flit) (k : Ch
   entry_source b d ds q =
       let r = grid_found c.ports c.vcs (λ j u. keep (goes_by b.output b.vc) (departure s k j u)) d ds
       (sym (keep_grid (goes_by b.output b.vc) c.ports c.vcs (departure s k)) ∙ q) in
-      let found = leaving-found b.output b.vc r.0 r.1 (k.leaves r.0 r.1) (bound_now s k r.0 r.1)
+      let found = leaving_found b.output b.vc r.0 r.1 (k.leaves r.0 r.1) (bound_now s k r.0 r.1)
       (queue_now (s.channel r.0 r.1)) r.2 r.3 r.4 in
       (r.0, r.1, found.0, found.1)
 
   -- The credits of the entry that reached the sender of an input VC are those that reach it, if none is beyond the ports and VCs.
   pub entry_reached : (i v : ℕ) → (¬ InRange c i v → reaching (s.channel i v) ≡ 0) →
       reached_for i v (entry c s e k) ≡ replicate (reaching (s.channel i v)) (record { input = i; vc = v })
-  entry_reached i v none-beyond =
+  entry_reached i v none_beyond =
       keep_grid_one (comes_home_to i v) c.ports c.vcs (λ j u. replicate (reaching (s.channel j u)) (record { input = j; vc = u })) i v
-      (λ j u ne. reached_other i v j u (reaching (s.channel j u)) ne) (λ out. rw (none-beyond out))
+      (λ j u ne. reached_other i v j u (reaching (s.channel j u)) ne) (λ out. rw (none_beyond out))
       ∙ reached_own i v (reaching (s.channel i v))

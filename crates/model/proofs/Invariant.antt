@@ -29,7 +29,7 @@ use Rattle.model.proofs.Cases.{in_range?, not_otherwise, offered_cases}
 use Rattle.model.proofs.Entries.{LeavesInside, entry_offers, entry_from, entry_on, entry_source}
 use Rattle.model.proofs.Flow.{Flow, offers_in, flow_fresh, flow_step, queue_now_le}
 use Rattle.model.proofs.Reading.{Reads, reads_append, is_open}
-use Rattle.model.proofs.Place.{Place, goes_append, place_bind, leaving_front, place-cycle, output-cycle}
+use Rattle.model.proofs.Place.{Place, goes_append, place_bind, leaving_front, place_cycle, output_cycle}
 
 -- what has left on an output VC
 abbrev pub on_out_vc : {Flit : Type 0} → History Flit → OutVc → List (Departure Flit)
@@ -165,7 +165,7 @@ module _ {Flit : Type 0} (look : Look Flit) (c : Config) (delayed : Delayed c) (
       (left_from i v (now ∷ h)) (on_out_vc (now ∷ h))
   place_after i v =
       rw (now_from i v)
-      (place-cycle look i v (k.leaves i v) (bound_now s k i v) (queue_now (s.channel i v)) (legal.leaves_bound i v)
+      (place_cycle look i v (k.leaves i v) (bound_now s k i v) (queue_now (s.channel i v)) (legal.leaves_bound i v)
       (legal.leaves_flit i v) (place_bound i v)
       (on_out_vc (now ∷ h)) (λ a q. ap (λ (ds : List (Departure Flit)). on_out_vc h a ++ ds) (now_on i v a q)))
 
@@ -217,7 +217,7 @@ module _ {Flit : Type 0} (look : Look Flit) (c : Config) (delayed : Delayed c) (
           let i = from.0 in
           let v = from.1 in
           let l = from.2 in
-          let r = output-cycle look i v (bound_now s k i v) (queue_now (s.channel i v)) b from.3 (legal.leaves_flit i v l)
+          let r = output_cycle look i v (bound_now s k i v) (queue_now (s.channel i v)) b from.3 (legal.leaves_flit i v l)
           (place_bound i v) in
           rw (now_on i v b from.3, l) (r.0, λ free. r.1 (rw l at (free i v)))
 

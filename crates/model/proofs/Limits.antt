@@ -21,13 +21,13 @@ use Rattle.model.specs.Step.{entry, offers_at, credits_at, ends_packet, bound_af
 use Rattle.model.specs.Legal.{Legal}
 use Rattle.model.specs.Run.{Run, start, accept}
 use Rattle.model.specs.Limits.{InRange, NamesInRange, OncePerPort}
-use Rattle.model.proofs.Lists.{eqb-true, keep_grid, grid_le_one, all-each}
+use Rattle.model.proofs.Lists.{eqb-true, keep_grid, grid_le_one, all_each}
 use Rattle.model.proofs.Cases.{gone, leaving_cases}
 use Rattle.model.proofs.Reading.{Reads, is_open}
 use Rattle.model.proofs.Place.{Goes}
 use Rattle.model.proofs.Invariant.{inv_run, still_held, alone_now, bound_still}
 use Rattle.model.proofs.Ranges.{binds_in_range}
-use Rattle.model.proofs.OutCredits.{output_credits-law, credit-in-range}
+use Rattle.model.proofs.OutCredits.{output_credits-law, credit_in_range}
 
 module _ {Flit : Type 0} where
   -- at most one flit leaves from an input VC
@@ -55,11 +55,11 @@ module _ {Flit : Type 0} where
 module _ {Flit : Type 0} (look : Look Flit) (c : Config) where
   module _ (s : Router Flit) (e : Event Flit) (k : Choice) (legal : Legal look c s e k) where
     -- A test of input and output that two departures of the cycle pass only if they are one keeps at most one.
-    kept-once : (p : ℕ → ℕ → Bool) →
+    kept_once : (p : ℕ → ℕ → Bool) →
         ((i v j u : ℕ) (a b : OutVc) → k.leaves i v ≡ true → k.leaves j u ≡ true → bound_now s k i v ≡ some a → bound_now s k j u ≡ some b →
         p i a.output ≡ true → p j b.output ≡ true → (i ≡ j) × (v ≡ u)) →
         length (keep (λ (d : Departure Flit). p d.input d.output) (entry c s e k).departures) ≤ 1
-    kept-once p alone =
+    kept_once p alone =
         rw (keep_grid test c.ports c.vcs (departure s k))
         (grid_le_one c.ports c.vcs (λ i v. keep test (departure s k i v))
         (λ i v. kept_le_one test i v (k.leaves i v) (bound_now s k i v) (queue_now (s.channel i v)))
@@ -91,11 +91,11 @@ module _ {Flit : Type 0} (look : Look Flit) (c : Config) where
             go (some b) x = x
 
     -- at most one flit leaves each input and each output
-    once-now : OncePerPort (entry c s e k)
-    once-now =
+    once_now : OncePerPort (entry c s e k)
+    once_now =
         record {
-          inputs = λ n. kept-once (λ i o. eqb i n) (λ i v j u a b x y p q f g. one_input n i v j u x y (eqb-true i n f) (eqb-true j n g));
-          outputs = λ n. kept-once (λ i o. eqb o n)
+          inputs = λ n. kept_once (λ i o. eqb i n) (λ i v j u a b x y p q f g. one_input n i v j u x y (eqb-true i n f) (eqb-true j n g));
+          outputs = λ n. kept_once (λ i o. eqb o n)
               (λ i v j u a b x y p q f g. legal.output_once i v j u a b x y p q
               (eqb-true a.output n f ∙ sym (eqb-true b.output n g)));
         }
@@ -106,28 +106,28 @@ module _ {Flit : Type 0} (look : Look Flit) (c : Config) where
   -- In every cycle of every run.
   pub once_per_port : {s : Router Flit} {h : History Flit} → Run look c s h → All OncePerPort h
   once_per_port start = tt
-  once_per_port (accept {s = s} run e k legal) = (once-now s e k legal, once_per_port run)
+  once_per_port (accept {s = s} run e k legal) = (once_now s e k legal, once_per_port run)
 
   module _ (delayed : Delayed c) where
     -- After phase 5 an output VC is held by at most one input VC: "T or S .. frees the output VC, usable from the next cycle".
-    pub one-holder : {s : Router Flit} {h : History Flit} → Run look c s h → (e : Event Flit) (k : Choice) → Legal look c s e k
+    pub one_holder : {s : Router Flit} {h : History Flit} → Run look c s h → (e : Event Flit) (k : Choice) → Legal look c s e k
         → (i v j u : ℕ) (b : OutVc) →
         bound_now s k i v ≡ some b → bound_now s k j u ≡ some b → (i ≡ j) × (v ≡ u)
-    one-holder {s = s} {h = h} run e k legal = alone_now look c delayed s h (inv_run look c delayed run) e k legal
+    one_holder {s = s} {h = h} run e k legal = alone_now look c delayed s h (inv_run look c delayed run) e k legal
 
     -- A binding stays what it is until T or S leaves.
-    pub stays-bound : {s : Router Flit} {h : History Flit} → Run look c s h → (e : Event Flit) (k : Choice) → Legal look c s e k
+    pub stays_bound : {s : Router Flit} {h : History Flit} → Run look c s h → (e : Event Flit) (k : Choice) → Legal look c s e k
         → (i v : ℕ) (b : OutVc) →
         s.bound i v ≡ some b → (step look c s e k).bound i v ≡ cond (k.leaves i v && ends_packet look (queue_now (s.channel i v))) none
         (some b)
-    stays-bound {s = s} {h = h} run e k legal i v b p =
+    stays_bound {s = s} {h = h} run e k legal i v b p =
         ap (bound_after look (k.leaves i v) (queue_now (s.channel i v)))
         (bound_still look c delayed s h (inv_run look c delayed run) e k legal i v b p)
 
     -- The front flit of an unbound input VC is H or S, so that no B or T ever asks.
-    pub front-starts : {s : Router Flit} {h : History Flit} → Run look c s h → (i v : ℕ) (f : Flit) (q : List Flit) → s.bound i v ≡ none →
+    pub front_starts : {s : Router Flit} {h : History Flit} → Run look c s h → (i v : ℕ) (f : Flit) (q : List Flit) → s.bound i v ≡ none →
         queue_now (s.channel i v) ≡ f ∷ q → look.starts f ≡ true
-    front-starts {s = s} {h = h} run i v f q unbound front =
+    front_starts {s = s} {h = h} run i v f q unbound front =
         let place = (inv_run look c delayed run).place i v in
         let reads : Reads look (is_open place.inside) (f ∷ (q ++ flat (drop 1 (s.channel i v).wire))) (s.opened i v) = rw
         (still_held (s.channel i v), front) at place.reads in
@@ -139,18 +139,18 @@ module _ {Flit : Type 0} (look : Look Flit) (c : Config) where
         between (some b) (some d) p g = absurd (none-ne-some b (sym p))
 
     module _ {s : Router Flit} {h : History Flit} (run : Run look c s h) (e : Event Flit) (k : Choice) (legal : Legal look c s e k) where
-      names-now : NamesInRange c (entry c s e k)
-      names-now =
+      names_now : NamesInRange c (entry c s e k)
+      names_now =
           record {
-            offers = all-each _ c.ports (λ i. offers_at i (e.offer i)) (λ i l. offer i l (e.offer i) refl);
-            sources = all-each _ c.ports (λ i. each c.vcs (departure s k i))
-                (λ i l. all-each _ c.vcs (departure s k i) (λ v m. source i v l m));
-            outputs = all-each _ c.ports (λ i. each c.vcs (departure s k i))
-                (λ i l. all-each _ c.vcs (departure s k i) (λ v m. output i v));
-            reached = all-each _ c.ports (λ i. each c.vcs (λ v. replicate (reaching (s.channel i v)) (record { input = i; vc = v })))
-                (λ i l. all-each _ c.vcs (λ v. replicate (reaching (s.channel i v)) (record { input = i; vc = v }))
+            offers = all_each _ c.ports (λ i. offers_at i (e.offer i)) (λ i l. offer i l (e.offer i) refl);
+            sources = all_each _ c.ports (λ i. each c.vcs (departure s k i))
+                (λ i l. all_each _ c.vcs (departure s k i) (λ v m. source i v l m));
+            outputs = all_each _ c.ports (λ i. each c.vcs (departure s k i))
+                (λ i l. all_each _ c.vcs (departure s k i) (λ v m. output i v));
+            reached = all_each _ c.ports (λ i. each c.vcs (λ v. replicate (reaching (s.channel i v)) (record { input = i; vc = v })))
+                (λ i l. all_each _ c.vcs (λ v. replicate (reaching (s.channel i v)) (record { input = i; vc = v }))
                 (λ v m. home i v l m (reaching (s.channel i v))));
-            credits = all-each _ c.ports (λ o. credits_at o (e.credit o)) (λ o l. credit o (e.credit o) refl);
+            credits = all_each _ c.ports (λ o. credits_at o (e.credit o)) (λ o l. credit o (e.credit o) refl);
           }
         where
           offer : (i : ℕ) → i < c.ports → (b : Option (Brought Flit)) → e.offer i ≡ b →
@@ -173,8 +173,8 @@ module _ {Flit : Type 0} (look : Look Flit) (c : Config) where
 
           credit : (o : ℕ) (w : Option ℕ) → e.credit o ≡ w → All (λ (r : OutVc). InRange c r.output r.vc) (credits_at o w)
           credit o none q = tt
-          credit o (some w) q = (credit-in-range look c delayed run e k legal (output_credits-law look c delayed run) o w q, tt)
+          credit o (some w) q = (credit_in_range look c delayed run e k legal (output_credits-law look c delayed run) o w q, tt)
 
-    pub names-in-range : {s : Router Flit} {h : History Flit} → Run look c s h → All (NamesInRange c) h
-    names-in-range start = tt
-    names-in-range (accept run e k legal) = (names-now run e k legal, names-in-range run)
+    pub names_in_range : {s : Router Flit} {h : History Flit} → Run look c s h → All (NamesInRange c) h
+    names_in_range start = tt
+    names_in_range (accept run e k legal) = (names_now run e k legal, names_in_range run)

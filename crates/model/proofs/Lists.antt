@@ -161,9 +161,9 @@ module _ {A : Type 0} where
     all_right [] ys p = p
     all_right (x ∷ xs) ys p = all_right xs ys p.1
 
-    pub all-each : (n : ℕ) (f : ℕ → List A) → ((j : ℕ) → j < n → All P (f j)) → All P (each n f)
-    all-each zero f p = tt
-    all-each (suc n) f p = all_append (each n f) (f n) (all-each n f (λ j l. p j (omega arith))) (p n (omega arith))
+    pub all_each : (n : ℕ) (f : ℕ → List A) → ((j : ℕ) → j < n → All P (f j)) → All P (each n f)
+    all_each zero f p = tt
+    all_each (suc n) f p = all_append (each n f) (f n) (all_each n f (λ j l. p j (omega arith))) (p n (omega arith))
 
   pub flat_append : (xs ys : List (List A)) → flat (xs ++ ys) ≡ flat xs ++ flat ys
   flat_append [] ys = refl

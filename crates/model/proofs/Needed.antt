@@ -70,7 +70,7 @@ pub head_inside : Breaks 4 (cycle (offer 0 0 (head 1 7) ∷ []) [] [] [] ∷ [])
     (cycle [] (credit 1 0 ∷ []) [] (from 0 0 ∷ []) ∷ []) (λ s h. left_on 1 0 h ≡ left 1 0 0 0 (head 1 7) ∷ left 1 0 0 0 (head 1 8) ∷ [])
 head_inside = record { fine = tt; alone = refl; fine_again = tt; wrong = refl }
 
--- kinds: a body with no packet open stands in front of an unbound input VC, for ever (front-starts).
+-- kinds: a body with no packet open stands in front of an unbound input VC, for ever (front_starts).
 pub body_outside : Breaks 4 [] (cycle (offer 0 0 (body 7) ∷ []) [] [] []) (cycle [] [] [] [] ∷ [])
     (λ s h. (s.bound 0 0 ≡ none) × ((s.channel 0 0).queue ≡ body 7 ∷ []))
 body_outside = record { fine = tt; alone = refl; fine_again = tt; wrong = (refl, refl) }
@@ -80,7 +80,7 @@ pub not_paid : Breaks 5 (cycle (offer 0 0 (single 1 7) ∷ []) [] [] [] ∷ cycl
     (cycle (offer 0 0 (single 1 7) ∷ []) [] [] []) [] (λ s h. sum (s.channel 0 0) ≡ 3)
 not_paid = record { fine = tt; alone = refl; fine_again = tt; wrong = refl }
 
--- binds_unbound: an input VC that is bound is bound to another output VC, though nothing left (stays-bound).
+-- binds_unbound: an input VC that is bound is bound to another output VC, though nothing left (stays_bound).
 pub bound_again : Breaks 6 (cycle (offer 0 0 (head 1 7) ∷ []) [] [] [] ∷ cycle [] [] (bind 0 0 1 0 ∷ []) [] ∷ [])
     (cycle [] [] (bind 0 0 1 1 ∷ []) []) []
     (λ s h. (s.bound 0 0 ≡ some (record { output = 1; vc = 1 })) × (left_from 0 0 h ≡ []))
@@ -103,7 +103,7 @@ pub in_use : Breaks 8 (cycle (offer 0 0 (head 1 7) ∷ offer 1 0 (head 1 8) ∷ 
     (λ s h. left_on 1 0 h ≡ left 1 0 0 0 (head 1 7) ∷ left 1 0 1 0 (head 1 8) ∷ [])
 in_use = record { fine = tt; alone = refl; fine_again = tt; wrong = refl }
 
--- binds_free: an output VC is given out in the cycle in which a single of another input VC leaves on it (one-holder).
+-- binds_free: an output VC is given out in the cycle in which a single of another input VC leaves on it (one_holder).
 pub freed_now : Breaks 8 (cycle (offer 0 0 (single 1 7) ∷ offer 1 0 (single 1 8) ∷ []) [] [] [] ∷ cycle [] [] (bind 0 0 1 0 ∷ []) [] ∷ [])
     (cycle [] [] (bind 1 0 1 0 ∷ []) (from 0 0 ∷ [])) []
     (λ s h. (s.bound 1 0 ≡ some (record { output = 1; vc = 0 })) × (left_on 1 0 (after 2 1 h) ≡ left 1 0 0 0 (single 1 7) ∷ []))

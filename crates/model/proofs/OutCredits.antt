@@ -27,8 +27,8 @@ use Rattle.model.proofs.Ranges.{nothing_left_beyond}
 module _ {Flit : Type 0} (look : Look Flit) (c : Config) (delayed : Delayed c) where
   module _ {s : Router Flit} {h : History Flit} (run : Run look c s h) (e : Event Flit) (k : Choice) (legal : Legal look c s e k) where
     -- What leaves on an output VC in a cycle has a credit there.
-    left-paid : (o w : ℕ) → length (departures_on o w (entry c s e k)) ≤ out_credit_now s e o w
-    left-paid o w = go (departures_on o w (entry c s e k)) refl
+    left_paid : (o w : ℕ) → length (departures_on o w (entry c s e k)) ≤ out_credit_now s e o w
+    left_paid o w = go (departures_on o w (entry c s e k)) refl
       where
         go : (ds : List (Departure Flit)) → departures_on o w (entry c s e k) ≡ ds
             → length (departures_on o w (entry c s e k)) ≤ out_credit_now s e o w
@@ -43,8 +43,8 @@ module _ {Flit : Type 0} (look : Look Flit) (c : Config) (delayed : Delayed c) w
             omega (arith, legal.leaves_credit r.0 r.1 b r.2 r.3)
 
     -- A credit comes back only for an output VC that something has left on, so only for one in range.
-    pub credit-in-range : ((o w : ℕ) → OutputCredits c s h o w) → (o w : ℕ) → e.credit o ≡ some w → InRange c o w
-    credit-in-range before o w q =
+    pub credit_in_range : ((o w : ℕ) → OutputCredits c s h o w) → (o w : ℕ) → e.credit o ≡ some w → InRange c o w
+    credit_in_range before o w q =
         not_otherwise (in_range? c o w) (λ out. omega (
           arith,
           legal.room o w q,
@@ -53,8 +53,8 @@ module _ {Flit : Type 0} (look : Look Flit) (c : Config) (delayed : Delayed c) w
               (nothing_left_beyond look c delayed run o w out),
         ))
 
-    credit-fits : (o w : ℕ) → s.out_credit o w ≤ c.downstream → out_credit_now s e o w ≤ c.downstream
-    credit-fits o w fits = go (e.credit o) refl
+    credit_fits : (o w : ℕ) → s.out_credit o w ≤ c.downstream → out_credit_now s e o w ≤ c.downstream
+    credit_fits o w fits = go (e.credit o) refl
       where
         go : (b : Option ℕ) → e.credit o ≡ b → s.out_credit o w + credit_for w b ≤ c.downstream
         go none q = omega arith
@@ -67,15 +67,15 @@ module _ {Flit : Type 0} (look : Look Flit) (c : Config) (delayed : Delayed c) w
     out_step : ((o w : ℕ) → OutputCredits c s h o w) → (o w : ℕ) → OutputCredits c (step look c s e k) (entry c s e k ∷ h) o w
     out_step before o w =
         let b = before o w in
-        let credits = entry_credits c s e k (λ p u q. (credit-in-range before p u q).0) o w in
+        let credits = entry_credits c s e k (λ p u q. (credit_in_range before p u q).0) o w in
         record {
           sum = rw (
             length-append (left_on o w h) (departures_on o w (entry c s e k)),
             length-append (credits_on o w h)
                 (credits_for o w (entry c s e k)),
           )
-              (omega (arith, left-paid o w, b.sum, credits));
-          fits = omega (arith, credit-fits o w b.fits);
+              (omega (arith, left_paid o w, b.sum, credits));
+          fits = omega (arith, credit_fits o w b.fits);
         }
 
   pub output_credits-law : {s : Router Flit} {h : History Flit} → Run look c s h → (o w : ℕ) → OutputCredits c s h o w

@@ -83,22 +83,22 @@ module _ {Flit : Type 0} (look : Look Flit) (i v : ℕ) where
       abbrev pub inside_after : Option (Departure Flit)
       inside_after = cond (look.ends f) none (some (head_of p.inside front))
 
-      pub output-reads : Reading look FromOneSource inside_after (on b ++ (front ∷ []))
-      output-reads =
+      pub output_reads : Reading look FromOneSource inside_after (on b ++ (front ∷ []))
+      output_reads =
           let fits = front_fits p.inside q p.goes in
           read_on look FromOneSource p.inside (on b) front (p.on_output b refl) p.reads.0 (sym fits.1, sym fits.2)
 
       -- .. and its tail unbinds.
-      pub place-leave : (after : OutVc → List (Departure Flit)) → after b ≡ on b ++ (front ∷ []) →
+      pub place_leave : (after : OutVc → List (Departure Flit)) → after b ≡ on b ++ (front ∷ []) →
           Place (cond (look.ends f) none (some b)) q later opened (from ++ (front ∷ [])) after
-      place-leave after e =
+      place_leave after e =
           record {
             inside = inside_after;
             goes = goes (look.ends f) p.inside (front_fits p.inside q p.goes);
             reads = reads (look.ends f) p.inside p.reads.1;
             left = read_on look (ByHeadsPort look) p.inside from front p.left p.reads.0
                 (sym (front_fits p.inside q p.goes).0);
-            on_output = λ a r. out a (look.ends f) r output-reads;
+            on_output = λ a r. out a (look.ends f) r output_reads;
           }
         where
           goes : (t : Bool) (h : Option (Departure Flit)) →
@@ -127,11 +127,11 @@ module _ {Flit : Type 0} (look : Look Flit) (i v : ℕ) where
 
   module _ {later : List Flit} {opened : Bool} {from : List (Departure Flit)} {on : OutVc → List (Departure Flit)} where
     -- An input VC's place after the cycle, in which it lets its front flit leave or not ..
-    pub place-cycle : (l : Bool) (b : Option OutVc) (q : List Flit) → (l ≡ true → IsSome b) → (l ≡ true → 0 < length q)
+    pub place_cycle : (l : Bool) (b : Option OutVc) (q : List Flit) → (l ≡ true → IsSome b) → (l ≡ true → 0 < length q)
         → Place b q later opened from on →
         (after : OutVc → List (Departure Flit)) → ((a : OutVc) → b ≡ some a → after a ≡ on a ++ leaving i v l b q) →
         Place (bound_after look l q b) (drop (cond l 1 0) q) later opened (from ++ leaving i v l b q) after
-    place-cycle false b q bound flit p after e =
+    place_cycle false b q bound flit p after e =
         record {
           inside = p.inside;
           goes = p.goes;
@@ -139,21 +139,21 @@ module _ {Flit : Type 0} (look : Look Flit) (i v : ℕ) where
           left = rw (append-nil from) p.left;
           on_output = λ a r. rw (e a r, append-nil (on a)) (p.on_output a r);
         }
-    place-cycle true none q bound flit p after e = absurd (bound refl)
-    place-cycle true (some b) [] bound flit p after e = let l = flit refl in absurd (omega arith)
-    place-cycle true (some b) (f ∷ q) bound flit p after e = place-leave b f p after (e b refl)
+    place_cycle true none q bound flit p after e = absurd (bound refl)
+    place_cycle true (some b) [] bound flit p after e = let l = flit refl in absurd (omega arith)
+    place_cycle true (some b) (f ∷ q) bound flit p after e = place_leave b f p after (e b refl)
 
     -- .. and the packets on the output VC by which it leaves.
-    pub output-cycle : (b : Option OutVc) (q : List Flit) (a : OutVc) → b ≡ some a → 0 < length q → Place b q later opened from on →
+    pub output_cycle : (b : Option OutVc) (q : List Flit) (a : OutVc) → b ≡ some a → 0 < length q → Place b q later opened from on →
         Packets look FromOneSource (on a ++ leaving i v true b q) ×
         (bound_after look true q b ≢ some a → Whole look FromOneSource (on a ++ leaving i v true b q))
-    output-cycle none q a e flit p = absurd (none-ne-some a e)
-    output-cycle (some b) [] a e flit p = absurd (omega arith)
-    output-cycle (some b) (f ∷ q) a e flit p =
+    output_cycle none q a e flit p = absurd (none-ne-some a e)
+    output_cycle (some b) [] a e flit p = absurd (omega arith)
+    output_cycle (some b) (f ∷ q) a e flit p =
         rw (← some-injective b a e) (
-          reading_packets look FromOneSource (inside_after b f p) (on b ++ (gone i v b f ∷ [])) (output-reads b f p),
+          reading_packets look FromOneSource (inside_after b f p) (on b ++ (gone i v b f ∷ [])) (output_reads b f p),
           λ ne. go (look.ends f) ne
-              (output-reads b f p),
+              (output_reads b f p),
         )
       where
         go : (t : Bool) → cond t none (some b) ≢ some b →

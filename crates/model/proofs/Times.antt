@@ -150,11 +150,11 @@ module _ {Flit : Type 0} (look : Look Flit) (c : Config) (delayed : Delayed c) (
   reached_now s h inv e k before =
       let now = entry c s e k in
       let flow = inv.flow i v in
-      let none-beyond : ¬ ((i < c.ports) × (v < c.vcs)) →
+      let none_beyond : ¬ ((i < c.ports) × (v < c.vcs)) →
       reaching (s.channel i v) ≡ 0 = λ out. omega
       (arith, reaching_taken c delayed (s.channel i v) h i v flow now, flow.taken, ap length (inv.beyond i v out)) in
       let reached : reached_for i v now ≡ replicate (reaching (s.channel i v))
-      (record { input = i; vc = v }) = entry_reached c s e k i v none-beyond in
+      (record { input = i; vc = v }) = entry_reached c s e k i v none_beyond in
       rw (
         before,
         gather_out (left_at i v) c.back delayed.on_the_way_home now h,

@@ -11,7 +11,7 @@ use Rattle.model.specs.Phases.{bound_now, out_credit_now}
 use Rattle.model.specs.Send.{MaySend}
 
 -- "An unbound one whose front flit is H or S asks at its destination" (01, phase 5). A front that is neither does not occur:
--- `front-starts` of proofs/Limits.
+-- `front_starts` of proofs/Limits.
 abbrev pub Asks : {Flit : Type 0} → Look Flit → List Flit → ℕ → Type 0
 Asks look [] o = ⊥
 Asks look (f ∷ q) o = (look.starts f ≡ true) × (look.port f ≡ o)

@@ -84,19 +84,19 @@ module _ (block : List ℕ) (bytes : AreBytes block) (w : Writing) (ready : Read
         (left_in (by_outcome o.read o block w).run rest)
 
     -- what is left of a run that is not over
-    going-left : (x : Printed) → left_of w.run.flits x ≡ cond w.run.over [] (left_of w.run.flits x)
-    going-left x = ap (λ (b : Bool). cond b [] (left_of w.run.flits x)) (sym going)
+    going_left : (x : Printed) → left_of w.run.flits x ≡ cond w.run.over [] (left_of w.run.flits x)
+    going_left x = ap (λ (b : Bool). cond b [] (left_of w.run.flits x)) (sym going)
 
-    of-cycles : p.configured ≡ true → (n : ℕ) → n ≤ 7 → (q : Place)
+    of_cycles : p.configured ≡ true → (n : ℕ) → n ≤ 7 → (q : Place)
         → Prints w (cycles_from block 0 n (moved q)) (left_of w.run.flits (cycles_then (rest q) block 0 n s))
         (left_in (cycles_from block 0 n (moved q)).run rest)
-    of-cycles e n h q =
+    of_cycles e n h q =
         let g = ready_goes w.run ready e in
         let v = cycles_from block 0 n (moved q) in
         prints_as
         (prints_from w (with_place q) (cycles_print block bytes (rest q) n 0 (moved q)
         (record { sound = g.sound; few = g.few; room = nowhere }) (omega (arith, there, h))))
-        (going-left (cycles_then (rest q) block 0 n s)) (ap (λ (x : Place). left_from v.run (rest x))
+        (going_left (cycles_then (rest q) block 0 n s)) (ap (λ (x : Place). left_from v.run (rest x))
         (sym (cycles_place block n 0 (moved q))))
 
     of_found : (o : BlockOutcome) → FoundAs p s.cycle block o → (o.read ≡ none → Named o.number o.field) → Block o
@@ -105,9 +105,9 @@ module _ (block : List ℕ) (bytes : AreBytes block) (w : Writing) (ready : Read
         (ended_prints (refusal n s.cycle k) w (rest p) (refusal_prints n s.cycle k (named refl) ready.early)
         (refusal_fits n s.cycle k) (omega (arith, there))).prints
     of_found _ (configures a b _) named = prints_none w _ _ _ refl refl (omega (arith, there))
-        (going-left (rest (next_place p block) (fresh_router (config_of block))))
-    of_found _ (holds a l h _) named = of-cycles a (held_of block) h (next_place p block)
-    of_found _ (ends a _) named = prints_none w _ _ _ refl refl (omega (arith, there)) (going-left (rest (next_place p block) s))
+        (going_left (rest (next_place p block) (fresh_router (config_of block))))
+    of_found _ (holds a l h _) named = of_cycles a (held_of block) h (next_place p block)
+    of_found _ (ends a _) named = prints_none w _ _ _ refl refl (omega (arith, there)) (going_left (rest (next_place p block) s))
     of_found _ (is_over a) named =
         let f = w.run.flits in
         let c = ready.early in
@@ -117,8 +117,8 @@ module _ (block : List ℕ) (bytes : AreBytes block) (w : Writing) (ready : Read
         (finish_fits s.cycle f) (omega (arith, there))).prints)
         (ap (λ (n : ℕ). finish s.cycle n ∷ []) (add-zero f)) refl
 
-    pub block-prints : Prints w (block_taken block w)
+    pub block_prints : Prints w (block_taken block w)
         (left_of w.run.flits (block_then (judged p s.cycle block).read (judged p s.cycle block) block s rest))
         (left_in (block_taken block w).run rest)
     unfolding block_taken
-    block-prints = of_found (judged p s.cycle block) (found_as p s.cycle block) (outcome_named p s.cycle block)
+    block_prints = of_found (judged p s.cycle block) (found_as p s.cycle block) (outcome_named p s.cycle block)

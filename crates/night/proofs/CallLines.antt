@@ -30,8 +30,8 @@ use Rattle.night.proofs.Added.{Adds, adds_length, adds_there, adds_around, Print
 use Rattle.night.proofs.Left.{left_of, left_in}
 use Rattle.night.proofs.Cuts.{append_bytes}
 use Rattle.night.proofs.Anywhere.{nowhere}
-use Rattle.night.proofs.BlockLines.{Ready, goes_ready, block-prints}
-use Rattle.night.proofs.PartLines.{block_room, file_end, goes-print}
+use Rattle.night.proofs.BlockLines.{Ready, goes_ready, block_prints}
+use Rattle.night.proofs.PartLines.{block_room, file_end, goes_print}
 use Rattle.night.proofs.Kept.{led_is}
 use Rattle.night.proofs.Used.{Cut, goes_cut, short_over}
 
@@ -100,7 +100,7 @@ module _ (n : Run) (buffer : List ℕ) (at : ℕ) (sound : run_sound n ≡ true)
       let taken : going_on [] 1 begin ≡ takes [] begin = rw (going, e) in
       subst (λ (k : ℕ). Prints-on [] (going_on [] k begin)) (sym one)
       (subst (Prints-on []) (sym taken)
-      (prints_as (block-prints [] (λ i. omega arith) handed ready going (block_room buffer at e) (file_from []))
+      (prints_as (block_prints [] (λ i. omega arith) handed ready going (block_room buffer at e) (file_from []))
       (ap₂ (λ (b : Bool) (p : Printed). cond b [] (left_of n.flits p)) going
       (file_end n.place n.router (good_place-law n sound going))) refl))
 
@@ -108,7 +108,7 @@ module _ (n : Run) (buffer : List ℕ) (at : ℕ) (sound : run_sound n ≡ true)
   some_prints : (left part : List ℕ) → AreBytes left → AreBytes part → 1 ≤ length part
       → ((j : ℕ) → 512 * j < (ends part).used → block_at part (512 * j) ≡ take 512 (drop (512 * j) left)) → Prints-on left (ends part)
   some_prints left part bytes are some agree =
-      goes-print left bytes part are (blocks_in part) 0 begin (λ h. refl) (omega arith) (λ e. ready) inside (λ j h l. agree j l)
+      goes_print left bytes part are (blocks_in part) 0 begin (λ h. refl) (omega arith) (λ e. ready) inside (λ j h l. agree j l)
 
   -- a file
   file_prints : (left part : List ℕ) → AreBytes left → MayHand left part → Prints-on left (ends part)
@@ -136,8 +136,8 @@ module _ (n : Run) (buffer : List ℕ) (at : ℕ) (sound : run_sound n ≡ true)
       front_long = length-take-le (ends part).used part (used_inside part (blocks_in part) begin (omega arith))
 
       -- all of it, where it ends inside a block
-      front-all : (ends part).used ≡ length part → (ends part).writing.run.over ≡ true → front ++ rest ≡ part
-      front-all e o =
+      front_all : (ends part).used ≡ length part → (ends part).writing.run.over ≡ true → front ++ rest ≡ part
+      front_all e o =
           ap₂ (λ (u : ℕ) (r : List ℕ). take u part ++ r) e (last o) ∙ append-nil (take (length part) part) ∙ take-length part
 
       agrees : Cut part (ends part) → (j : ℕ) → 512 * j < (ends part).used
@@ -146,13 +146,13 @@ module _ (n : Run) (buffer : List ℕ) (at : ℕ) (sound : run_sound n ≡ true)
           sym (ap (take 512) (drop-append-le (512 * j) front rest (omega (arith, l, front_long)))
           ∙ take-append-le 512 (drop (512 * j) front) rest (let d = length-drop (512 * j) front in omega (arith, l, e, d, front_long))
           ∙ take_inside 512 (512 * j) (ends part).used part (omega (arith, l, e)))
-      agrees (inr (e, o)) j l = ap (λ (x : List ℕ). take 512 (drop (512 * j) x)) (sym (front-all e o))
+      agrees (inr (e, o)) j l = ap (λ (x : List ℕ). take 512 (drop (512 * j) x)) (sym (front_all e o))
 
-      used-rest : drop (ends part).used (front ++ rest) ≡ rest
-      used-rest = ap (λ (u : ℕ). drop u (front ++ rest)) (sym front_long) ∙ drop-append_seam front rest
+      used_rest : drop (ends part).used (front ++ rest) ≡ rest
+      used_rest = ap (λ (u : ℕ). drop u (front ++ rest)) (sym front_long) ∙ drop-append_seam front rest
 
-      some-used : 1 ≤ length part → Prints-on (front ++ rest) (ends part)
-      some-used some =
+      some_used : 1 ≤ length part → Prints-on (front ++ rest) (ends part)
+      some_used some =
           some_prints (front ++ rest) part (append_bytes front rest (piece_bytes (ends part).used 0 part are) more) are some
           (agrees (goes_cut part are (blocks_in part) begin (led_is n sound) (omega arith) (inl (0, refl))))
 
@@ -175,7 +175,7 @@ module _ (n : Run) (buffer : List ℕ) (at : ℕ) (sound : run_sound n ≡ true)
       go false e [] are last =
           subst (λ (l : List ℕ). Prints-on l (ends []))
           (sym (ap₂ ◌++◌ (take-nil (ends []).used) (last (none_over e)))) (end_prints e)
-      go false e (b ∷ l) are last = some-used (b ∷ l) rest are more last (omega arith)
+      go false e (b ∷ l) are last = some_used (b ∷ l) rest are more last (omega arith)
 
   -- what a call writes, and what is left after it, is what was left before it
   blocks_write : (left part more : List ℕ) → Prints-on left (ends part)
@@ -204,7 +204,7 @@ module _ (n : Run) (buffer : List ℕ) (at : ℕ) (sound : run_sound n ≡ true)
       (run_goes n part buffer at sound room (blocks_in part) refl)
       (λ last e. blocks_write (take (ends part).used part ++ rest) part more (used_prints part rest are bytes last)
       (e ∙ ap (λ (l : List ℕ). text (left_in (ends part).writing.run (file_from (blocks_of l))))
-      (sym (used-rest part rest are bytes last))))
+      (sym (used_rest part rest are bytes last))))
 
   -- and in range, where what is left after it is
   pub call_fine : (left part : List ℕ) → AreBytes left → MayHand left part

@@ -61,13 +61,13 @@ module _ (c : Config) where
 
   module _ (block : List ℕ) where
     -- the cycles of a block, and then the rest
-    cycles-join : (rest : Router → Printed) (later : Router → ℕ) (more : List (List ℕ))
+    cycles_join : (rest : Router → Printed) (later : Router → ℕ) (more : List (List ℕ))
         → ((r : Ran) → Joins c r (take (later r.router) more) (rest r.router)) → (n k : ℕ) (r : Ran)
         → Joins c r (take (accepted_in later block k n r.router) (parts_from block k n ++ more)) (cycles_then rest block k n r.router)
     unfolding cycles_then accepted_in parts_from
-    cycles-join rest later more same zero k r = same r
-    cycles-join rest later more same (suc n) k r =
-        go (step_of r.router (part_at block k)).verdict refl (λ q. cycles-join rest later more same n (k + 1) q)
+    cycles_join rest later more same zero k r = same r
+    cycles_join rest later more same (suc n) k r =
+        go (step_of r.router (part_at block k)).verdict refl (λ q. cycles_join rest later more same n (k + 1) q)
       where
         go : (v : Verdict) → (step_of r.router (part_at block k)).verdict ≡ v
             → ((q : Ran) → Joins c q (take (accepted_in later block (k + 1) n q.router) (parts_from block (k + 1) n ++ more))
@@ -87,33 +87,33 @@ module _ (c : Config) where
         go (Refused f) e after = stops r _
 
     -- a block after the configuration block, and then the rest
-    block-joins : (rest : Place → Router → Printed) (later : Place → Router → ℕ) (more : List (List ℕ))
+    block_joins : (rest : Place → Router → Printed) (later : Place → Router → ℕ) (more : List (List ℕ))
         → ((p : Place) (r : Ran) → p.configured ≡ true → Joins c r (take (later p r.router) more) (rest p r.router))
         → (p : Place) (r : Ran) → p.configured ≡ true → (o : BlockOutcome) → FoundAs p r.router.cycle block o
         → Joins c r (take (accepted_by o.read o block r.router later) (parts_in block ++ more))
         (block_then o.read o block r.router rest)
     unfolding parts_in
-    block-joins rest later more same p r y _ (refuses n k) = stops r _
-    block-joins rest later more same p r y _ (configures a b kind) = absurd (true≢false (sym y ∙ a))
-    block-joins rest later more same p r y _ (holds a l h kind) =
+    block_joins rest later more same p r y _ (refuses n k) = stops r _
+    block_joins rest later more same p r y _ (configures a b kind) = absurd (true≢false (sym y ∙ a))
+    block_joins rest later more same p r y _ (holds a l h kind) =
         let q = next_place p block in
         subst (λ (b : Bool). Joins c r (take (accepted_in (later q) block 0 (held_of block) r.router)
         (cond b (parts_from block 0 (held_of block)) [] ++ more))
         (cycles_then (rest q) block 0 (held_of block) r.router)) (sym kind)
-        (cycles-join (rest q) (later q) more (λ t. same q t refl) (held_of block) 0 r)
-    block-joins rest later more same p r y _ (ends a kind) =
+        (cycles_join (rest q) (later q) more (λ t. same q t refl) (held_of block) 0 r)
+    block_joins rest later more same p r y _ (ends a kind) =
         let q = next_place p block in
         subst (λ (b : Bool). Joins c r (take (later q r.router) (cond b (parts_from block 0 (held_of block)) [] ++ more))
         (rest q r.router)) (sym kind)
         (same q r refl)
-    block-joins rest later more same p r y _ (is_over a) = stops r _
+    block_joins rest later more same p r y _ (is_over a) = stops r _
 
   file_joins : (blocks : List (List ℕ)) (p : Place) (r : Ran) → p.configured ≡ true
       → Joins c r (take (accepted_from blocks p r.router) (parts_of blocks)) (file_from blocks p r.router)
   unfolding file_from accepted_from parts_of
   file_joins [] p r y = stops r _
   file_joins (block ∷ blocks) p r y =
-      block-joins block (file_from blocks) (accepted_from blocks) (parts_of blocks) (file_joins blocks) p r y
+      block_joins block (file_from blocks) (accepted_from blocks) (parts_of blocks) (file_joins blocks) p r y
       (judged p r.router.cycle block)
       (found_as p r.router.cycle block)
 

@@ -133,21 +133,21 @@ module _ (p : Place) (l : List ℕ) where
     goes_on = ne_eqb (kind_of l) 3 (λ g. absurd (omega arith))
 
     -- the place before the next one is the one where it was taken
-    before-next : before (next_place p l) ≡ p
-    before-next =
+    before_next : before (next_place p l) ≡ p
+    before_next =
         let number : p.number + 1 - 1 ≡ p.number = omega arith in
         λ t. record { number = number t; configured = sym k t; ended = (goes_on ∙ sym e) t }
 
     -- so that a run which stopped in the block is at a right place
-    stopped-right : (c j : ℕ) → between_blocks p c ≡ true → j ≤ 6 → place_right (next_place p l) (c + j) true ≡ true
+    stopped_right : (c j : ℕ) → between_blocks p c ≡ true → j ≤ 6 → place_right (next_place p l) (c + j) true ≡ true
     unfolding place_right stopped_inside
-    stopped-right c j b m =
+    stopped_right c j b m =
         let less : c + j - j ≡ c = omega arith in
         or_else (between_blocks (next_place p l) (c + j))
         (ap₂ ◌&&◌ (le-leb 1 (p.number + 1) (omega arith))
         (ap₂ ◌&&◌ (ap not goes_on)
         (any_at 7 (λ (k : ℕ). leb k (c + j) && between_blocks (before (next_place p l)) (c + j - k)) j (omega arith)
-        (ap₂ ◌&&◌ (le-leb j (c + j) (omega arith)) (ap₂ between_blocks before-next less ∙ b)))))
+        (ap₂ ◌&&◌ (le-leb j (c + j) (omega arith)) (ap₂ between_blocks before_next less ∙ b)))))
 
 -- a block of a run that is not over
 module _ (block : List ℕ) (bytes : AreBytes block) (w : Writing) (o : w.run.over ≡ false) (led : Led w.run) where
@@ -195,21 +195,21 @@ module _ (block : List ℕ) (bytes : AreBytes block) (w : Writing) (o : w.run.ov
 
   -- a block with cycles, whether all were accepted or one was refused
   module _ (h : ℕ) (k : p.configured ≡ true) (e : judged p c block ≡ accepted (some_cycles h) q) where
-    ran-led : (m : Run) → Ran q c h m → Led m
-    ran-led m (through f s) =
+    ran_led : (m : Run) → Ran q c h m → Led m
+    ran_led m (through f s) =
         let y = sound_cycle s.sound in
         let x = s.cycle in
         stands_led q (c + h) m s refl (between_right q (c + h) m.over (leads (accepted (some_cycles h) q) e refl (omega (arith, x, y))))
-    ran-led m (stopped j l f s) =
+    ran_led m (stopped j l f s) =
         let is = ap (λ (r : BlockOutcome). r.number) e in
         let kind = cycles_kind p block (ap (λ (r : BlockOutcome). holds_cycles r.read) (sym (accepted_taken p c block is) ∙ e)) in
         stands_led q (c + j) m s refl
-        (ap (λ (b : Bool). place_right q (c + j) b) f ∙ stopped-right p block k kind.0 kind.1 c j between l)
+        (ap (λ (b : Bool). place_right q (c + j) b) f ∙ stopped_right p block k kind.0 kind.1 c j between l)
 
-    held-led : h ≤ 7 → Led (cycles_from block 0 h (on_run (with_place q) w)).run
-    held-led most =
+    held_led : h ≤ 7 → Led (cycles_from block 0 h (on_run (with_place q) w)).run
+    held_led most =
         let s = led_stands n led k in
-        ran-led (cycles_from block 0 h (on_run (with_place q) w)).run
+        ran_led (cycles_from block 0 h (on_run (with_place q) w)).run
         (subst (λ (m : ℕ). Ran q c m (cycles_from block 0 h (on_run (with_place q) w)).run) (zero-add h)
         (cycles_ran block bytes q c h 0 (on_run (with_place q) w) (omega arith) o
         (record { place = refl; sound = s.sound; few = s.few; cycle = sym (add-zero c) })))
@@ -230,7 +230,7 @@ module _ (block : List ℕ) (bytes : AreBytes block) (w : Writing) (o : w.run.ov
         cycle = refl;
       }) refl
       (between_right q 0 n.over (ap (between_blocks q) (sym same) ∙ leads (accepted (a_configuration (config_of block)) q) e refl limit))
-  found_led _ e (holds a l h _) = held-led (held_of block) a e h
+  found_led _ e (holds a l h _) = held_led (held_of block) a e h
   found_led _ e (ends a _) =
       let s = led_stands n led a in
       let limit : c + 0 ≤ cycle_limit = let y = sound_cycle s.sound in omega (arith, y) in

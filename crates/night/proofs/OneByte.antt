@@ -23,7 +23,7 @@ use Rattle.trace.specs.Judged.{BlockOutcome, Read, a_configuration, some_cycles,
 use Rattle.trace.specs.Judged.{next_place, taken, judged}
 use Rattle.trace.proofs.Exactness.{accepted_taken}
 use Rattle.trace.proofs.Findings.{FoundAs, refuses, configures, holds, ends, is_over, found_as}
-use Rattle.trace.proofs.Order.{judged_unsound, judged-follows}
+use Rattle.trace.proofs.Order.{judged_unsound, judged_follows}
 use Rattle.trace.proofs.OneByte as block
 use Rattle.listing.specs.Lines.{refusal, text, cycle_lines}
 use Rattle.rules.specs.declared.Verdict.{Verdict}
@@ -107,7 +107,7 @@ module _ (b : List ℕ) (p : Place) (s : Router) (rest : Place → Router → Pr
       go : (d : Bool) → p.ended ≡ d → (g : Bool) → good_place p s.cycle ≡ g → d ≡ false
       go false d g q = refl
       go true d true q =
-          absurd (off 8 (ap (λ (o : BlockOutcome). o.number) (judged-follows p s.cycle b q d long)) (λ z. absurd (omega arith)))
+          absurd (off 8 (ap (λ (o : BlockOutcome). o.number) (judged_follows p s.cycle b q d long)) (λ z. absurd (omega arith)))
       go true d false q =
           absurd (off 2 (ap (λ (o : BlockOutcome). o.number) (judged_unsound p s.cycle b q)) (λ z. absurd (omega arith)))
 

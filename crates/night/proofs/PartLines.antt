@@ -23,7 +23,7 @@ use Rattle.night.specs.File.{finishes, refuses, Printed, ends_at, block_then, fi
 use Rattle.night.proofs.Added.{Prints, adds_within, prints_none, prints_both, prints_as}
 use Rattle.night.proofs.Left.{left_of, left_in}
 use Rattle.night.proofs.Cuts.{first_block}
-use Rattle.night.proofs.BlockLines.{Ready, block_ready, block-prints}
+use Rattle.night.proofs.BlockLines.{Ready, block_ready, block_prints}
 
 -- where the test finds it, a block's room is there
 pub block_room : (b : List ℕ) (at : ℕ) → lacks_block_room b at ≡ false → at + room_of_block ≤ length b
@@ -65,7 +65,7 @@ module _ (left : List ℕ) (bytes : AreBytes left) where
       let rest = drop u left in
       let piece = take 512 rest in
       let later = blocks_of (drop (length piece) rest) in
-      prints_as (block-prints piece (piece_bytes 512 u left bytes) w ready going there (file_from later))
+      prints_as (block_prints piece (piece_bytes 512 u left bytes) w ready going there (file_from later))
       (ap₂ (λ (b : Bool) (bs : List (List ℕ)). cond b [] (left_of w.run.flits (file_from bs w.run.place w.run.router)))
       going (first_block rest h))
       (ap (λ (l : List ℕ). left_in (block_taken piece w).run (file_from (blocks_of l))) (drop-drop (length piece) u left))
@@ -91,14 +91,14 @@ module _ (left : List ℕ) (bytes : AreBytes left) where
     Agree i u = (j : ℕ) → i ≤ j → 512 * j < u → block_at part (512 * j) ≡ take 512 (drop (512 * j) left)
 
     -- at most n blocks from block i on, none of them empty
-    pub goes-print : (n i : ℕ) (c : Call) → (0 < n → c.used ≡ 512 * i) → c.used + n * 512 < length part + 512
+    pub goes_print : (n i : ℕ) (c : Call) → (0 < n → c.used ≡ 512 * i) → c.used + n * 512 < length part + 512
         → (c.writing.run.over ≡ false → Ready c.writing.run) → c.writing.at ≤ length c.writing.buffer
         → Agree i (going_on part n c).used → On c (going_on part n c)
     unfolding going_on
-    goes-print zero i c at fits ready inside agree = prints_none c.writing c.writing _ _ refl refl inside refl
-    goes-print (suc n) i c at fits ready inside agree =
+    goes_print zero i c at fits ready inside agree = prints_none c.writing c.writing _ _ refl refl inside refl
+    goes_print (suc n) i c at fits ready inside agree =
         go c.writing.run.over refl (lacks_block_room c.writing.buffer c.writing.at) refl agree
-        (λ a f r j g. goes-print n (suc i) (takes part c) a f r j g)
+        (λ a f r j g. goes_print n (suc i) (takes part c) a f r j g)
       where
         here : c.used ≡ 512 * i
         here = at (omega arith)

@@ -90,18 +90,18 @@ module _ (block : List ℕ) (bytes : AreBytes block) (q : Place) (c : ℕ) where
     part_bytes : AreBytes part
     part_bytes = piece_bytes cycle_length (cycle_start k) block bytes
 
-    one-ran : (v : Verdict) → (step_of w.run.router part).verdict ≡ v
+    one_ran : (v : Verdict) → (step_of w.run.router part).verdict ≡ v
         → (later.run.over ≡ false → Stands q (c + (k + 1)) later.run
         → Ran q c (k + 1 + n) (cycles_from block (k + 1) n later).run)
         → Ran q c (k + suc n) (cycles_from block (k + 1) n later).run
-    one-ran Accepted e rest =
+    one_ran Accepted e rest =
         let is = cycled_on part w e q (c + k) part_bytes s in
         subst (λ (m : ℕ). Ran q c m (cycles_from block (k + 1) n later).run) (omega arith)
         (rest (ap (λ (m : Run). m.over) is ∙ o)
         (subst (λ (m : Run). Stands q (c + (k + 1)) m) (sym is)
         (subst (λ (m : ℕ). Stands q m (next q (c + k) w.run part part_bytes s e)) (omega arith)
         (accepted_stands q (c + k) w.run part part_bytes s e))))
-    one-ran (Refused r) e rest =
+    one_ran (Refused r) e rest =
         let is = cycled_off part w r e in
         subst (λ (v : Writing). Ran q c (k + suc n) v.run) (sym (cycles_over block (k + 1) n later (ap (λ (m : Run). m.over) is)))
         (subst (Ran q c (k + suc n)) (sym is) (stopped k (omega arith) refl
@@ -113,5 +113,5 @@ module _ (block : List ℕ) (bytes : AreBytes block) (q : Place) (c : ℕ) where
   cycles_ran zero k w l o s = through o (subst (λ (m : ℕ). Stands q (c + m) w.run) (sym (add-zero k)) s)
   cycles_ran (suc n) k w l o s =
       subst (λ (b : Bool). Ran q c (k + suc n) (cond b w (cycles_from block (k + 1) n (cycled (part_at block k) w))).run) (sym o)
-      (one-ran n k w l o s (step_of w.run.router (part_at block k)).verdict refl
+      (one_ran n k w l o s (step_of w.run.router (part_at block k)).verdict refl
       (λ d t. cycles_ran n (k + 1) (cycled (part_at block k) w) (omega arith) d t))

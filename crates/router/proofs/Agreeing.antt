@@ -62,11 +62,11 @@ module _ (s : Router) (few : s.config.ports ≤ 8) where
 
   module _ (picks : List ℕ) (agree : (i : ℕ) → i < c.ports → pick_in picks i ≡ input_pick s i) where
     -- the table
-    pub table-agrees : (table : List (List ℕ))
+    pub table_agrees : (table : List (List ℕ))
         → ((i o : ℕ) → i < c.ports → o < 8 → asks_in table i o ≡ picked c s.inputs i o (pick_in picks i))
         → (i o : ℕ) → i < c.ports → o < 8 → asks_in table i o ≡ request s i o
     unfolding request
-    table-agrees table f i o h l = f i o h l ∙ ap (picked c s.inputs i o) (agree i h)
+    table_agrees table f i o h l = f i o h l ∙ ap (picked c s.inputs i o) (agree i h)
 
     -- each output's pick
     pub rows_agree : (table : List (List ℕ)) → ((i o : ℕ) → i < c.ports → o < 8 → asks_in table i o ≡ request s i o) → (rows : List ℕ)
@@ -80,10 +80,10 @@ module _ (s : Router) (few : s.config.ports ≤ 8) where
         (of_narrow (get_or s.arbiters.outputs o past_narrow)) (λ i l. t i o l (omega arith))
 
     -- who leaves by each output
-    pub winners-agree : (rows : List ℕ) → ((o : ℕ) → o < c.ports → pick_in rows o ≡ output_pick s o)
+    pub winners_agree : (rows : List ℕ) → ((o : ℕ) → o < c.ports → pick_in rows o ≡ output_pick s o)
         → (o : ℕ) → o < c.ports → vc_of (pick_in picks) (pick_in rows o) ≡ winner s o
     unfolding winner output_pick
-    winners-agree rows f o h = ap (vc_of (pick_in picks)) (f o h) ∙ go (output_pick s o) refl
+    winners_agree rows f o h = ap (vc_of (pick_in picks)) (f o h) ∙ go (output_pick s o) refl
       where
         go : (w : Option ℕ) → output_pick s o ≡ w → vc_of (pick_in picks) w ≡ vc_of (input_pick s) w
         go none e = refl

@@ -56,9 +56,9 @@ module _ (b : Binding) (store : List ℕ) (x queued : ℕ) where
     rest = map slot_flit (take (queued - 1) (take 15 (drop (suc (first_slot x)) store)))
 
     -- the queue is its front and the rest
-    front-first : queue_at store (first_slot x) queued ≡ front_of store x ∷ rest
+    front_first : queue_at store (first_slot x) queued ≡ front_of store x ∷ rest
     unfolding queue_at
-    front-first =
+    front_first =
         let e : queued ≡ suc (queued - 1) = positive queued some in
         ap₂ (λ (q : ℕ) (l : List ℕ). map slot_flit (take q (take 16 l))) e (drop-cons store (first_slot x) 0 (omega arith))
         ∙ ap (λ (f : Flit). f ∷ rest) (front_there store x there)
@@ -66,16 +66,16 @@ module _ (b : Binding) (store : List ℕ) (x queued : ℕ) where
     front_is : (o : ℕ)
         → front_is_for o (queue_at store (first_slot x) queued) ≡
         (starts_kind (kind_of (front_of store x)) && eqb (destination_of (front_of store x)) o)
-    front_is o = ap (front_is_for o) front-first
+    front_is o = ap (front_is_for o) front_first
 
     -- nor one whose front flit is no first
-    pub asks-inside : starts_kind (kind_of (front_of store x)) ≡ false → (o : ℕ) → o < 8 → eqb 8 o ≡ asks_at b store x queued o
-    asks-inside e o h = rw (no_eight o h, front_is o, e) (sym (and-false (is_unbound b)))
+    pub asks_inside : starts_kind (kind_of (front_of store x)) ≡ false → (o : ℕ) → o < 8 → eqb 8 o ≡ asks_at b store x queued o
+    asks_inside e o h = rw (no_eight o h, front_is o, e) (sym (and-false (is_unbound b)))
 
     -- "asks at its destination"
-    pub asks-front : b ≡ Unbound → starts_kind (kind_of (front_of store x)) ≡ true
+    pub asks_front : b ≡ Unbound → starts_kind (kind_of (front_of store x)) ≡ true
         → (o : ℕ) → eqb (destination_of (front_of store x)) o ≡ asks_at b store x queued o
-    asks-front u e o = rw (u, front_is o, e)
+    asks_front u e o = rw (u, front_is o, e)
 
 -- a list of places, place by place
 module _ {A : Type 0} where

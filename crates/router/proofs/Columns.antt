@@ -34,17 +34,17 @@ module _ (c : Config) (inputs : List InputVc) (i pick : ℕ) where
 
   module _ (some-pick : pick ≡ 0 → ⊥) (v : ℕ) (vc : v ≡ pick - 1) (x : ℕ) (at : x ≡ channel_number c i v) where
     -- a pick asks where its VC is bound
-    asks-as-bound : (o : ℕ) → is_for o (get_or inputs x (fresh_input 0)).binding ≡ picked c inputs i o (named pick)
-    asks-as-bound o = rw (named_some pick some-pick, sym vc, at)
+    asks_as_bound : (o : ℕ) → is_for o (get_or inputs x (fresh_input 0)).binding ≡ picked c inputs i o (named pick)
+    asks_as_bound o = rw (named_some pick some-pick, sym vc, at)
 
     pub past_the_end : length inputs ≤ x → (o : ℕ) → o < 8 → eqb 8 o ≡ picked c inputs i o (named pick)
     past_the_end far o h =
         ne_eqb 8 o (omega arith) ∙ ap (λ (y : InputVc). is_for o y.binding) (sym (get_or-eq_default inputs (fresh_input 0) far))
-        ∙ asks-as-bound o
+        ∙ asks_as_bound o
 
-    pub as-bound : (r : ℕ) → ((o : ℕ) → o < 8 → eqb r o ≡ is_for o (get_or inputs x (fresh_input 0)).binding)
+    pub as_bound : (r : ℕ) → ((o : ℕ) → o < 8 → eqb r o ≡ is_for o (get_or inputs x (fresh_input 0)).binding)
         → (o : ℕ) → o < 8 → eqb r o ≡ picked c inputs i o (named pick)
-    as-bound r f o h = f o h ∙ asks-as-bound o
+    as_bound r f o h = f o h ∙ asks_as_bound o
 
 -- whether input i asks at output o
 abbrev pub asks_at : List (List ℕ) → ℕ → ℕ → Bool
@@ -108,40 +108,40 @@ module _ (c : Config) (inputs : List InputVc) (picks : List ℕ) (table : List (
     other j d = get_or-set_other table i j row [] d
 
     -- who asks has a pick
-    has-pick : get_or picks i 0 ≡ 0 → ⊥
-    has-pick e = true≢false (sym (eq-eqb r r refl) ∙ asked r h ∙ ap (λ (p : ℕ). picked c inputs i r (named p)) e)
+    has_pick : get_or picks i 0 ≡ 0 → ⊥
+    has_pick e = true≢false (sym (eq-eqb r r refl) ∙ asked r h ∙ ap (λ (p : ℕ). picked c inputs i r (named p)) e)
 
-    own-made : (o : ℕ) → o < 8 → asks_in next i o ≡ picked c inputs i o (pick_in picks i)
-    own-made o g = ap (λ (x : List ℕ). not (eqb (get_or x o 0) 0)) own ∙ go (eqb r o) refl
+    own_made : (o : ℕ) → o < 8 → asks_in next i o ≡ picked c inputs i o (pick_in picks i)
+    own_made o g = ap (λ (x : List ℕ). not (eqb (get_or x o 0) 0)) own ∙ go (eqb r o) refl
       where
         go : (b : Bool) → eqb r o ≡ b → not (eqb (get_or row o 0) 0) ≡ picked c inputs i o (pick_in picks i)
         go true e =
             let q : r ≡ o = eqb-true r o e in
             let v : get_or row o 0 ≡ get_or picks i 0 = rw (sym q)
             (get_or-set_same (get_or table i []) r (get_or picks i 0) 0 (rw (s.wide i low) h)) in
-            ap (λ (x : ℕ). not (eqb x 0)) v ∙ ap not (ne_eqb (get_or picks i 0) 0 has-pick) ∙ sym e ∙ asked o g
+            ap (λ (x : ℕ). not (eqb x 0)) v ∙ ap not (ne_eqb (get_or picks i 0) 0 has_pick) ∙ sym e ∙ asked o g
         go false e =
             let v : get_or row o 0 ≡ 0 = get_or-set_other (get_or table i []) r o (get_or picks i 0) 0 (λ q. eqb-false r o e (sym q))
             ∙ s.blank i o (le_refl i) in
             ap (λ (x : ℕ). not (eqb x 0)) v ∙ sym e ∙ asked o g
 
     -- it asks: its pick stands in the row
-    pub rows-with : RowsSoFar c inputs picks next (i + 1)
-    rows-with =
+    pub rows_with : RowsSoFar c inputs picks next (i + 1)
+    rows_with =
         record {
           long = length-set table i row ∙ s.long;
-          wide = λ j l. wide-next j l (eqb j i) refl;
+          wide = λ j l. wide_next j l (eqb j i) refl;
           made = λ j o l g.
               below_more (λ (k : ℕ). asks_in next k o ≡ picked c inputs k o (pick_in picks k)) i
-              (λ k m. ap (λ (x : List ℕ). not (eqb (get_or x o 0) 0)) (other k (omega arith)) ∙ s.made k o m g) (own-made o g) j l;
+              (λ k m. ap (λ (x : List ℕ). not (eqb (get_or x o 0) 0)) (other k (omega arith)) ∙ s.made k o m g) (own_made o g) j l;
           blank = λ j o l. ap (λ (x : List ℕ). get_or x o 0) (other j (omega arith)) ∙ s.blank j o (omega arith);
         }
       where
-        wide-next : (j : ℕ) → j < 8 → (b : Bool) → eqb j i ≡ b → length (get_or next j []) ≡ 8
-        wide-next j l true e =
+        wide_next : (j : ℕ) → j < 8 → (b : Bool) → eqb j i ≡ b → length (get_or next j []) ≡ 8
+        wide_next j l true e =
             ap (λ (k : ℕ). length (get_or next k [])) (eqb-true j i e) ∙ ap length own ∙ length-set (get_or table i []) r (get_or picks i 0)
             ∙ s.wide i low
-        wide-next j l false e = ap length (other j (eqb-false j i e)) ∙ s.wide j l
+        wide_next j l false e = ap length (other j (eqb-false j i e)) ∙ s.wide j l
 
 -- which row output o picks
 abbrev pub output_choice : Config → List (List ℕ) → List Narrow → ℕ → Option ℕ

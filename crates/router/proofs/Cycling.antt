@@ -43,17 +43,17 @@ module _ (c : Config) (before : RunParts) (store wire home out part store' wire'
     says w f = ap (λ (x : Stepped). x.verdict) (sym e) ∙ f
 
     -- a refused cycle: the arrays are as before
-    pub refused-run : (r : Refusal) → v ≡ Refused r
+    pub refused_run : (r : Refusal) → v ≡ Refused r
         → ended_by (refusal r.number before.cycle r.port) (writing_of c before store' wire' home' out)
         ≡ cycled part (writing_of c before store wire home out)
     unfolding cycled
-    refused-run r f =
+    refused_run r f =
         let same : router_of c cycle' parts' store' wire' home' ≡ s = ap (λ (x : Stepped). x.router) e
         ∙ (refused_leaves s part r (says (Refused r) f)).0 in
         rw (ap (λ (t : Router). t.store) same, ap (λ (t : Router). t.wire) same, ap (λ (t : Router). t.home) same, says (Refused r) f)
 
     -- an accepted one: its lines, its flits, the router after it
-    pub accepted-run : v ≡ Accepted → (r : Written) (out' : List ℕ) (size flits : ℕ)
+    pub accepted_run : v ≡ Accepted → (r : Written) (out' : List ℕ) (size flits : ℕ)
         → write_outcome r out' ≡ written out before.at (cycle_lines before.cycle reply)
         → ((b : List ℕ) → size ≡ (write_outcome r b).bytes)
         → flits ≡ flit_lines (cycle_lines before.cycle reply)
@@ -67,7 +67,7 @@ module _ (c : Config) (before : RunParts) (store wire home out part store' wire'
         }) store' wire' home' out'
         ≡ cycled part (writing_of c before store wire home out)
     unfolding cycled
-    accepted-run f r out' size flits g h k =
+    accepted_run f r out' size flits g h k =
         rw (k, sym e, f)
         (wrote_is (writing_of c (record {
           parts = parts';

@@ -54,12 +54,12 @@ module _ (c : Config) (rows picks : List ℕ) (l : Leaving) (o : ℕ) where
     won = rw (named_some (get_or rows o 0) n, sym e, named_some (get_or picks i 0) m, sym f)
 
     -- a winner that is not bound stays; there is none in a sound router
-    pub not-bound : (get_or l.inputs x (fresh_input 0)).binding ≡ Unbound → l ≡ leave_turn c rows picks l o
-    not-bound u = let w : (get_or l.inputs (channel_number c i v) (fresh_input 0)).binding ≡ Unbound = rw (sym h) u in rw (won, w)
+    pub not_bound : (get_or l.inputs x (fresh_input 0)).binding ≡ Unbound → l ≡ leave_turn c rows picks l o
+    not_bound u = let w : (get_or l.inputs (channel_number c i v) (fresh_input 0)).binding ≡ Unbound = rw (sym h) u in rw (won, w)
 
     -- a winner on no channel that there is
-    pub no-channel : length l.inputs ≤ x → l ≡ leave_turn c rows picks l o
-    no-channel g = not-bound (ap (λ (y : InputVc). y.binding) (get_or-eq_default l.inputs (fresh_input 0) g))
+    pub no_channel : length l.inputs ≤ x → l ≡ leave_turn c rows picks l o
+    no_channel g = not_bound (ap (λ (y : InputVc). y.binding) (get_or-eq_default l.inputs (fresh_input 0) g))
 
     -- the front flit of channel x leaves by VC w of output o, on channel y: what the code's parts make of it
     module _ (b : OutVc) (u : (get_or l.inputs x (fresh_input 0)).binding ≡ Bound b) {last : Bool} {store home : List ℕ} {input : InputVc}
@@ -71,16 +71,16 @@ module _ (c : Config) (rows picks : List ℕ) (l : Leaving) (o : ℕ) where
       gone outputs =
           record { inputs = set l.inputs x input; outputs = outputs; store = store; home = home; left = set l.left o report }
 
-      pub leaves-now : {output : OutputVc} → output ≡ output_left last (get_or l.outputs y (fresh_output 0))
+      pub leaves_now : {output : OutputVc} → output ≡ output_left last (get_or l.outputs y (fresh_output 0))
           → gone (set l.outputs y output) ≡ leave_turn c rows picks l o
-      leaves-now et =
+      leaves_now et =
           let p : (get_or l.inputs (channel_number c i v) (fresh_input 0)).binding ≡ Bound b = rw (sym h) u in
           let q : get_or picks i 0 ≡ v + 1 = omega arith in rw (won, p, et, ei, er, es, eh, el, ey, ew, q, h)
 
       -- its output VC is none that there is
-      pub leaves-past : length l.outputs ≤ y → gone l.outputs ≡ leave_turn c rows picks l o
-      leaves-past k =
-          ap gone (sym (set_out l.outputs y (output_left last (get_or l.outputs y (fresh_output 0))) k)) ∙ leaves-now refl
+      pub leaves_past : length l.outputs ≤ y → gone l.outputs ≡ leave_turn c rows picks l o
+      leaves_past k =
+          ap gone (sym (set_out l.outputs y (output_left last (get_or l.outputs y (fresh_output 0))) k)) ∙ leaves_now refl
 
 -- the channel of the winner at output o, 32 for none: what the code asks
 abbrev pub place : Config → List ℕ → List ℕ → ℕ → ℕ
@@ -109,8 +109,8 @@ module _ (c : Config) (rows picks : List ℕ) (o : ℕ) where
 
   -- read back
   module _ (x : ℕ) (e : x ≡ place c rows picks o) where
-    pub won-at : x < 32 → Won c rows picks o x
-    won-at h = by_row (eqb (get_or rows o 0) 0) refl (eqb (get_or picks (get_or rows o 0 - 1) 0) 0) refl
+    pub won_at : x < 32 → Won c rows picks o x
+    won_at h = by_row (eqb (get_or rows o 0) 0) refl (eqb (get_or picks (get_or rows o 0 - 1) 0) 0) refl
       where
         by_row : (p : Bool) → eqb (get_or rows o 0) 0 ≡ p → (q : Bool) → eqb (get_or picks (get_or rows o 0 - 1) 0) 0 ≡ q → Won c rows picks o x
         by_row true f q g = let k : x ≡ 32 = rw f at e in absurd (omega arith)
@@ -132,7 +132,7 @@ module _ (c : Config) (rows picks : List ℕ) (o : ℕ) where
             no_pick c rows picks l o (get_or rows o 0 - 1) (eqb-false (get_or rows o 0) 0 f) refl
             (eqb-true (get_or picks (get_or rows o 0 - 1) 0) 0 g)
         by_row false f false g =
-            no-channel c rows picks l o (get_or rows o 0 - 1) (get_or picks (get_or rows o 0 - 1) 0 - 1) x (eqb-false (get_or rows o 0) 0 f) refl
+            no_channel c rows picks l o (get_or rows o 0 - 1) (get_or picks (get_or rows o 0 - 1) 0 - 1) x (eqb-false (get_or rows o 0) 0 f) refl
             (eqb-false (get_or picks (get_or rows o 0 - 1) 0) 0 g) refl (rw (f, g) at e) h
 
   -- an input that picked has a place among the picks

@@ -115,10 +115,10 @@ module _ (block : List ℕ) (bytes : AreBytes block) (w : Writing) (configured :
   cycles_configured : (n k : ℕ) (v : Writing) → v.run.place.configured ≡ true → (cycles_from block k n v).run.place.configured ≡ true
   unfolding cycles_from
   cycles_configured zero k v e = e
-  cycles_configured (suc n) k v e = either v.run.over (cycles_configured n (k + 1) (cycled (part_at block k) v) (cycled-configured e))
+  cycles_configured (suc n) k v e = either v.run.over (cycles_configured n (k + 1) (cycled (part_at block k) v) (cycled_configured e))
     where
-      cycled-configured : v.run.place.configured ≡ true → (cycled (part_at block k) v).run.place.configured ≡ true
-      cycled-configured f = ap (λ (q : Place). q.configured) (cycled_place (part_at block k) v) ∙ f
+      cycled_configured : v.run.place.configured ≡ true → (cycled (part_at block k) v).run.place.configured ≡ true
+      cycled_configured f = ap (λ (q : Place). q.configured) (cycled_place (part_at block k) v) ∙ f
 
       either : (o : Bool) → (cycles_from block (k + 1) n (cycled (part_at block k) v)).run.place.configured ≡ true
           → (cond o v (cycles_from block (k + 1) n (cycled (part_at block k) v))).run.place.configured ≡ true

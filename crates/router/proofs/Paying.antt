@@ -40,7 +40,7 @@ module _ (c : Config) (home : List ℕ) where
   pub sender_some : (xs : List InputVc) (i p : ℕ) → p ≡ get_or home i 0 → (p ≡ 0 → ⊥)
       → turns.at (fresh_input 0) sender_paid xs (channel_number c i (p - 1)) ≡ sender_turn c home xs i
   sender_some xs i p e =
-      turns.turn-some (fresh_input 0) sender_paid c (home_place home 0) (credit_to c) (λ i xs. refl) (λ i v xs. refl) xs i p
+      turns.turn_some (fresh_input 0) sender_paid c (home_place home 0) (credit_to c) (λ i xs. refl) (λ i v xs. refl) xs i p
       (e ∙ place_is home i)
 
   pub sender_out : (xs : List InputVc) (i p : ℕ) → p ≡ get_or home i 0 → (p ≡ 0 → ⊥) → length xs ≤ channel_number c i (p - 1)
@@ -50,7 +50,7 @@ module _ (c : Config) (home : List ℕ) where
       (e ∙ place_is home i)
 
   pub senders_long : (xs : List InputVc) (n : ℕ) → length (over_ports n (sender_turn c home) xs) ≡ length xs
-  senders_long = turns.turns-long (fresh_input 0) sender_paid c (home_place home 0) (credit_to c) (λ i xs. refl) (λ i v xs. refl)
+  senders_long = turns.turns_long (fresh_input 0) sender_paid c (home_place home 0) (credit_to c) (λ i xs. refl) (λ i v xs. refl)
 
   pub senders_fit : (xs : List InputVc) (n : ℕ) → CreditsFit 16 xs → CreditsFit (16 + n) (over_ports n (sender_turn c home) xs)
   senders_fit xs n =
@@ -65,7 +65,7 @@ module _ (c : Config) (part : List ℕ) where
 
   pub output_some : (ys : List OutputVc) (o p : ℕ) → p ≡ credit_at part o → (p ≡ 0 → ⊥)
       → turns.at (fresh_output 0) output_paid ys (channel_number c o (p - 1)) ≡ output_turn c part ys o
-  output_some ys o p e = turns.turn-some (fresh_output 0) output_paid c (credit_at part) (credit_from c) (λ o ys. refl)
+  output_some ys o p e = turns.turn_some (fresh_output 0) output_paid c (credit_at part) (credit_from c) (λ o ys. refl)
       (λ o w ys. refl) ys o p e
 
   pub output_out : (ys : List OutputVc) (o p : ℕ) → p ≡ credit_at part o → (p ≡ 0 → ⊥) → length ys ≤ channel_number c o (p - 1)
@@ -73,7 +73,7 @@ module _ (c : Config) (part : List ℕ) where
   output_out ys o p e = turns.turn_out (fresh_output 0) output_paid c (credit_at part) (credit_from c) (λ o ys. refl) (λ o w ys. refl) ys o p e
 
   pub outputs_long : (ys : List OutputVc) (n : ℕ) → length (over_ports n (output_turn c part) ys) ≡ length ys
-  outputs_long = turns.turns-long (fresh_output 0) output_paid c (credit_at part) (credit_from c) (λ o ys. refl) (λ o w ys. refl)
+  outputs_long = turns.turns_long (fresh_output 0) output_paid c (credit_at part) (credit_from c) (λ o ys. refl) (λ o w ys. refl)
 
   pub outputs_fit : (ys : List OutputVc) (n : ℕ) → OutputCreditsFit 16 ys → OutputCreditsFit (16 + n) (over_ports n (output_turn c part) ys)
   outputs_fit ys n =

@@ -34,10 +34,10 @@ module _ (c : Config) (outputs : List OutputVc) (x : InputVc) where
 
   module _ (to : OutVc) (b : x.binding ≡ Bound to) where
     -- something is queued: the credit decides
-    pub credit-decides : (x.queued ≡ 0 → ⊥) → (y : ℕ) → y ≡ channel_number c to.output to.vc
+    pub credit_decides : (x.queued ≡ 0 → ⊥) → (y : ℕ) → y ≡ channel_number c to.output to.vc
         → not (eqb (get_or outputs y (fresh_output 0)).credit 0) ≡ is_ready c outputs x
     unfolding is_ready
-    credit-decides n y e =
+    credit_decides n y e =
         rw (b, e, ne_eqb x.queued 0 n)
         (sym (and-true (not (eqb (get_or outputs (channel_number c to.output to.vc) (fresh_output 0)).credit 0))))
 

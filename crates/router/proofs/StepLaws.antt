@@ -103,8 +103,8 @@ module _ (s : Router) (part : List ℕ) where
     unfolding router_after
     after_is t f = f ∙ ap sent_out (bound_is paid e)
 
-    pub said-is : (r : Reply) → r ≡ record { senders = reported s.config s.home; outputs = (leaving_of bound).left } → r
+    pub said_is : (r : Reply) → r ≡ record { senders = reported s.config s.home; outputs = (leaving_of bound).left } → r
         ≡ reply_of part s
     unfolding reply_of
-    said-is r f =
+    said_is r f =
         f ∙ ap (λ (t : Router). record { senders = reported s.config s.home; outputs = (leaving_of t).left }) (bound_is paid e)

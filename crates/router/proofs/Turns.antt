@@ -43,16 +43,16 @@ module _ {A : Type 0} (d : A) (g : A → A) where
     pub turn_none : (xs : List A) (i : ℕ) → names i ≡ 0 → xs ≡ turn xs i
     turn_none xs i e = rw e (sym (skips i xs))
 
-    pub turn-some : (xs : List A) (i p : ℕ) → p ≡ names i → (p ≡ 0 → ⊥) → at xs (channel_number c i (p - 1)) ≡ turn xs i
-    turn-some xs i p e n = rw (sym e, named_some p n) (sym (acts i (p - 1) xs))
+    pub turn_some : (xs : List A) (i p : ℕ) → p ≡ names i → (p ≡ 0 → ⊥) → at xs (channel_number c i (p - 1)) ≡ turn xs i
+    turn_some xs i p e n = rw (sym e, named_some p n) (sym (acts i (p - 1) xs))
 
     -- a VC that there is not changes nothing
     pub turn_out : (xs : List A) (i p : ℕ) → p ≡ names i → (p ≡ 0 → ⊥) → length xs ≤ channel_number c i (p - 1) → xs ≡ turn xs i
     turn_out xs i p e n l = sym (set_out xs (channel_number c i (p - 1)) (g (get_or xs (channel_number c i (p - 1)) d)) l)
-        ∙ turn-some xs i p e n
+        ∙ turn_some xs i p e n
 
-    pub turns-long : (xs : List A) (n : ℕ) → length (over_ports n turn xs) ≡ length xs
-    turns-long xs n = over_keeps (λ (t : List A). length t ≡ length xs) n turn xs (λ t i l e. go t i (named (names i)) e) refl
+    pub turns_long : (xs : List A) (n : ℕ) → length (over_ports n turn xs) ≡ length xs
+    turns_long xs n = over_keeps (λ (t : List A). length t ≡ length xs) n turn xs (λ t i l e. go t i (named (names i)) e) refl
       where
         go : (t : List A) (i : ℕ) (o : Option ℕ) → length t ≡ length xs → length (step i o t) ≡ length xs
         go t i none e = ap length (skips i t) ∙ e

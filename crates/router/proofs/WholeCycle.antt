@@ -27,7 +27,7 @@ use Rattle.router.specs.declared.allocation.Granted.{Granted}
 use Rattle.router.specs.Grants.{grant_at}
 use Rattle.router.specs.Picks.{pick_in, asks_in}
 use Rattle.router.specs.Whole.{router_of, bound_of}
-use Rattle.router.proofs.Agreeing.{grants_agree, picks_agree, table-agrees, rows_agree, winners-agree}
+use Rattle.router.proofs.Agreeing.{grants_agree, picks_agree, table_agrees, rows_agree, winners_agree}
 use Rattle.router.proofs.Choosing.{input_choice}
 use Rattle.router.proofs.Phases.{taken_in, allocated_is, sent_out-law}
 use Rattle.router.proofs.Resting.{no_picks, no_requests, picks_rest, requests_rest, rows_rest, arbiters_rest, nothing_leaves}
@@ -44,8 +44,8 @@ module _ (c : Config) (few : c.ports ≤ 8) (p : Parts) (part store wire home : 
     fourth n =
         router_of c n (record { inputs = inputs₄; outputs = outputs₂; vcs = p.vcs; ins = p.ins; outs = p.outs }) store₃ wire₄ home₁
 
-    fourth-is : (n : ℕ) → fourth n ≡ offers_taken part (landed (credits_returned part (router_of c n p store wire (advanced home))))
-    fourth-is n = rw eh (taken_in (router_of c n p store wire (advanced home)) part outputs₂ inputs₃ store₃ wire₃ inputs₄ wire₄ e2 e3 ew e4)
+    fourth_is : (n : ℕ) → fourth n ≡ offers_taken part (landed (credits_returned part (router_of c n p store wire (advanced home))))
+    fourth_is n = rw eh (taken_in (router_of c n p store wire (advanced home)) part outputs₂ inputs₃ store₃ wire₃ inputs₄ wire₄ e2 e3 ew e4)
 
     module _ (sets : List ℕ) (made : List Granted) (inputs₅ : List InputVc) (outputs₅ : List OutputVc) (vcs : List Wide)
         (ea : sets ≡ places 8 (λ (o : ℕ). word_of (asks inputs₄ store₃ o) (c.ports * c.vcs)))
@@ -58,10 +58,10 @@ module _ (c : Config) (few : c.ports ≤ 8) (p : Parts) (part store wire home : 
       fifth n =
           router_of c n (record { inputs = inputs₅; outputs = outputs₅; vcs = vcs; ins = p.ins; outs = p.outs }) store₃ wire₄ home₁
 
-      fifth-is : (n : ℕ) → fifth n ≡ bound_of c n p store wire home part
-      fifth-is n =
+      fifth_is : (n : ℕ) → fifth n ≡ bound_of c n p store wire home part
+      fifth_is n =
           allocated_is (fourth n) (grant_at made) inputs₅ outputs₅ vcs (grants_agree (fourth n) few sets ea made eg) eb em
-          ∙ ap allocated (fourth-is n)
+          ∙ ap allocated (fourth_is n)
 
       module _ (set : ℕ) (picks rows : List ℕ) (table : List (List ℕ)) (ins outs : List Narrow) (l : Leaving)
           (er : set ≡ word_of (λ (x : ℕ). is_ready c outputs₅ (get_or inputs₅ x (fresh_input 0))) (c.ports * c.vcs))
@@ -85,21 +85,21 @@ module _ (c : Config) (few : c.ports ≤ 8) (p : Parts) (part store wire home : 
             ≡ sent_out (fifth n)) × (l.left ≡ (leaving_of (fifth n)).left)
         sent n =
             let agree = picks_agree (fifth n) few set er picks ep in
-            let asked = table-agrees (fifth n) few picks agree table et in
+            let asked = table_agrees (fifth n) few picks agree table et in
             let rowed = rows_agree (fifth n) few picks agree table asked rows eo in
             sent_out-law (fifth n) (pick_in picks) (pick_in rows) (λ (o : ℕ). vc_of (pick_in picks) (pick_in rows o)) l ins outs agree rowed
-            (winners-agree (fifth n) few picks agree rows rowed) el ei eu
+            (winners_agree (fifth n) few picks agree rows rowed) el ei eu
 
         pub router_is : (n : ℕ)
             → router_of c (n + 1) (record { inputs = l.inputs; outputs = l.outputs; vcs = vcs; ins = ins; outs = outs })
             l.store wire₄ l.home
             ≡ sent_out (bound_of c n p store wire home part)
-        router_is n = (sent n).0 ∙ ap sent_out (fifth-is n)
+        router_is n = (sent n).0 ∙ ap sent_out (fifth_is n)
 
         pub reply_is : (senders : List Sender) → senders ≡ reported c home → (n : ℕ)
             → ◌≡◌ {A = Reply} (record { senders = senders; outputs = l.left })
             (record { senders = reported c home; outputs = (leaving_of (bound_of c n p store wire home part)).left })
-        reply_is senders es n = rw (es, (sent n).1 ∙ ap (λ (s : Router). (leaving_of s).left) (fifth-is n))
+        reply_is senders es n = rw (es, (sent n).1 ∙ ap (λ (s : Router). (leaving_of s).left) (fifth_is n))
 
       -- nobody is ready: phases 6 and 7 change nothing
       module _ (set : ℕ) (er : set ≡ word_of (λ (x : ℕ). is_ready c outputs₅ (get_or inputs₅ x (fresh_input 0))) (c.ports * c.vcs))
@@ -113,19 +113,19 @@ module _ (c : Config) (few : c.ports ≤ 8) (p : Parts) (part store wire home : 
           left = replicate 8 (record { left = left.Nothing });
         }
 
-        pub router-rests : (n : ℕ)
+        pub router_rests : (n : ℕ)
             → router_of c (n + 1) (record { inputs = inputs₅; outputs = outputs₅; vcs = vcs; ins = p.ins; outs = p.outs }) store₃ wire₄
             home₁
             ≡ sent_out (bound_of c n p store wire home part)
-        router-rests =
+        router_rests =
             router_is set no_picks no_picks no_requests p.ins p.outs stays er (λ i h. picks_rest c set p.ins rest i)
             (λ i o h g. requests_rest c inputs₅ i o) (λ o h. rows_rest c p.outs o) (arbiters_rest c c.vcs p.ins)
             (arbiters_rest c c.ports p.outs) (nothing_leaves c stays)
 
-        pub reply-rests : (senders : List Sender) → senders ≡ reported c home → (n : ℕ)
+        pub reply_rests : (senders : List Sender) → senders ≡ reported c home → (n : ℕ)
             → ◌≡◌ {A = Reply} (record { senders = senders; outputs = replicate 8 (record { left = left.Nothing }) })
             (record { senders = reported c home; outputs = (leaving_of (bound_of c n p store wire home part)).left })
-        reply-rests =
+        reply_rests =
             reply_is set no_picks no_picks no_requests p.ins p.outs stays er (λ i h. picks_rest c set p.ins rest i)
             (λ i o h g. requests_rest c inputs₅ i o) (λ o h. rows_rest c p.outs o) (arbiters_rest c c.vcs p.ins)
             (arbiters_rest c c.ports p.outs) (nothing_leaves c stays)

@@ -13,7 +13,7 @@ use lib.Dec.{eqb}
 use lib.ListN.{length, get_or, set}
 use borrow.Author.Tests.{eqb-true, eqb-false, eq-eqb}
 use Rattle.rules.specs.Ports.{over_ports}
-use Rattle.rules.proofs.Folds.{changed, changed_at, over_same, turns, turns-length, turns-elsewhere, turns_at}
+use Rattle.rules.proofs.Folds.{changed, changed_at, over_same, turns, turns_length, turns_elsewhere, turns_at}
 
 -- port i, of the first n, acts by e on place y
 pub record Actor {E : Type 0} (act : ℕ → Option E) (place : ℕ → E → ℕ) (n y : ℕ) : Type 0 where
@@ -86,13 +86,13 @@ module _ {A E : Type 0} (d : A) (act : ℕ → Option E) (place : ℕ → E → 
 
   -- the list keeps its length
   pub deeds_length : (n : ℕ) (xs : List A) → length (over_ports n deeds xs) ≡ length xs
-  deeds_length n xs = ap length (as_turns n xs) ∙ turns-length d (λ (i : ℕ). placed i (act i)) (λ (i : ℕ). changing i (act i)) n xs
+  deeds_length n xs = ap length (as_turns n xs) ∙ turns_length d (λ (i : ℕ). placed i (act i)) (λ (i : ℕ). changing i (act i)) n xs
 
   -- a place that no act is on stays
   pub untouched_stays : (n : ℕ) (xs : List A) (y : ℕ) → Untouched act place n y → get_or (over_ports n deeds xs) y d ≡ get_or xs y d
   untouched_stays n xs y off =
       ap (λ (l : List A). get_or l y d) (as_turns n xs)
-      ∙ turns-elsewhere d (λ (i : ℕ). placed i (act i)) (λ (i : ℕ). changing i (act i)) n xs y
+      ∙ turns_elsewhere d (λ (i : ℕ). placed i (act i)) (λ (i : ℕ). changing i (act i)) n xs y
       (λ i l q. let r = placed_acts i y (act i) q in off i r.0 l r.1 r.2)
 
   -- a place that one port alone acts on is changed by its act

@@ -62,14 +62,14 @@ pub at_rest : (delay ports : ℕ) (line : List ℕ) → ((k i : ℕ) → k < 8 �
 unfolding line_unused
 at_rest delay ports line f = all_every 8 _ (λ k h. all_every 8 _ (λ i g. go k i h g (ltb k delay) refl (ltb i ports) refl))
   where
-    zero-there : (k i : ℕ) (b : Bool) → get_or line (8 * k + i) 0 ≡ 0 → (b || eqb (get_or line (8 * k + i) 0) 0) ≡ true
-    zero-there k i true e = refl
-    zero-there k i false e = eq-eqb (get_or line (8 * k + i) 0) 0 e
+    zero_there : (k i : ℕ) (b : Bool) → get_or line (8 * k + i) 0 ≡ 0 → (b || eqb (get_or line (8 * k + i) 0) 0) ≡ true
+    zero_there k i true e = refl
+    zero_there k i false e = eq-eqb (get_or line (8 * k + i) 0) 0 e
 
     go : (k i : ℕ) → k < 8 → i < 8 → (a : Bool) → ltb k delay ≡ a → (b : Bool) → ltb i ports ≡ b
         → (a && b || eqb (get_or line (8 * k + i) 0) 0) ≡ true
-    go k i h g false p b q = zero-there k i false (f k i h g (inl (ltb-false k delay p)))
-    go k i h g true p false q = zero-there k i false (f k i h g (inr (ltb-false i ports q)))
+    go k i h g false p b q = zero_there k i false (f k i h g (inl (ltb-false k delay p)))
+    go k i h g true p false q = zero_there k i false (f k i h g (inr (ltb-false i ports q)))
     go k i h g true p true q = refl
 
 module _ (delay ports : ℕ) (line : List ℕ) (unused : line_unused delay ports line ≡ true) (whole : length line ≡ 64) where

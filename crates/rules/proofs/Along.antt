@@ -33,16 +33,16 @@ module _ {A : Type 0} where
 
   -- what turn i alone changes, where `Keeps` holds: `before` is seen of it up to that turn, `after` from then on
   module _ (Keeps : A → Type 0) (f : A → ℕ → A) where
-    pub over-becomes : {B C : Type 0} (before : A → B) (after : A → C) (change : B → C) (n : ℕ) (s : A) (i : ℕ) → i < n
+    pub over_becomes : {B C : Type 0} (before : A → B) (after : A → C) (change : B → C) (n : ℕ) (s : A) (i : ℕ) → i < n
         → ((t : A) (j : ℕ) → j < n → Keeps t → Keeps (f t j))
         → ((t : A) (j : ℕ) → j < n → j ≢ i → Keeps t → before (f t j) ≡ before t)
         → ((t : A) → Keeps t → after (f t i) ≡ change (before t))
         → ((t : A) (j : ℕ) → j < n → j ≢ i → Keeps t → after (f t j) ≡ after t) → Keeps s → after (over_ports n f s) ≡ change (before s)
     unfolding over_ports
-    over-becomes before after change zero s i l keeps b own a h = absurd (omega arith)
-    over-becomes {B} {C} before after change (suc n) s i l keeps b own a h =
+    over_becomes before after change zero s i l keeps b own a h = absurd (omega arith)
+    over_becomes {B} {C} before after change (suc n) s i l keeps b own a h =
         go (eqb n i) refl
-        (λ k. over-becomes before after change n s i k (λ t j m. keeps t j (omega arith)) (λ t j m. b t j (omega arith)) own
+        (λ k. over_becomes before after change n s i k (λ t j m. keeps t j (omega arith)) (λ t j m. b t j (omega arith)) own
         (λ t j m. a t j (omega arith)) h)
       where
         kept : Keeps (over_ports n f s)

@@ -21,7 +21,7 @@ use Rattle.state.specs.Sound.{arbiters_sound, arbiter_unused, arbiters_unused}
 use Rattle.state.specs.Views.{vc_arbiter, input_arbiter, output_arbiter}
 use Rattle.rules.specs.Ports.{over_ports}
 use Rattle.rules.specs.Allocation.{wide_moved, narrow_moved}
-use Rattle.rules.proofs.Folds.{turns, turns_at, turns-elsewhere}
+use Rattle.rules.proofs.Folds.{turns, turns_at, turns_elsewhere}
 
 -- a list in which each port changes its own place
 module _ {A : Type 0} (d : A) (g : ℕ → A → A) where
@@ -37,7 +37,7 @@ module _ {A : Type 0} (d : A) (g : ℕ → A → A) where
       same j i e = cc
 
   pub each_beyond : (n : ℕ) (xs : List A) (i : ℕ) → n ≤ i → get_or (over_ports n each xs) i d ≡ get_or xs i d
-  each_beyond n xs i l = turns-elsewhere d (λ (i : ℕ). some i) g n xs i (λ j h e. below j i h l e)
+  each_beyond n xs i l = turns_elsewhere d (λ (i : ℕ). some i) g n xs i (λ j h e. below j i h l e)
     where
       below : (j i : ℕ) → j < n → n ≤ i → some j ≡ some i → ⊥
       below j i h l e = let same : j ≡ i = cc in omega arith

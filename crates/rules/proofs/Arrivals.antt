@@ -22,7 +22,7 @@ use Rattle.state.proofs.EmptySlots.{empty_in, queued_at, push_keeps_empty, push_
 use Rattle.state.proofs.Queues.{queue_in, push_appends, push_keeps_others}
 use Rattle.store.proofs.Slots.{push_full, push_length}
 use Rattle.rules.specs.Intake.{Queues, one_more_queued, joined, landed_at, landings}
-use Rattle.rules.proofs.Channels.{channel_below, channel_apart, channel-room}
+use Rattle.rules.proofs.Channels.{channel_below, channel_apart, channel_room}
 use Rattle.rules.proofs.Folds.{over_keeps}
 use Rattle.rules.proofs.Turns.{over_once, over_stays}
 
@@ -146,7 +146,7 @@ module _ (c : Config) (legal : Legal c) (wire : List ℕ)
       go false e =
           let some = eqb-false (wire_place wire 0 i) 0 e in
           joins_elsewhere (channel_number c i (wire_vc (wire_place wire 0 i))) (wire_flit (wire_place wire 0 i)) q y w
-          (channel-room c legal i (wire_vc (wire_place wire 0 i)) h (near i h some)) here (n some)
+          (channel_room c legal i (wire_vc (wire_place wire 0 i)) h (near i h some)) here (n some)
 
   turn_here : (q : Queues) (i v : ℕ) → i < c.ports → v < c.vcs → Whole q
       → queued_at q.inputs (channel_number c i v) + length (on_vc v (wire_place wire 0 i)) ≤ 16 → (lane q (channel_number c i v)).empty ≡ true
@@ -164,11 +164,11 @@ module _ (c : Config) (legal : Legal c) (wire : List ℕ)
       go false e true p room empty =
           let same = eqb-true (wire_vc (wire_place wire 0 i)) v p in
           ap (λ (u : ℕ). lane (joins (channel_number c i u) (wire_flit (wire_place wire 0 i)) q) (channel_number c i v)) same
-          ∙ joins_here (channel_number c i v) (wire_flit (wire_place wire 0 i)) q w (channel-room c legal i v h g) (omega arith) empty
+          ∙ joins_here (channel_number c i v) (wire_flit (wire_place wire 0 i)) q w (channel_room c legal i v h g) (omega arith) empty
       go false e false p room empty =
           let some = eqb-false (wire_place wire 0 i) 0 e in
           joins_elsewhere (channel_number c i (wire_vc (wire_place wire 0 i))) (wire_flit (wire_place wire 0 i)) q (channel_number c i v) w
-          (channel-room c legal i (wire_vc (wire_place wire 0 i)) h (near i h some)) (channel-room c legal i v h g)
+          (channel_room c legal i (wire_vc (wire_place wire 0 i)) h (near i h some)) (channel_room c legal i v h g)
           (λ r. eqb-false (wire_vc (wire_place wire 0 i)) v p (channel_apart c i (wire_vc (wire_place wire 0 i)) i v (near i h some) g r).1)
 
   -- a channel that there is gets what its wire's oldest place holds
@@ -180,7 +180,7 @@ module _ (c : Config) (legal : Legal c) (wire : List ℕ)
   unfolding landings
   lane_lands q w i v h g room empty =
       over_once Whole (λ (t : Queues). lane t (channel_number c i v)) c.ports turn q i _ h turn_whole w
-      (λ t j l n k. turn_elsewhere t j (channel_number c i v) l (channel-room c legal i v h g) k
+      (λ t j l n k. turn_elsewhere t j (channel_number c i v) l (channel_room c legal i v h g) k
       (λ some r. n (channel_apart c j (wire_vc (wire_place wire 0 j)) i v (near j l some) g r).0))
       (λ t k e.
       turn_here t i v h g k (subst (λ (l : Lane). l.queued + length (on_vc v (wire_place wire 0 i)) ≤ 16) (sym e) room)

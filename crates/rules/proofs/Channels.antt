@@ -71,8 +71,8 @@ module _ (c : Config) where
 
   module _ (legal : Legal c) where
     -- the arrays have room for all of them
-    pub channels-room : c.ports * c.vcs ≤ 32
-    channels-room = channels_fit c.ports c.vcs legal.ports.1 legal.vcs.1
+    pub channels_room : c.ports * c.vcs ≤ 32
+    channels_room = channels_fit c.ports c.vcs legal.ports.1 legal.vcs.1
 
-    pub channel-room : (i v : ℕ) → i < c.ports → v < c.vcs → channel_number c i v < 32
-    channel-room i v h g = channel_fits c.ports c.vcs i v h g legal.ports.1 legal.vcs.1
+    pub channel_room : (i v : ℕ) → i < c.ports → v < c.vcs → channel_number c i v < 32
+    channel_room i v h g = channel_fits c.ports c.vcs i v h g legal.ports.1 legal.vcs.1

@@ -139,16 +139,16 @@ module _ (s : Router) (part : List ℕ) (bytes : AreBytes part) (accepted : (ste
   leaves_by i v o w q bound =
       let g = leaves_goes s part bytes accepted i v q in
       let x = winner_exits mid o (record { input = i; vc = v })
-      (ap (λ (t : OutVc). winner mid t.output) (bound-one _ _ (sym bound ∙ g.bound)) ∙ g.won) in
+      (ap (λ (t : OutVc). winner mid t.output) (bound_one _ _ (sym bound ∙ g.bound)) ∙ g.won) in
       let y = exit_is mid o x.0 x.1 in (
         x.0,
         x.1,
-        ap (λ (t : OutVc). t.vc) (bound-one _ _ (sym y.bound
+        ap (λ (t : OutVc). t.vc) (bound_one _ _ (sym y.bound
             ∙ ap₂ (λ (i v : ℕ). (input_at c mid.inputs i v).binding) x.2 x.3 ∙ bound)),
       )
     where
-      bound-one : (b d : OutVc) → Bound b ≡ Bound d → b ≡ d
-      bound-one b d k = cc
+      bound_one : (b d : OutVc) → Bound b ≡ Bound d → b ≡ d
+      bound_one b d k = cc
 
   -- whatever leaves by an output VC is an exit by it
   left_exits : (o w : ℕ) (d : Departure Flit) (ds : List (Departure Flit)) → departures_on o w now ≡ d ∷ ds
@@ -171,11 +171,11 @@ module _ (s : Router) (part : List ℕ) (bytes : AreBytes part) (accepted : (ste
   unfolding allocated taken_in offers_taken landed credits_returned credits_reached
   departures_alike o w port vc = go (touched_or_not (exit mid) (by_place mid) c.ports (channel_number c o w))
     where
-      none-leave : Untouched (exit mid) (by_place mid) c.ports (channel_number c o w) → (l : List (Departure Flit))
+      none_leave : Untouched (exit mid) (by_place mid) c.ports (channel_number c o w) → (l : List (Departure Flit))
           → departures_on o w now ≡ l
           → length l ≡ 0
-      none-leave off [] q = refl
-      none-leave off (d ∷ ds) q =
+      none_leave off [] q = refl
+      none_leave off (d ∷ ds) q =
           let x = left_exits o w d ds q in
           absurd (off o x.2 port x.3 (ap (channel_number c o) x.4))
 
@@ -190,7 +190,7 @@ module _ (s : Router) (part : List ℕ) (bytes : AreBytes part) (accepted : (ste
           ap₂ (λ (o w : ℕ). length (departures_on o w now)) (sym at.0) (sym at.1)
           ∙ exit_counts d.port d.deed d.below d.acts
           ∙ ap one (sym (passes_by-law mid (channel_number c o w) d))
-      go (inr off) = none-leave off (departures_on o w now) refl ∙ ap one (sym (none_passes mid (channel_number c o w) off))
+      go (inr off) = none_leave off (departures_on o w now) refl ∙ ap one (sym (none_passes mid (channel_number c o w) off))
 
   -- none leaves by an output VC that there is not
   pub departures_beyond : (o w : ℕ) → is_there c o w ≡ false → length (departures_on o w now) ≡ 0

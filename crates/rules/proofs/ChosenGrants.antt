@@ -103,10 +103,10 @@ module _ (s : Router) (part : List ℕ) (bytes : AreBytes part) (accepted : (ste
         destination_there c y (omega arith) (both (legal_flit c y) (all (legal_flit c) q) (sym (ap (all (legal_flit c)) r) ∙ legal)).0
 
     -- an output grants it the VC
-    granted-at : (o : ℕ) (g : Grant) → o < c.ports → grant_of came o ≡ some g → g.requester ≡ x → (q : List Flit) → front_is_for o q ≡ true
+    granted_at : (o : ℕ) (g : Grant) → o < c.ports → grant_of came o ≡ some g → g.requester ≡ x → (q : List Flit) → front_is_for o q ≡ true
         → grant_by c a f e i v q ≡ some (record { output = o; vc = g.vc })
-    granted-at o g h r there [] front = absurd (false≢true front)
-    granted-at o g h r there (y ∷ q) front =
+    granted_at o g h r there [] front = absurd (false≢true front)
+    granted_at o g h r there (y ∷ q) front =
         let to : destination_of y ≡ o = eqb-true (destination_of y) o (both (starts_kind (kind_of y)) (eqb (destination_of y) o) front).1 in
         ap (λ (o : ℕ). cond (names x (binds_at c a f e o)) (to_vc c a f e o (least_free c a f e o)) none) to
         ∙ ap₂ (λ (b w : Option ℕ). cond (names x b) (to_vc c a f e o w) none) (binds_alike s part bytes accepted o h ∙ ap requester_of r)
@@ -114,9 +114,9 @@ module _ (s : Router) (part : List ℕ) (bytes : AreBytes part) (accepted : (ste
         ∙ ap (λ (b : Bool). cond b (some (record { output = o; vc = g.vc })) none) (eq-eqb g.requester x there)
 
     -- no output grants it one
-    ungranted-at : Untouched (grant_of came) (asking came) c.ports x → (q : List Flit) → queue ≡ q → grant_by c a f e i v q ≡ none
-    ungranted-at off [] r = refl
-    ungranted-at off (y ∷ q) r =
+    ungranted_at : Untouched (grant_of came) (asking came) c.ports x → (q : List Flit) → queue ≡ q → grant_by c a f e i v q ≡ none
+    ungranted_at off [] r = refl
+    ungranted_at off (y ∷ q) r =
         ap (λ (b : Option ℕ). cond (names x b) (to_vc c a f e (destination_of y) (least_free c a f e (destination_of y))) none)
         (binds_alike s part bytes accepted (destination_of y) (front_there y q r))
         ∙ ap (λ (b : Bool). cond b (to_vc c a f e (destination_of y) (least_free c a f e (destination_of y))) none)
@@ -133,17 +133,17 @@ module _ (s : Router) (part : List ℕ) (bytes : AreBytes part) (accepted : (ste
         go : Actor (grant_of came) (asking came) c.ports x ⊎ Untouched (grant_of came) (asking came) c.ports x
             → grant_by c a f e i v queue ≡ name_of (grant_to came x)
         go (inl d) =
-            granted-at d.port d.deed d.below d.acts d.there queue
+            granted_at d.port d.deed d.below d.acts d.there queue
             (ap (λ (x : ℕ). front_is_for d.port (queue_at came.store (first_slot x) (get_or came.inputs x (fresh_input 0)).queued))
             (sym d.there)
             ∙ (grant_is came d.port d.deed d.acts).front)
             ∙ ap name_of (sym (grant_to-law came x d))
-        go (inr off) = ungranted-at off queue refl ∙ ap name_of (sym (no_grant_to came x off))
+        go (inr off) = ungranted_at off queue refl ∙ ap name_of (sym (no_grant_to came x off))
 
     -- the output VC that it is granted
-    pub grant-alike : grant c a f e i v ≡ name_of (grant_to came x)
+    pub grant_alike : grant c a f e i v ≡ name_of (grant_to came x)
     unfolding grant
-    grant-alike =
+    grant_alike =
         ap₂ (λ (b : Bool) (q : List Flit). cond b (grant_by c a f e i v q) none) (is_there-law c i v port vc)
         (queue_came s part bytes accepted i v port vc)
         ∙ by_alike

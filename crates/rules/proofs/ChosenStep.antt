@@ -40,7 +40,7 @@ use Rattle.rules.proofs.Accepted.{readied, accepted_none, accepted_before, accep
 use Rattle.rules.proofs.Choices.{grant_to, leaves_from}
 use Rattle.rules.proofs.ChosenDepartures.{departures_alike, departures_beyond}
 use Rattle.rules.proofs.ChosenEvent.{fresh_stays, offered_alike, offered_beyond, credit_beyond}
-use Rattle.rules.proofs.ChosenGrants.{grant-alike}
+use Rattle.rules.proofs.ChosenGrants.{grant_alike}
 use Rattle.rules.proofs.ChosenLeaves.{leaves_alike, leaves_beyond}
 use Rattle.rules.proofs.ChosenViews.{is_there-law, view_there, view_beyond, credit_came}
 use Rattle.rules.proofs.ChosenWinners.{named_granted, bound_beyond}
@@ -50,7 +50,7 @@ use Rattle.rules.proofs.IntakeViews.{output_credit_after}
 use Rattle.rules.proofs.LeavingViews.{now_bound, one, front_ends}
 use Rattle.rules.proofs.OfferedFlits.{offered_kind}
 use Rattle.rules.proofs.Offers.{brings_on, offered}
-use Rattle.rules.proofs.StepChannel.{stepped_view, channel-steps, output_credit_steps}
+use Rattle.rules.proofs.StepChannel.{stepped_view, channel_steps, output_credit_steps}
 
 -- whether a front ends a packet, in both words
 ends_alike : (q : List Flit) → ends_packet look q ≡ front_ends q
@@ -100,34 +100,34 @@ module _ (s : Router) (part : List ℕ) (bytes : AreBytes part) (accepted : (ste
 
   -- of a channel that there is not
   module _ (i v : ℕ) (out : is_there c i v ≡ false) where
-    later-beyond : view_of later i v ≡ fresh_view c
-    later-beyond = view_beyond later i v (ap (λ (c : Config). is_there c i v) config_stays ∙ out) ∙ ap fresh_view config_stays
+    later_beyond : view_of later i v ≡ fresh_view c
+    later_beyond = view_beyond later i v (ap (λ (c : Config). is_there c i v) config_stays ∙ out) ∙ ap fresh_view config_stays
 
-    channel-beyond : channel_of (view_of later i v) ≡ after_cycle (channel_of (view_of s i v)) (phases.offered e i v) (one (leaves c a f e i v))
-    channel-beyond =
+    channel_beyond : channel_of (view_of later i v) ≡ after_cycle (channel_of (view_of s i v)) (phases.offered e i v) (one (leaves c a f e i v))
+    channel_beyond =
         let legal = sound_legal s before in
         let was = view_beyond s i v out in
         let brought = offered_beyond s part bytes accepted i v out in
         let stays = leaves_beyond s part bytes accepted i v out in
-        ap channel_of later-beyond ∙ fresh_stays c legal.forward.0 legal.back.0
+        ap channel_of later_beyond ∙ fresh_stays c legal.forward.0 legal.back.0
         ∙ (λ t. after_cycle (channel_of (sym was t)) (sym brought t) (one (sym stays t)))
 
-    opened-beyond : (view_of later i v).opened ≡ open_after look (view_of s i v).opened (phases.offered e i v)
-    opened-beyond =
-        ap (λ (y : ChannelView). y.opened) later-beyond
+    opened_beyond : (view_of later i v).opened ≡ open_after look (view_of s i v).opened (phases.offered e i v)
+    opened_beyond =
+        ap (λ (y : ChannelView). y.opened) later_beyond
         ∙ ap₂ (λ (y : ChannelView) (l : List Flit). open_after look y.opened l) (sym (view_beyond s i v out))
         (sym (offered_beyond s part bytes accepted i v out))
 
-    bound-later-beyond : name_of (view_of later i v).bound
+    bound_later_beyond : name_of (view_of later i v).bound
         ≡ bound_after look (leaves c a f e i v) (queue_now (channel_of (view_of s i v))) (bound_now c a f e i v)
-    bound-later-beyond =
-        ap (λ (y : ChannelView). name_of y.bound) later-beyond
+    bound_later_beyond =
+        ap (λ (y : ChannelView). name_of y.bound) later_beyond
         ∙ ap₂ (λ (l : Bool) (b : Option free.OutVc). bound_after look l (queue_now (channel_of (view_of s i v))) b)
         (sym (leaves_beyond s part bytes accepted i v out)) (sym (bound_beyond s part bytes accepted i v out))
 
-    credit-later-beyond : out_credit_of later i v ≡ out_credit_now f e i v - length (departures_on i v (entry (sizes_of c) f e k))
+    credit_later_beyond : out_credit_of later i v ≡ out_credit_now f e i v - length (departures_on i v (entry (sizes_of c) f e k))
     unfolding out_credit_of free_of
-    credit-later-beyond =
+    credit_later_beyond =
         let there : is_there later.config i v ≡ false = ap (λ (c : Config). is_there c i v) config_stays ∙ out in
         let brought = credit_beyond s part bytes accepted i v out in
         let stays = departures_beyond s part bytes accepted i v out in
@@ -149,23 +149,23 @@ module _ (s : Router) (part : List ℕ) (bytes : AreBytes part) (accepted : (ste
         stepped_view (channel_view s i v) (offered part i v)
         (cond (brings_on part i v) (not (ends_kind (kind_at part i))) (channel_view s i v).opened) (grant_to came x) (leaves_from mid x)
 
-    later-there : view_of later i v ≡ stepped
+    later_there : view_of later i v ≡ stepped
     unfolding view_of
-    later-there =
+    later_there =
         ap (λ (b : Bool). cond b (channel_view later i v) (fresh_view later.config))
         (ap (λ (c : Config). is_there c i v) config_stays ∙ is_there-law c i v port vc)
-        ∙ channel-steps s part bytes accepted i v port vc
+        ∙ channel_steps s part bytes accepted i v port vc
 
-    channel-there : channel_of (view_of later i v) ≡ after_cycle (channel_of (view_of s i v)) (phases.offered e i v) (one (leaves c a f e i v))
-    channel-there =
+    channel_there : channel_of (view_of later i v) ≡ after_cycle (channel_of (view_of s i v)) (phases.offered e i v) (one (leaves c a f e i v))
+    channel_there =
         let was = view_there s i v port vc in
         let brought = offered_alike c part i v port in
         let goes = leaves_alike s part bytes accepted i v port vc in
-        ap channel_of later-there ∙ (λ t. after_cycle (channel_of (sym was t)) (sym brought t) (one (sym goes t)))
+        ap channel_of later_there ∙ (λ t. after_cycle (channel_of (sym was t)) (sym brought t) (one (sym goes t)))
 
-    opened-there : (view_of later i v).opened ≡ open_after look (view_of s i v).opened (phases.offered e i v)
-    opened-there =
-        ap (λ (y : ChannelView). y.opened) later-there ∙ go (brings_on part i v) refl
+    opened_there : (view_of later i v).opened ≡ open_after look (view_of s i v).opened (phases.offered e i v)
+    opened_there =
+        ap (λ (y : ChannelView). y.opened) later_there ∙ go (brings_on part i v) refl
         ∙ ap₂ (λ (y : ChannelView) (l : List Flit). open_after look y.opened l) (sym (view_there s i v port vc))
         (sym (offered_alike c part i v port))
       where
@@ -177,25 +177,25 @@ module _ (s : Router) (part : List ℕ) (bytes : AreBytes part) (accepted : (ste
             let brought = (permitted s part before (accepted_none s part bytes accepted)).offers i port (both (brings part i) _ p).0 in
             ap (λ (n : ℕ). not (ends_kind n)) (sym (offered_kind c (sound_legal s before) part bytes i brought))
 
-    bound-later-there : name_of (view_of later i v).bound
+    bound_later_there : name_of (view_of later i v).bound
         ≡ bound_after look (leaves c a f e i v) (queue_now (channel_of (view_of s i v))) (bound_now c a f e i v)
     unfolding bound_now free_of
-    bound-later-there =
+    bound_later_there =
         let was = view_there s i v port vc in
         let goes = leaves_alike s part bytes accepted i v port vc in
         let queue = queue_now (channel_of (channel_view s i v)) in
         let bound = sym (named_granted (grant_to came x) (channel_view s i v).bound)
         ∙ ap₂ (λ (g : Option free.OutVc) (y : ChannelView). granted g (name_of y.bound))
-        (sym (grant-alike s part bytes accepted i v port vc))
+        (sym (grant_alike s part bytes accepted i v port vc))
         (sym was) in
-        ap (λ (y : ChannelView). name_of y.bound) later-there
+        ap (λ (y : ChannelView). name_of y.bound) later_there
         ∙ named_cond (leaves_from mid x && front_ends queue) (now_bound (grant_to came x) (channel_view s i v).bound)
         ∙ ap₂ (λ (d : Bool) (b : Option free.OutVc). cond (leaves_from mid x && d) none b) (sym (ends_alike queue)) bound
         ∙ ap₂ (λ (l : Bool) (y : ChannelView). bound_after look l (queue_now (channel_of y)) (bound_now c a f e i v)) (sym goes) (sym was)
 
-    credit-later-there : out_credit_of later i v ≡ out_credit_now f e i v - length (departures_on i v (entry (sizes_of c) f e k))
+    credit_later_there : out_credit_of later i v ≡ out_credit_now f e i v - length (departures_on i v (entry (sizes_of c) f e k))
     unfolding out_credit_of
-    credit-later-there =
+    credit_later_there =
         ap₂ (λ (b : Bool) (c : Config). cond b (output_at c later.outputs i v).credit later.config.downstream)
         (ap (λ (c : Config). is_there c i v) config_stays ∙ is_there-law c i v port vc) config_stays
         ∙ output_credit_steps s part bytes accepted i v port vc
@@ -221,8 +221,8 @@ module _ (s : Router) (part : List ℕ) (bytes : AreBytes part) (accepted : (ste
       λ t.
       record {
         cycle = cycle_steps t;
-        channel = λ i v. there_or_not i v (channel-there i v) (channel-beyond i v) t;
-        opened = λ i v. there_or_not i v (opened-there i v) (opened-beyond i v) t;
-        bound = λ i v. there_or_not i v (bound-later-there i v) (bound-later-beyond i v) t;
-        out_credit = λ o w. there_or_not o w (credit-later-there o w) (credit-later-beyond o w) t;
+        channel = λ i v. there_or_not i v (channel_there i v) (channel_beyond i v) t;
+        opened = λ i v. there_or_not i v (opened_there i v) (opened_beyond i v) t;
+        bound = λ i v. there_or_not i v (bound_later_there i v) (bound_later_beyond i v) t;
+        out_credit = λ o w. there_or_not o w (credit_later_there o w) (credit_later_beyond o w) t;
       }

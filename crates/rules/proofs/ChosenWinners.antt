@@ -37,9 +37,9 @@ use Rattle.rules.specs.Intake.{credits_reached, credits_returned, landed, offers
 use Rattle.rules.specs.Step.{taken_in, step_of}
 use Rattle.rules.proofs.Accepted.{readied, accepted_before, taken_sound, readied_sound}
 use Rattle.rules.proofs.AllocatedSound.{inputs_alike, outputs_alike}
-use Rattle.rules.proofs.Channels.{channel-room}
+use Rattle.rules.proofs.Channels.{channel_room}
 use Rattle.rules.proofs.Choices.{grant_to}
-use Rattle.rules.proofs.ChosenGrants.{grant-alike, grant_beyond}
+use Rattle.rules.proofs.ChosenGrants.{grant_alike, grant_beyond}
 use Rattle.rules.proofs.ChosenViews.{bound_came, queue_came, credit_came, view_beyond}
 use Rattle.rules.proofs.Facts.{sound_legal, sound_lengths}
 use Rattle.rules.proofs.LeavingViews.{now_bound, bound_now-law}
@@ -88,7 +88,7 @@ module _ (s : Router) (part : List ℕ) (bytes : AreBytes part) (accepted : (ste
   pub bound_alike : (i v : ℕ) → i < c.ports → v < c.vcs → bound_now c a f e i v ≡ name_of (bound_to (input_at c mid.inputs i v).binding)
   unfolding bound_now taken_in offers_taken landed credits_returned credits_reached
   bound_alike i v port vc =
-      ap₂ granted (grant-alike s part bytes accepted i v port vc) (bound_came s part bytes accepted i v port vc)
+      ap₂ granted (grant_alike s part bytes accepted i v port vc) (bound_came s part bytes accepted i v port vc)
       ∙ named_granted (grant_to came (channel_number c i v)) (bound_to (input_at c came.inputs i v).binding)
       ∙ ap name_of (sym (bound_now-law came (taken_sound s part bytes accepted) i v port vc))
 
@@ -99,39 +99,39 @@ module _ (s : Router) (part : List ℕ) (bytes : AreBytes part) (accepted : (ste
       ap₂ granted (grant_beyond s part bytes accepted i v out) (ap (λ (y : ChannelView). name_of y.bound) (view_beyond s i v out))
 
   module _ (i v : ℕ) (port : i < c.ports) (vc : v < c.vcs) where
-    paid-alike : (b : Binding) → (input_at c mid.inputs i v).binding ≡ b → paid c a f e (name_of (bound_to b)) ≡ has_credit c mid.outputs b
+    paid_alike : (b : Binding) → (input_at c mid.inputs i v).binding ≡ b → paid c a f e (name_of (bound_to b)) ≡ has_credit c mid.outputs b
     unfolding taken_in offers_taken landed credits_returned credits_reached
-    paid-alike Unbound q = refl
-    paid-alike (Bound b) q =
+    paid_alike Unbound q = refl
+    paid_alike (Bound b) q =
         let named = agree_now.bound i v port vc b q in
         ap (λ (n : ℕ). not (eqb n 0))
         (credit_came s part bytes accepted b.output b.vc named.0 named.1
         ∙ sym (outputs_alike came (taken_sound s part bytes accepted) (λ (y : OutputVc). y.credit) (λ i v y. refl)
         (channel_number c b.output b.vc)))
 
-    empty-alike : is_empty (queue_of c came.store i v (input_at c came.inputs i v).queued) ≡ eqb (input_at c mid.inputs i v).queued 0
+    empty_alike : is_empty (queue_of c came.store i v (input_at c came.inputs i v).queued) ≡ eqb (input_at c mid.inputs i v).queued 0
     unfolding taken_in offers_taken landed credits_returned credits_reached
-    empty-alike =
+    empty_alike =
         queue_empty came.store (channel_number c i v) (input_at c came.inputs i v).queued
-        (channel-room c (sound_legal s (accepted_before s part bytes accepted)) i v port vc)
+        (channel_room c (sound_legal s (accepted_before s part bytes accepted)) i v port vc)
         (sound_lengths came (taken_sound s part bytes accepted)).store (queued_few came (taken_sound s part bytes accepted) i v port vc)
         ∙ ap (λ (n : ℕ). eqb n 0)
         (sym (inputs_alike came (taken_sound s part bytes accepted) (λ (y : InputVc). y.queued) (λ o w y. refl) (channel_number c i v)))
 
     -- who is ready
-    ready-alike : is_ready c a f e i v ≡ ready c mid.inputs mid.outputs i v
+    ready_alike : is_ready c a f e i v ≡ ready c mid.inputs mid.outputs i v
     unfolding is_ready allocation.is_ready
-    ready-alike =
+    ready_alike =
         ap₂ (λ (b : Option free.OutVc) (q : List Flit). paid c a f e b && not (is_empty q)) (bound_alike i v port vc)
         (queue_came s part bytes accepted i v port vc)
-        ∙ ap₂ (λ (b d : Bool). b && not d) (paid-alike (input_at c mid.inputs i v).binding refl) empty-alike
+        ∙ ap₂ (λ (b d : Bool). b && not d) (paid_alike (input_at c mid.inputs i v).binding refl) empty_alike
 
   -- the VC that an input picks
   pub input_alike : (i : ℕ) → i < c.ports → input_winner c a f e i ≡ input_pick mid i
   unfolding input_winner input_pick allocated taken_in offers_taken landed credits_returned credits_reached
   input_alike i port =
       choice_same 8 c.arbiter c.vcs (is_ready c a f e i) (ready c mid.inputs mid.outputs i) (of_narrow (input_arbiter a i))
-      (λ v vc. ready-alike i v port vc)
+      (λ v vc. ready_alike i v port vc)
 
   for_alike : (o : ℕ) (b : Binding) → is_for c a f e o (name_of (bound_to b)) ≡ allocation.is_for o b
   for_alike o Unbound = refl

@@ -22,7 +22,7 @@ use Rattle.rules.specs.Ports.{named}
 use Rattle.rules.specs.Intake.{advanced, sender_paid, credit_to, senders_paid, credits_reached}
 use Rattle.rules.proofs.Folds.{changed, over_same}
 use Rattle.rules.proofs.Named.{named_there, named_raises}
-use Rattle.rules.proofs.Turns.{on_channel, Made, made_length, made_keeps, made_at, made-past}
+use Rattle.rules.proofs.Turns.{on_channel, Made, made_length, made_keeps, made_at, made_past}
 use Rattle.rules.proofs.Lines.{total_first}
 use Rattle.rules.proofs.Advance.{advanced_length, advanced_rest, advanced_legal, home_advanced}
 use Rattle.rules.proofs.Facts.{credits_sum, sum_credits, sound_legal, sound_lengths, inputs_room, home_at}
@@ -54,15 +54,15 @@ module _ (c : Config) (home : List ℕ) (inputs : List InputVc) where
     there i v h e = named_there (home_place home 0 i) c.vcs v (near i h) e
 
     -- the credit that comes out of the home line's oldest place raises the credit of the VC that it names
-    pub credit-reaches : (i v : ℕ) → i < c.ports → v < c.vcs → c.ports * c.vcs ≤ length inputs
+    pub credit_reaches : (i v : ℕ) → i < c.ports → v < c.vcs → c.ports * c.vcs ≤ length inputs
         → (input_at c (senders_paid c home inputs) i v).credit ≡ (input_at c inputs i v).credit + to_vc v (home_place home 0 i)
-    credit-reaches i v h g room =
+    credit_reaches i v h g room =
         ap (λ (x : InputVc). x.credit) (made_at paid there i v h g room)
         ∙ named_raises (λ (x : InputVc). x.credit) sender_paid (λ x. refl) v (home_place home 0 i) (input_at c inputs i v)
 
     -- what is no channel's stays
-    pub paid-past : (x : ℕ) → c.ports * c.vcs ≤ x → get_or (senders_paid c home inputs) x (fresh_input 0) ≡ get_or inputs x (fresh_input 0)
-    paid-past = made-past paid there
+    pub paid_past : (x : ℕ) → c.ports * c.vcs ≤ x → get_or (senders_paid c home inputs) x (fresh_input 0) ≡ get_or inputs x (fresh_input 0)
+    paid_past = made_past paid there
 
 -- one credit goes from the home line to the sender
 pub home_total : (c : Config) (home : List ℕ) (i v : ℕ) → 1 ≤ c.back → home_of c (advanced home) i v
@@ -90,7 +90,7 @@ module _ (s : Router) (sound : Sound s) where
       let moved = home_total c s.home i v pos (home_advanced c i v (omega arith) s.home pos sound.sizes.home_rest
       (sound_lengths s sound).home) in
       let before = credits_sum c s.inputs s.wire s.home sound.flow.credits i v h g in
-      let raised = credit-reaches c s.home s.inputs near i v h g (inputs_room s sound) in
+      let raised = credit_reaches c s.home s.inputs near i v h g (inputs_room s sound) in
       let queued = paid_keeps c s.home s.inputs queued_of (λ x. refl) (channel_number c i v) in
       omega arith)
 
@@ -127,7 +127,7 @@ module _ (s : Router) (sound : Sound s) where
               queues = queues_kept c paid s.inputs s.store queued ∙ sound.flow.queues;
               output_credits = sound.flow.output_credits;
               channels =
-                  unused_kept c paid s.inputs s.outputs s.outputs (paid-past c s.home s.inputs near) (λ x h. refl)
+                  unused_kept c paid s.inputs s.outputs s.outputs (paid_past c s.home s.inputs near) (λ x h. refl)
                   ∙ sound.flow.channels;
               slots = slots_kept c paid s.inputs s.store queued ∙ sound.flow.slots;
             };

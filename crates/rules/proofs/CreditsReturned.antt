@@ -24,7 +24,7 @@ use Rattle.rules.specs.Intake.{output_paid, credit_from, outputs_paid, credits_r
 use Rattle.rules.proofs.Channels.{channel_at, all_channels}
 use Rattle.rules.proofs.Folds.{changed, over_same}
 use Rattle.rules.proofs.Named.{named_there, named_raises}
-use Rattle.rules.proofs.Turns.{on_channel, Made, made_length, made_keeps, made_at, made-past}
+use Rattle.rules.proofs.Turns.{on_channel, Made, made_length, made_keeps, made_at, made_past}
 use Rattle.rules.proofs.Facts.{sound_lengths, outputs_room}
 use Rattle.rules.proofs.Kept.{holder_of, names_kept, unused_kept}
 use Rattle.rules.proofs.Permitted.{CreditFits}
@@ -56,16 +56,16 @@ module _ (c : Config) (part : List ℕ) (outputs : List OutputVc) where
     there o w h e = named_there (credit_at part o) c.vcs w (near o h) e
 
     -- the row's credit raises the credit of the VC that it names
-    pub credit-returns : (o w : ℕ) → o < c.ports → w < c.vcs → c.ports * c.vcs ≤ length outputs
+    pub credit_returns : (o w : ℕ) → o < c.ports → w < c.vcs → c.ports * c.vcs ≤ length outputs
         → (output_at c (outputs_paid c part outputs) o w).credit ≡ (output_at c outputs o w).credit + to_vc w (credit_at part o)
-    credit-returns o w h g room =
+    credit_returns o w h g room =
         ap (λ (y : OutputVc). y.credit) (made_at returned there o w h g room)
         ∙ named_raises (λ (y : OutputVc). y.credit) output_paid (λ y. refl) w (credit_at part o) (output_at c outputs o w)
 
     -- what is no channel's stays
-    pub returned-past : (x : ℕ) → c.ports * c.vcs ≤ x → get_or (outputs_paid c part outputs) x (fresh_output 0)
+    pub returned_past : (x : ℕ) → c.ports * c.vcs ≤ x → get_or (outputs_paid c part outputs) x (fresh_output 0)
         ≡ get_or outputs x (fresh_output 0)
-    returned-past = made-past returned there
+    returned_past = made_past returned there
 
 module _ (s : Router) (part : List ℕ) (sound : Sound s)
     (fits : (o : ℕ) → o < s.config.ports → CreditFits s.config s.outputs part o) where
@@ -82,7 +82,7 @@ module _ (s : Router) (part : List ℕ) (sound : Sound s)
       all_channels c (λ o w. leb (output_at c (outputs_paid c part s.outputs) o w).credit c.downstream) (λ o w h g.
       let before = leb-true (output_at c s.outputs o w).credit c.downstream
       (channel_at c (λ o w. leb (output_at c s.outputs o w).credit c.downstream) sound.flow.output_credits o w h g) in
-      let raised = credit-returns c part s.outputs near o w h g (outputs_room s sound) in
+      let raised = credit_returns c part s.outputs near o w h g (outputs_room s sound) in
       le-leb _ c.downstream (go o w h (eqb (credit_at part o) (w + 1)) refl (output_at c s.outputs o w).credit refl before raised))
     where
       go : (o w : ℕ) → o < c.ports → (b : Bool) → eqb (credit_at part o) (w + 1) ≡ b → (n : ℕ) → (output_at c s.outputs o w).credit ≡ n
@@ -117,7 +117,7 @@ module _ (s : Router) (part : List ℕ) (sound : Sound s)
               queues = sound.flow.queues;
               output_credits = output_credits-law;
               channels =
-                  unused_kept c s.inputs s.inputs paid s.outputs (λ x h. refl) (returned-past c part s.outputs near)
+                  unused_kept c s.inputs s.inputs paid s.outputs (λ x h. refl) (returned_past c part s.outputs near)
                   ∙ sound.flow.channels;
               slots = sound.flow.slots;
             };

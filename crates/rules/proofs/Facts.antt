@@ -16,7 +16,7 @@ use Rattle.state.specs.declared.Router.{Router}
 use Rattle.state.specs.Sound.{Sound, shaped, credits_add_up, credits_whole, home_legal, wire_legal, wire_place_legal}
 use Rattle.state.specs.Views.{input_at, home_place, wire_place, wire_of, home_of, flat, total}
 use Rattle.state.proofs.Legal.{configuration_legal-law}
-use Rattle.rules.proofs.Channels.{channel_at, all_channels, channels-room}
+use Rattle.rules.proofs.Channels.{channel_at, all_channels, channels_room}
 
 -- the arrays are as long as the struct has them
 pub record Lengths (s : Router) : Type 0 where
@@ -64,10 +64,10 @@ module _ (s : Router) (sound : Sound s) where
 
   -- the arrays have room for all channels
   pub inputs_room : s.config.ports * s.config.vcs ≤ length s.inputs
-  inputs_room = let l = sound_lengths in let r = channels-room s.config sound_legal in omega arith
+  inputs_room = let l = sound_lengths in let r = channels_room s.config sound_legal in omega arith
 
   pub outputs_room : s.config.ports * s.config.vcs ≤ length s.outputs
-  outputs_room = let l = sound_lengths in let r = channels-room s.config sound_legal in omega arith
+  outputs_room = let l = sound_lengths in let r = channels_room s.config sound_legal in omega arith
 
   -- "home places are empty or legal"
   pub home_at : (k i : ℕ) → k < s.config.back → i < s.config.ports → home_place s.home k i ≤ s.config.vcs

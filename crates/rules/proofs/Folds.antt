@@ -76,18 +76,18 @@ module _ {A : Type 0} where
     abbrev pub turns : List A → ℕ → List A
     turns xs i = changed d (g i) (at i) xs
 
-    pub turns-length : (n : ℕ) (xs : List A) → length (over_ports n turns xs) ≡ length xs
+    pub turns_length : (n : ℕ) (xs : List A) → length (over_ports n turns xs) ≡ length xs
     unfolding over_ports
-    turns-length zero xs = refl
-    turns-length (suc n) xs = changed_length d (g n) (at n) (over_ports n turns xs) ∙ turns-length n xs
+    turns_length zero xs = refl
+    turns_length (suc n) xs = changed_length d (g n) (at n) (over_ports n turns xs) ∙ turns_length n xs
 
     -- a place that no port names stays
-    pub turns-elsewhere : (n : ℕ) (xs : List A) (y : ℕ) → ((i : ℕ) → i < n → at i ≢ some y) → get_or (over_ports n turns xs) y d ≡ get_or xs y d
+    pub turns_elsewhere : (n : ℕ) (xs : List A) (y : ℕ) → ((i : ℕ) → i < n → at i ≢ some y) → get_or (over_ports n turns xs) y d ≡ get_or xs y d
     unfolding over_ports
-    turns-elsewhere zero xs y h = refl
-    turns-elsewhere (suc n) xs y h =
+    turns_elsewhere zero xs y h = refl
+    turns_elsewhere (suc n) xs y h =
         changed_elsewhere d (g n) (at n) (over_ports n turns xs) y (h n (omega arith))
-        ∙ turns-elsewhere n xs y (λ i l. h i (omega arith))
+        ∙ turns_elsewhere n xs y (λ i l. h i (omega arith))
 
     -- a place that at most port i names is changed by it alone
     pub turns_at : (n : ℕ) (xs : List A) (y i : ℕ) → i < n → y < length xs → ((j : ℕ) → j < n → j ≢ i → at j ≢ some y)
@@ -100,9 +100,9 @@ module _ {A : Type 0} where
             → get_or (changed d (g n) (at n) (over_ports n turns xs)) y d ≡ changed_at y (g i) (at i) (get_or xs y d)
         go true e rest =
             let q = eqb-true n i e in
-            let long : y < length (over_ports n turns xs) = rw (turns-length n xs) m in
+            let long : y < length (over_ports n turns xs) = rw (turns_length n xs) m in
             changed_at-law d (g n) (at n) (over_ports n turns xs) y long
-            ∙ ap (λ (a : A). changed_at y (g n) (at n) a) (turns-elsewhere n xs y (λ j k. h j (omega arith) (λ r. absurd (omega arith))))
+            ∙ ap (λ (a : A). changed_at y (g n) (at n) a) (turns_elsewhere n xs y (λ j k. h j (omega arith) (λ r. absurd (omega arith))))
             ∙ ap (λ (k : ℕ). changed_at y (g k) (at k) (get_or xs y d)) q
         go false e rest =
             changed_elsewhere d (g n) (at n) (over_ports n turns xs) y (h n (omega arith) (eqb-false n i e))

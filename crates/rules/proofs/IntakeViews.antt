@@ -24,8 +24,8 @@ use Rattle.rules.proofs.Lines.{places_advance}
 use Rattle.rules.proofs.Advance.{advanced_place, home_advanced}
 use Rattle.rules.proofs.Facts.{sound_legal, sound_lengths, inputs_room, outputs_room, home_at}
 use Rattle.rules.proofs.Kept.{binding_of, inside_of, queued_of, holder_of}
-use Rattle.rules.proofs.CreditsReached.{paid_keeps, credit-reaches}
-use Rattle.rules.proofs.CreditsReturned.{credit-returns, returned_keeps}
+use Rattle.rules.proofs.CreditsReached.{paid_keeps, credit_reaches}
+use Rattle.rules.proofs.CreditsReturned.{credit_returns, returned_keeps}
 use Rattle.rules.proofs.Landed.{lands, landed_keeps, queue_lands, queued_lands}
 use Rattle.rules.proofs.Offers.{brings_on, offered, offers_keep}
 use Rattle.rules.proofs.OffersTaken.{newest_holds, older_stays, input_after, on_vc-law}
@@ -105,7 +105,7 @@ module _ (s : Router) (part : List ℕ) (sound : Sound s) (none : None (rules_of
   credit_after i v h g =
       ap (λ (x : InputVc). x.credit + length (offered part i v)) (input_is i v h g) ∙ go (brings_on part i v) refl
       ∙ landed_keeps (paid_up part s) (paid_up_sound s part sound none) (λ (x : InputVc). x.credit) (λ x. refl) (channel_number c i v)
-      ∙ credit-reaches c s.home s.inputs (λ j l. home_at s sound 0 j (sound_legal s sound).back.0 l) i v h g (inputs_room s sound)
+      ∙ credit_reaches c s.home s.inputs (λ j l. home_at s sound 0 j (sound_legal s sound).back.0 l) i v h g (inputs_room s sound)
     where
       go : (b : Bool) → brings_on part i v ≡ b
           → (cond b (offer_taken (kind_at part i) (mid_input i v)) (mid_input i v)).credit + length {A = Flit} (cond b (flit_at part i ∷ []) [])
@@ -135,7 +135,7 @@ module _ (s : Router) (part : List ℕ) (sound : Sound s) (none : None (rules_of
       → (output_at c (taken_in part s).outputs o w).credit ≡ (output_at c s.outputs o w).credit + to_vc w (credit_at part o)
   unfolding taken_in offers_taken landed credits_returned credits_reached
   output_credit_after o w h g =
-      credit-returns c part s.outputs (λ p l. ((permitted s part sound none).credits p l).there) o w h g (outputs_room s sound)
+      credit_returns c part s.outputs (λ p l. ((permitted s part sound none).credits p l).there) o w h g (outputs_room s sound)
 
   pub holder_after : (x : ℕ) → holder_of (get_or (taken_in part s).outputs x (fresh_output 0)) ≡ holder_of (get_or s.outputs x (fresh_output 0))
   unfolding taken_in offers_taken landed credits_returned credits_reached

@@ -59,19 +59,19 @@ module _ (c : Config) (later before : List InputVc) where
   names_kept out_later out_before same held =
       ap₂ ◌&&◌
       (channels_ext c _ _ (λ i v h g. ap (input_named c out_later i v) (same (channel_number c i v))
-      ∙ inputs-agree i v (input_at c before i v).binding))
+      ∙ inputs_agree i v (input_at c before i v).binding))
       (channels_ext c _ _ (λ o w h g. ap (output_named c later o w) (held (channel_number c o w))
-      ∙ outputs-agree o w (output_at c out_before o w).holder))
+      ∙ outputs_agree o w (output_at c out_before o w).holder))
     where
-      inputs-agree : (i v : ℕ) (b : Binding) → input_named c out_later i v b ≡ input_named c out_before i v b
-      inputs-agree i v Unbound = refl
-      inputs-agree i v (Bound b) =
+      inputs_agree : (i v : ℕ) (b : Binding) → input_named c out_later i v b ≡ input_named c out_before i v b
+      inputs_agree i v Unbound = refl
+      inputs_agree i v (Bound b) =
           ap (λ (h : Holder). ltb b.output c.ports && ltb b.vc c.vcs && holder_is i v h)
           (held (channel_number c b.output b.vc))
 
-      outputs-agree : (o w : ℕ) (h : Holder) → output_named c later o w h ≡ output_named c before o w h
-      outputs-agree o w Nobody = refl
-      outputs-agree o w (Held h) =
+      outputs_agree : (o w : ℕ) (h : Holder) → output_named c later o w h ≡ output_named c before o w h
+      outputs_agree o w Nobody = refl
+      outputs_agree o w (Held h) =
           ap (λ (b : Binding). ltb h.input c.ports && ltb h.vc c.vcs && binding_is o w b)
           (same (channel_number c h.input h.vc))
 

@@ -21,9 +21,9 @@ use Rattle.state.specs.Sound.{Sound, all, legal_flit, wire_place_legal, slots_em
 use Rattle.state.specs.Views.{channel_number, input_at, queue_of, wire_place, wire_of, wire_vc, wire_flit, on_vc, flat}
 use Rattle.state.proofs.EmptySlots.{empty_in, queued_at}
 use Rattle.rules.specs.Intake.{Queues, one_more_queued, joined, landed_at, landings, advanced, landed}
-use Rattle.rules.proofs.Channels.{channel_of, channel-room}
+use Rattle.rules.proofs.Channels.{channel_of, channel_room}
 use Rattle.rules.proofs.Folds.{changed}
-use Rattle.rules.proofs.Turns.{on_channel, Made, made_keeps, made-past, over_seen}
+use Rattle.rules.proofs.Turns.{on_channel, Made, made_keeps, made_past, over_seen}
 use Rattle.rules.proofs.Lines.{flat_end, flat_first}
 use Rattle.rules.proofs.Advance.{wire_advanced}
 use Rattle.rules.proofs.Facts.{credits_sum, sound_legal, sound_lengths, wire_at}
@@ -89,7 +89,7 @@ module _ (c : Config) (wire : List ℕ) (q : Queues) where
   pub landings_past : ((i : ℕ) → i < c.ports → wire_place wire 0 i ≢ 0 → wire_vc (wire_place wire 0 i) < c.vcs) → (x : ℕ)
       → c.ports * c.vcs ≤ x
       → get_or (landings c wire q).inputs x (fresh_input 0) ≡ get_or q.inputs x (fresh_input 0)
-  landings_past near = made-past counted (λ i v l. there i v l (eqb (wire_place wire 0 i) 0) refl)
+  landings_past near = made_past counted (λ i v l. there i v l (eqb (wire_place wire 0 i) 0) refl)
     where
       there : (i v : ℕ) → i < c.ports → (b : Bool) → eqb (wire_place wire 0 i) 0 ≡ b → cond b none (some (wire_vc (wire_place wire 0 i)))
           ≡ some v
@@ -143,7 +143,7 @@ module _ (s : Router) (sound : Sound s) where
       (lane before (channel_number c i v))
   landed_lane i v h g =
       lane_lands c (sound_legal s sound) s.wire near before whole i v h g (room i v h g)
-      (empty (channel_number c i v) (channel-room c (sound_legal s sound) i v h g))
+      (empty (channel_number c i v) (channel_room c (sound_legal s sound) i v h g))
 
   -- the slots behind a queue, or of no channel, are empty
   pub slots_land : slots_empty (landed s).inputs (landed s).store ≡ true
@@ -159,7 +159,7 @@ module _ (s : Router) (sound : Sound s) where
               (lane before (channel_number c i v))).empty
               ≡ true
           either true = refl
-          either false = empty (channel_number c i v) (channel-room c (sound_legal s sound) i v h g)
+          either false = empty (channel_number c i v) (channel_room c (sound_legal s sound) i v h g)
 
       go : (x : ℕ) → x < 32 → (b : Bool) → ltb x (c.ports * c.vcs) ≡ b → (lane after x).empty ≡ true
       go x h true e =

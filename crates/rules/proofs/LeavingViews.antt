@@ -31,7 +31,7 @@ use Rattle.rules.proofs.Choices.{none_passes}
 use Rattle.rules.proofs.Exits.{exit}
 use Rattle.rules.proofs.Facts.{sound_legal}
 use Rattle.rules.proofs.Left.{ends, from_place, by_place, others_stay, unused_outputs_stay}
-use Rattle.rules.proofs.LeftHome.{older_stays, sent_counts, unsent-counts}
+use Rattle.rules.proofs.LeftHome.{older_stays, sent_counts, unsent_counts}
 use Rattle.rules.proofs.LeftNames.{Leaves, Passes, left_at, passed_at}
 use Rattle.rules.proofs.LeftPackets.{exit_front, queue_stays}
 use Rattle.rules.proofs.Lines.{places_ext}
@@ -131,7 +131,7 @@ module _ (s : Router) (sound : Sound s) (i v : ℕ) (port : i < s.config.ports) 
       go : Leaves s sound x ⊎ Untouched (exit s) (from_place s) c.ports x
           → to_vc v (home_place (leaving_of s).home (c.back - 1) i) ≡ one (leaves_from s x)
       go (inl a) = sent_counts s sound i v port vc a ∙ ap one (sym (leaves_from-law s x a))
-      go (inr off) = unsent-counts s sound empty i v port vc off ∙ ap one (sym (none_leaves s x off))
+      go (inr off) = unsent_counts s sound empty i v port vc off ∙ ap one (sym (none_leaves s x off))
 
       before_last : List ℕ → List ℕ
       before_last [] = []

@@ -91,9 +91,9 @@ module _ (s : Router) (sound : Sound s) where
       ∙ ap (λ (b : Bool). cond b 1 0) (eq-eqb (a.deed.vc + 1) (v + 1) (ap (λ (n : ℕ). n + 1) from.1))
 
   module _ (empty : (i : ℕ) → i < c.ports → home_place s.home (c.back - 1) i ≡ 0) where
-    pub unsent-counts : (i v : ℕ) → i < c.ports → v < c.vcs → Untouched (exit s) (from_place s) c.ports (channel_number c i v)
+    pub unsent_counts : (i v : ℕ) → i < c.ports → v < c.vcs → Untouched (exit s) (from_place s) c.ports (channel_number c i v)
         → to_vc v (home_place (leaving_of s).home (c.back - 1) i) ≡ 0
-    unsent-counts i v h g off = go (touched_or_not (exit s) from_input c.ports i)
+    unsent_counts i v h g off = go (touched_or_not (exit s) from_input c.ports i)
       where
         go : Sends i ⊎ Untouched (exit s) from_input c.ports i → to_vc v (home_place (leaving_of s).home (c.back - 1) i) ≡ 0
         go (inl a) =
@@ -107,10 +107,10 @@ module _ (s : Router) (sound : Sound s) where
             ∙ ap (λ (b : Bool). cond b 1 0) (ne_eqb 0 (v + 1) (λ e. omega arith))
 
     -- the credits on their way home: the newest place's more
-    home-more : (i v : ℕ) → i < c.ports
+    home_more : (i v : ℕ) → i < c.ports
         → total (home_of c (leaving_of s).home i v) ≡ total (home_of c s.home i v) + to_vc v (home_place (leaving_of s).home (c.back - 1) i)
     unfolding home_of
-    home-more i v h =
+    home_more i v h =
         let few = (sound_legal s sound).ports.1 in
         total_newest c.back (λ (k : ℕ). to_vc v (home_place s.home k i)) (λ (k : ℕ). to_vc v (home_place (leaving_of s).home k i))
         (to_vc v (home_place (leaving_of s).home (c.back - 1) i)) (sound_legal s sound).back.0
@@ -121,8 +121,8 @@ module _ (s : Router) (sound : Sound s) where
         (λ k e. let last : k ≡ c.back - 1 = omega arith in ap (λ (k : ℕ). to_vc v (home_place (leaving_of s).home k i)) last)
 
     -- "sender credit + wire + queue + credits going home = D": one from the queue to the line home
-    pub left-credits : credits_add_up c (leaving_of s).inputs s.wire (leaving_of s).home ≡ true
-    left-credits =
+    pub left_credits : credits_add_up c (leaving_of s).inputs s.wire (leaving_of s).home ≡ true
+    left_credits =
         sum_credits c (leaving_of s).inputs s.wire (leaving_of s).home (λ i v h g.
         go i v h g (touched_or_not (exit s) (from_place s) c.ports (channel_number c i v)))
       where
@@ -148,7 +148,7 @@ module _ (s : Router) (sound : Sound s) where
             (ap (λ (y : InputVc). y.credit) (left_at s sound (channel_number c i v) a))
             (ap (λ (y : InputVc). y.queued + 1) (left_at s sound (channel_number c i v) a)
             ∙ one_less (input_at c s.inputs i v).queued some-queued)
-            (home-more i v h ∙ ap (λ (z : ℕ). total (home_of c s.home i v) + z) (sent_counts i v h g a))
+            (home_more i v h ∙ ap (λ (z : ℕ). total (home_of c s.home i v) + z) (sent_counts i v h g a))
         go i v h g (inr off) =
             sum (input_at c s.inputs i v).credit (length (flat (wire_of c s.wire i v))) (input_at c s.inputs i v).queued
             (total (home_of c s.home i v)) (input_at c (leaving_of s).inputs i v).credit (input_at c (leaving_of s).inputs i v).queued
@@ -156,7 +156,7 @@ module _ (s : Router) (sound : Sound s) where
             (credits_sum c s.inputs s.wire s.home sound.flow.credits i v h g)
             (ap (λ (y : InputVc). y.credit) (others_stay s (channel_number c i v) off))
             (ap (λ (y : InputVc). y.queued + 0) (others_stay s (channel_number c i v) off) ∙ add-zero (input_at c s.inputs i v).queued)
-            (home-more i v h ∙ ap (λ (z : ℕ). total (home_of c s.home i v) + z) (unsent-counts i v h g off))
+            (home_more i v h ∙ ap (λ (z : ℕ). total (home_of c s.home i v) + z) (unsent_counts i v h g off))
 
   -- "home places are empty or legal"
   pub left_home : home_legal c (leaving_of s).home ≡ true

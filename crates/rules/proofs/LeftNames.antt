@@ -84,7 +84,7 @@ module _ (s : Router) (sound : Sound s) where
   -- a binding goes with the flit that ends a packet, and stays otherwise
   pub data Binds (x : ℕ) : Type 0 where
     unbinds : (a : Leaves x) → ends a.deed ≡ true → (get_or (leaving_of s).inputs x (fresh_input 0)).binding ≡ Unbound → Binds x
-    stays-bound : ((a : Leaves x) → ends a.deed ≡ false)
+    stays_bound : ((a : Leaves x) → ends a.deed ≡ false)
         → (get_or (leaving_of s).inputs x (fresh_input 0)).binding ≡ (get_or s.inputs x (fresh_input 0)).binding → Binds x
 
   pub binding_after : (x : ℕ) → Binds x
@@ -95,19 +95,19 @@ module _ (s : Router) (sound : Sound s) where
           unbinds a e (ap (λ (y : InputVc). y.binding) (left_at x a)
           ∙ ap (λ (b : Bool). cond b Unbound (get_or s.inputs x (fresh_input 0)).binding) e)
       at a false e =
-          stays-bound (λ b. ap ends (leaves_one x b a) ∙ e) (ap (λ (y : InputVc). y.binding) (left_at x a)
+          stays_bound (λ b. ap ends (leaves_one x b a) ∙ e) (ap (λ (y : InputVc). y.binding) (left_at x a)
           ∙ ap (λ (b : Bool). cond b Unbound (get_or s.inputs x (fresh_input 0)).binding) e)
 
       go : Leaves x ⊎ Untouched (exit s) (from_place s) c.ports x → Binds x
       go (inl a) = at a (ends a.deed) refl
       go (inr off) =
-          stays-bound (λ a. absurd (off a.port a.deed a.below a.acts a.there))
+          stays_bound (λ a. absurd (off a.port a.deed a.below a.acts a.there))
           (ap (λ (y : InputVc). y.binding) (others_stay s x off))
 
   -- an output VC is freed by the flit that ends a packet, and stays held otherwise
   pub data Holds (x : ℕ) : Type 0 where
     frees : (a : Passes x) → ends a.deed ≡ true → (get_or (leaving_of s).outputs x (fresh_output 0)).holder ≡ Nobody → Holds x
-    stays-held : ((a : Passes x) → ends a.deed ≡ false)
+    stays_held : ((a : Passes x) → ends a.deed ≡ false)
         → (get_or (leaving_of s).outputs x (fresh_output 0)).holder ≡ (get_or s.outputs x (fresh_output 0)).holder → Holds x
 
   pub holder_after : (x : ℕ) → Holds x
@@ -118,13 +118,13 @@ module _ (s : Router) (sound : Sound s) where
           frees a e (ap (λ (y : OutputVc). y.holder) (passed_at x a)
           ∙ ap (λ (b : Bool). cond b Nobody (get_or s.outputs x (fresh_output 0)).holder) e)
       at a false e =
-          stays-held (λ b. ap ends (passes_one x b a) ∙ e) (ap (λ (y : OutputVc). y.holder) (passed_at x a)
+          stays_held (λ b. ap ends (passes_one x b a) ∙ e) (ap (λ (y : OutputVc). y.holder) (passed_at x a)
           ∙ ap (λ (b : Bool). cond b Nobody (get_or s.outputs x (fresh_output 0)).holder) e)
 
       go : Passes x ⊎ Untouched (exit s) (by_place s) c.ports x → Holds x
       go (inl a) = at a (ends a.deed) refl
       go (inr off) =
-          stays-held (λ a. absurd (off a.port a.deed a.below a.acts a.there))
+          stays_held (λ a. absurd (off a.port a.deed a.below a.acts a.there))
           (ap (λ (y : OutputVc). y.holder) (unused_outputs_stay s x off))
 
   same_holder : (h : Holder) (a b : InVc) → h ≡ Held a → h ≡ Held b → a ≡ b
@@ -154,11 +154,11 @@ module _ (s : Router) (sound : Sound s) where
             acts = a.acts;
             there = ap (λ (x : InVc). channel_number c x.input x.vc) one;
           })))
-      held unended p (stays-held d f) = (p.0, p.1, f ∙ p.2)
+      held unended p (stays_held d f) = (p.0, p.1, f ∙ p.2)
 
       go : Binds (channel_number c i v) → BoundTo c (leaving_of s).inputs (leaving_of s).outputs i v b
       go (unbinds a e f) = absurd (unbound_not (input_at c (leaving_of s).inputs i v).binding b f q)
-      go (stays-bound unended f) = held unended (agree.bound i v h g b (sym f ∙ q)) (holder_after (channel_number c b.output b.vc))
+      go (stays_bound unended f) = held unended (agree.bound i v h g b (sym f ∙ q)) (holder_after (channel_number c b.output b.vc))
 
   -- who holds an output VC is bound to it
   still_held : (o w : ℕ) → o < c.ports → w < c.vcs → (h : InVc) → (output_at c (leaving_of s).outputs o w).holder ≡ Held h
@@ -181,11 +181,11 @@ module _ (s : Router) (sound : Sound s) where
             acts = a.acts;
             there = ap (λ (y : OutVc). channel_number c y.output y.vc) one;
           })))
-      bound unended p (stays-bound d f) = (p.0, p.1, f ∙ p.2)
+      bound unended p (stays_bound d f) = (p.0, p.1, f ∙ p.2)
 
       go : Holds (channel_number c o w) → HeldBy c (leaving_of s).inputs (leaving_of s).outputs o w h
       go (frees a e f) = absurd (nobody_not (output_at c (leaving_of s).outputs o w).holder h f q)
-      go (stays-held unended f) = bound unended (agree.held o w l g h (sym f ∙ q)) (binding_after (channel_number c h.input h.vc))
+      go (stays_held unended f) = bound unended (agree.held o w l g h (sym f ∙ q)) (binding_after (channel_number c h.input h.vc))
 
   pub left_names : names_agree c (leaving_of s).inputs (leaving_of s).outputs ≡ true
   left_names = agree_names c (leaving_of s).inputs (leaving_of s).outputs (record { bound = still_bound; held = still_held })

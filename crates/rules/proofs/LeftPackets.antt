@@ -25,7 +25,7 @@ use Rattle.state.proofs.Queues.{queue_in, front_is_first}
 use Rattle.state.proofs.Clauses.{queue_part}
 use Rattle.rules.specs.Departures.{leaving_of}
 use Rattle.rules.proofs.Acts.{Untouched, touched_or_not}
-use Rattle.rules.proofs.Channels.{channel_at, all_channels, channel_apart, channel-room}
+use Rattle.rules.proofs.Channels.{channel_at, all_channels, channel_apart, channel_room}
 use Rattle.rules.proofs.Exits.{exit, exit_is}
 use Rattle.rules.proofs.Facts.{credits_sum, sound_legal, sound_lengths}
 use Rattle.rules.proofs.Left.{ends, from_place, others_stay}
@@ -94,7 +94,7 @@ module _ (s : Router) (sound : Sound s) where
       let few = queued_few i v h g in
       let one = one_less (input_at c s.inputs i v).queued some-queued in
       let long = (sound_lengths s sound).store in
-      let room = channel-room c (sound_legal s sound) i v h g in
+      let room = channel_room c (sound_legal s sound) i v h g in
       let later : (input_at c (leaving_of s).inputs i v).queued ≡ (input_at c s.inputs i v).queued - 1 =
       ap (λ (y : InputVc). y.queued) (left_at s sound x a) in
       let flit : a.deed.flit ≡ front_of s.store x = w.front ∙ ap (front_of s.store) a.there in
@@ -117,7 +117,7 @@ module _ (s : Router) (sound : Sound s) where
       ap (λ (y : InputVc). queue_of c (leaving_of s).store i v y.queued) (others_stay s (channel_number c i v) off)
       ∙ other_queues_stay s (sound_lengths s sound).store (channel_number c i v) off (input_at c s.inputs i v).queued
       (queued_few i v h g)
-      (channel-room c (sound_legal s sound) i v h g)
+      (channel_room c (sound_legal s sound) i v h g)
 
   pub left_legal : queues_legal c (leaving_of s).inputs (leaving_of s).store ≡ true
   unfolding queues_legal all

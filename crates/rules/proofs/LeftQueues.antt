@@ -14,12 +14,12 @@ use Rattle.state.specs.declared.Router.{Router}
 use Rattle.store.specs.Store.{slot, popped}
 use Rattle.state.specs.Views.{channel_number}
 use Rattle.state.proofs.Queues.{queue_in, slots_apart, pop_drops, pop_keeps_others}
-use Rattle.store.proofs.Slots.{pop_length, pop-slot, pop-last-slot, pop_other_slot, pop_beyond}
+use Rattle.store.proofs.Slots.{pop_length, pop_slot, pop_last_slot, pop_other_slot, pop_beyond}
 use Rattle.rules.specs.Ports.{over_ports}
 use Rattle.rules.specs.Departures.{Leaving, leaving_of}
 use Rattle.rules.proofs.Folds.{over_keeps}
 use Rattle.rules.proofs.Turns.{over_seen, over_stays}
-use Rattle.rules.proofs.Along.{over-becomes}
+use Rattle.rules.proofs.Along.{over_becomes}
 use Rattle.rules.proofs.Acts.{Untouched}
 use Rattle.rules.proofs.Exits.{Exit, exit, exits_apart, exits, at_first, leaving_exits}
 use Rattle.rules.proofs.Left.{from_place}
@@ -70,17 +70,17 @@ module _ (s : Router) (whole : length s.store ≡ 512) where
   -- what pops of other channels leave alone
   module _ {B : Type 0} (look : List ℕ → B) (x : ℕ)
       (alone : (store : List ℕ) (y : ℕ) → Whole store → y ≢ x → look (popped store y) ≡ look store) where
-    pop-elsewhere : (store : List ℕ) (m : Option Exit) → Whole store
+    pop_elsewhere : (store : List ℕ) (m : Option Exit) → Whole store
         → ((e : Exit) → m ≡ some e → channel_number s.config e.input e.vc ≢ x)
         → look (pop_for m store) ≡ look store
-    pop-elsewhere store none w off = refl
-    pop-elsewhere store (some e) w off = alone store (channel_number s.config e.input e.vc) w (off e refl)
+    pop_elsewhere store none w off = refl
+    pop_elsewhere store (some e) w off = alone store (channel_number s.config e.input e.vc) w (off e refl)
 
-    unpopped-stays : Untouched (exit s) (from_place s) s.config.ports x → look (leaving_of s).store ≡ look s.store
-    unpopped-stays off =
+    unpopped_stays : Untouched (exit s) (from_place s) s.config.ports x → look (leaving_of s).store ≡ look s.store
+    unpopped_stays off =
         ap look store_fold
         ∙ over_stays Whole look s.config.ports pops s.store keeps_whole whole
-        (λ store o h w. pop-elsewhere store (exit s o) w (λ e q. off o e h q))
+        (λ store o h w. pop_elsewhere store (exit s o) w (λ e q. off o e h q))
 
   -- what the one pop of channel x changes
   popped_becomes : {B C : Type 0} (before : List ℕ → B) (after : List ℕ → C) (change : B → C) (o : ℕ) (e : Exit) → o < s.config.ports
@@ -91,10 +91,10 @@ module _ (s : Router) (whole : length s.store ≡ 512) where
       → after (leaving_of s).store ≡ change (before s.store)
   popped_becomes before after change o e l q b a own =
       ap after store_fold
-      ∙ over-becomes Whole pops before after change s.config.ports s.store o l keeps_whole
-      (λ store p h d w. pop-elsewhere before (from_place s o e) b store (exit s p) w (λ f r same. d (exits_apart s p o f e r q same)))
+      ∙ over_becomes Whole pops before after change s.config.ports s.store o l keeps_whole
+      (λ store p h d w. pop_elsewhere before (from_place s o e) b store (exit s p) w (λ f r same. d (exits_apart s p o f e r q same)))
       (λ store w. ap (λ (m : Option Exit). after (pop_for m store)) q ∙ own store w)
-      (λ store p h d w. pop-elsewhere after (from_place s o e) a store (exit s p) w (λ f r same. d (exits_apart s p o f e r q same)))
+      (λ store p h d w. pop_elsewhere after (from_place s o e) a store (exit s p) w (λ f r same. d (exits_apart s p o f e r q same)))
       whole
 
   -- the queue that a flit leaves loses its front
@@ -109,7 +109,7 @@ module _ (s : Router) (whole : length s.store ≡ 512) where
   -- all other queues stay
   pub other_queues_stay : (x : ℕ) → Untouched (exit s) (from_place s) s.config.ports x → (n : ℕ) → n ≤ 16 → x < 32
       → queue_in (leaving_of s).store x n ≡ queue_in s.store x n
-  other_queues_stay x off n h g = unpopped-stays (λ (store : List ℕ). queue_in store x n) x
+  other_queues_stay x off n h g = unpopped_stays (λ (store : List ℕ). queue_in store x n) x
       (λ store y w d. pop_keeps store y x n w d g h) off
 
   -- the slots of a channel that a flit leaves move up, the last is empty, and all other slots stay
@@ -120,7 +120,7 @@ module _ (s : Router) (whole : length s.store ≡ 512) where
       popped_becomes (λ (store : List ℕ). get_or store (slot x (k + 1)) 0) (λ (store : List ℕ). get_or store (slot x k) 0)
       (λ (n : ℕ). n) o e l q
       (λ store y w d. slot_keeps store y x (k + 1) d (omega arith)) (λ store y w d. slot_keeps store y x k d (omega arith))
-      (λ store w. pop-slot store x g w k h)
+      (λ store w. pop_slot store x g w k h)
 
   pub exit_last_slot : (o : ℕ) (e : Exit) → o < s.config.ports → exit s o ≡ some e → from_place s o e < 32
       → get_or (leaving_of s).store (slot (from_place s o e) 15) 0 ≡ 0
@@ -128,9 +128,9 @@ module _ (s : Router) (whole : length s.store ≡ 512) where
       let x = from_place s o e in
       popped_becomes (λ (store : List ℕ). 0) (λ (store : List ℕ). get_or store (slot x 15) 0) (λ (n : ℕ). 0) o e l q
       (λ store y w d. refl) (λ store y w d. slot_keeps store y x 15 d (omega arith))
-      (λ store w. pop-last-slot store x g w)
+      (λ store w. pop_last_slot store x g w)
 
   pub other_slots_stay : (x : ℕ) → Untouched (exit s) (from_place s) s.config.ports x → (k : ℕ) → k < 16
       → get_or (leaving_of s).store (slot x k) 0 ≡ get_or s.store (slot x k) 0
   other_slots_stay x off k h =
-      unpopped-stays (λ (store : List ℕ). get_or store (slot x k) 0) x (λ store y w d. slot_keeps store y x k d h) off
+      unpopped_stays (λ (store : List ℕ). get_or store (slot x k) 0) x (λ store y w d. slot_keeps store y x k d h) off

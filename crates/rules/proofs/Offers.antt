@@ -18,8 +18,8 @@ use Rattle.state.specs.Views.{channel_number, input_at, wire_place}
 use Rattle.rules.specs.Ports.{over_ports}
 use Rattle.rules.specs.Rows.{brings, kind_at, vc_at, flit_at}
 use Rattle.rules.specs.Intake.{Senders, offer_taken, newest, on_wire, taken_at, offers}
-use Rattle.rules.proofs.Folds.{changed, changed_at, turns, turns_at, turns-elsewhere, turns-length}
-use Rattle.rules.proofs.Turns.{on_channel, Made, made_length, made_keeps, made_at, made-past, over_seen}
+use Rattle.rules.proofs.Folds.{changed, changed_at, turns, turns_at, turns_elsewhere, turns_length}
+use Rattle.rules.proofs.Turns.{on_channel, Made, made_length, made_keeps, made_at, made_past, over_seen}
 use Rattle.rules.proofs.Permitted.{Offered}
 
 -- whether port i brings a flit on VC v, and that flit
@@ -69,7 +69,7 @@ module _ (c : Config) (part : List ℕ) (s : Senders) where
       go t i false = refl
 
   pub offers_length : (length (offers c part s).inputs ≡ length s.inputs) × (length (offers c part s).wire ≡ length s.wire)
-  offers_length = (made_length taken, ap length wire_is ∙ turns-length 0 entering placed c.ports s.wire)
+  offers_length = (made_length taken, ap length wire_is ∙ turns_length 0 entering placed c.ports s.wire)
 
   -- all but the credit and whether a packet is open stays
   pub offers_keep : {B : Type 0} (see : InputVc → B) → ((kind : ℕ) (x : InputVc) → see (offer_taken kind x) ≡ see x) → (x : ℕ)
@@ -85,10 +85,10 @@ module _ (c : Config) (part : List ℕ) (s : Senders) where
         go false p q = absurd (none-ne-some v q)
 
     -- the input VC on which a flit is brought pays for it, and no other
-    pub offer-costs : (i v : ℕ) → i < c.ports → v < c.vcs → c.ports * c.vcs ≤ length s.inputs
+    pub offer_costs : (i v : ℕ) → i < c.ports → v < c.vcs → c.ports * c.vcs ≤ length s.inputs
         → input_at c (offers c part s).inputs i v
         ≡ cond (brings_on part i v) (offer_taken (kind_at part i) (input_at c s.inputs i v)) (input_at c s.inputs i v)
-    offer-costs i v h g room = made_at taken there i v h g room ∙ go (brings part i)
+    offer_costs i v h g room = made_at taken there i v h g room ∙ go (brings part i)
       where
         go : (b : Bool) → changed_at v (offer_taken (kind_at part i)) (cond b (some (vc_at part i)) none) (input_at c s.inputs i v)
             ≡ cond (b && eqb (vc_at part i) v) (offer_taken (kind_at part i) (input_at c s.inputs i v)) (input_at c s.inputs i v)
@@ -96,8 +96,8 @@ module _ (c : Config) (part : List ℕ) (s : Senders) where
         go false = refl
 
     -- what is no channel's stays
-    pub offers-past : (x : ℕ) → c.ports * c.vcs ≤ x → get_or (offers c part s).inputs x (fresh_input 0) ≡ get_or s.inputs x (fresh_input 0)
-    offers-past = made-past taken there
+    pub offers_past : (x : ℕ) → c.ports * c.vcs ≤ x → get_or (offers c part s).inputs x (fresh_input 0) ≡ get_or s.inputs x (fresh_input 0)
+    offers_past = made_past taken there
 
   -- the wire's newest place of a port that brings a flit holds it
   enters_at : (j y : ℕ) → newest c.forward j ≢ y → entering j ≢ some y
@@ -124,4 +124,4 @@ module _ (c : Config) (part : List ℕ) (s : Senders) where
   -- every other place stays
   pub other_place : (m : ℕ) → ((i : ℕ) → i < c.ports → newest c.forward i ≢ m) → get_or (offers c part s).wire m 0 ≡ get_or s.wire m 0
   other_place m n =
-      ap (λ (l : List ℕ). get_or l m 0) wire_is ∙ turns-elsewhere 0 entering placed c.ports s.wire m (λ i h. enters_at i m (n i h))
+      ap (λ (l : List ℕ). get_or l m 0) wire_is ∙ turns_elsewhere 0 entering placed c.ports s.wire m (λ i h. enters_at i m (n i h))

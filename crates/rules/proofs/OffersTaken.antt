@@ -29,7 +29,7 @@ use Rattle.rules.proofs.Kept.{binding_of, queued_of, queues_kept, slots_kept, na
 use Rattle.rules.proofs.Packets.{reads_on}
 use Rattle.rules.proofs.Permitted.{Offered, InTurn, PaidFor}
 use Rattle.rules.proofs.OfferedFlits.{offered_kind, offered_place_legal, offered_on}
-use Rattle.rules.proofs.Offers.{brings_on, offered, offers_length, offers_keep, offer-costs, offers-past, newest_place, other_place}
+use Rattle.rules.proofs.Offers.{brings_on, offered, offers_length, offers_keep, offer_costs, offers_past, newest_place, other_place}
 
 -- what phase 4 asks of the router and the rows: each flit is legal, in turn and paid for, and the newest places are empty
 pub record Ready (s : Router) (part : List ℕ) : Type 0 where
@@ -94,7 +94,7 @@ module _ (s : Router) (part : List ℕ) (ready : Ready s part) where
   -- what the input VC is after it
   pub input_after : (i v : ℕ) → i < c.ports → v < c.vcs → input_at c after.inputs i v
       ≡ cond (brings_on part i v) (offer_taken (kind_at part i) (input_at c s.inputs i v)) (input_at c s.inputs i v)
-  input_after i v h g = offer-costs c part before ready.legal i v h g (inputs_room s ready.sound)
+  input_after i v h g = offer_costs c part before ready.legal i v h g (inputs_room s ready.sound)
 
   -- a flit on VC v is brought on that VC
   pub on_vc-law : (i v : ℕ) → brings_on part i v ≡ true → (brings part i ≡ true) × (vc_at part i ≡ v)
@@ -203,7 +203,7 @@ module _ (s : Router) (part : List ℕ) (ready : Ready s part) where
               queues = queues_kept c after.inputs s.inputs s.store queued ∙ sound.flow.queues;
               output_credits = sound.flow.output_credits;
               channels =
-                  unused_kept c after.inputs s.inputs s.outputs s.outputs (offers-past c part before ready.legal)
+                  unused_kept c after.inputs s.inputs s.outputs s.outputs (offers_past c part before ready.legal)
                   (λ x h. refl)
                   ∙ sound.flow.channels;
               slots = slots_kept c after.inputs s.inputs s.store queued ∙ sound.flow.slots;

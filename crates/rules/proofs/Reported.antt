@@ -13,7 +13,7 @@ use Rattle.base.specs.declared.reply.Sender.{Sender}
 use Rattle.state.specs.Views.{home_place}
 use Rattle.rules.specs.Ports.{named}
 use Rattle.rules.specs.Intake.{reaching, reported}
-use Rattle.rules.proofs.Folds.{turns-length, turns_at, turns-elsewhere}
+use Rattle.rules.proofs.Folds.{turns_length, turns_at, turns_elsewhere}
 
 module _ (c : Config) (home : List ℕ) where
   -- port i reports at its own place
@@ -26,7 +26,7 @@ module _ (c : Config) (home : List ℕ) where
   pub reported_length : length (reported c home) ≡ 8
   unfolding reported
   reported_length =
-      turns-length (reaching none) here says c.ports (replicate 8 (reaching none)) ∙ length-replicate 8 (reaching none)
+      turns_length (reaching none) here says c.ports (replicate 8 (reaching none)) ∙ length-replicate 8 (reaching none)
 
   -- a port reports the VC that the home line's oldest place names, if it names one
   pub reported_at : (i : ℕ) → i < c.ports → c.ports ≤ 8 → get_or (reported c home) i (reaching none) ≡ reaching (named (home_place home 0 i))
@@ -41,6 +41,6 @@ module _ (c : Config) (home : List ℕ) where
   pub reported_past : (i : ℕ) → c.ports ≤ i → i < 8 → get_or (reported c home) i (reaching none) ≡ reaching none
   unfolding reported
   reported_past i h l =
-      turns-elsewhere (reaching none) here says c.ports (replicate 8 (reaching none)) i
+      turns_elsewhere (reaching none) here says c.ports (replicate 8 (reaching none)) i
       (λ j k e. let q = some-injective j i e in absurd (omega arith))
       ∙ get_or-replicate 8 i (reaching none) (reaching none) l

@@ -30,7 +30,7 @@ use Rattle.rules.proofs.Facts.{sound_lengths}
 use Rattle.rules.proofs.Kept.{unused_kept}
 use Rattle.rules.proofs.Left.{from_place, by_place, left_inputs_length, left_outputs_length, left_home_length, others_stay}
 use Rattle.rules.proofs.Left.{unused_outputs_stay}
-use Rattle.rules.proofs.LeftHome.{left-credits, left_home, left_home_rest}
+use Rattle.rules.proofs.LeftHome.{left_credits, left_home, left_home_rest}
 use Rattle.rules.proofs.LeftNames.{Leaves, Passes, exit_named, left_at, passed_at, left_names}
 use Rattle.rules.proofs.LeftPackets.{left_legal, left_packets}
 use Rattle.rules.proofs.LeftQueues.{left_store_length, exit_slots, exit_last_slot, other_slots_stay}
@@ -140,7 +140,7 @@ module _ (s : Router) (sound : Sound s) where
             };
         flow =
             record {
-              credits = left-credits s sound empty;
+              credits = left_credits s sound empty;
               queues = left_legal s sound;
               output_credits = output_credits-law;
               channels = channels;

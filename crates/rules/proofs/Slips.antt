@@ -41,7 +41,7 @@ use Rattle.rules.proofs.Grants.{grant_is}
 use Rattle.rules.proofs.IntakeViews as intake
 use Rattle.rules.proofs.Left.{ends, no_output}
 use Rattle.rules.proofs.LeftHome.{Sends, from_input, newest_sent, newest_stays, older_stays}
-use Rattle.rules.proofs.LeftNames.{Leaves, Passes, Holds, exit_named, holder_after, frees, stays-held}
+use Rattle.rules.proofs.LeftNames.{Leaves, Passes, Holds, exit_named, holder_after, frees, stays_held}
 use Rattle.rules.proofs.LeftPackets.{exit_front}
 use Rattle.rules.proofs.Naming.{nobody_not}
 use Rattle.rules.proofs.Accepted.{readied, accepted_none, accepted_before, accepted_steps, taken_sound, readied_newest}
@@ -146,10 +146,10 @@ module _ (s : Router) (part : List ℕ) (bytes : AreBytes part) (accepted : (ste
           ⊎ Untouched (grant_of (taken_in part s)) (giving (taken_in part s)) c.ports (channel_number c o w)
           → ((output_at c s.outputs o w).holder ≡ Held h) ⊎ ((output_at c s.outputs o w).holder ≡ Nobody)
       go (frees a e f) m = absurd (nobody_not (output_at c (leaving_of mid).outputs o w).holder h f later)
-      go (stays-held e f) (inl a) =
+      go (stays_held e f) (inl a) =
           inr (ap (λ (x : ℕ). (get_or s.outputs x (fresh_output 0)).holder) (sym a.there)
           ∙ granted_was_free a.port a.deed a.acts)
-      go (stays-held e f) (inr off) =
+      go (stays_held e f) (inr off) =
           inl (sym (holder_before (channel_number c o w)) ∙ sym (ap (λ (y : OutputVc). y.holder)
           (ungiven_stays (taken_in part s) (channel_number c o w) off))
           ∙ sym f ∙ later)
@@ -171,7 +171,7 @@ module _ (s : Router) (part : List ℕ) (bytes : AreBytes part) (accepted : (ste
       go : {x : ℕ} (a : Passes mid sound x) → ends a.deed ≡ true → Holds mid sound x
           → (get_or (leaving_of mid).outputs x (fresh_output 0)).holder ≡ Nobody
       go a over (frees b q f) = f
-      go a over (stays-held not_over f) = absurd (true≢false (sym over ∙ not_over a))
+      go a over (stays_held not_over f) = absurd (true≢false (sym over ∙ not_over a))
 
   -- "The body flit's zero destination used as a route": what is not H or S leaves by the output, and the VC of it, that its input VC was
   -- bound to before the cycle

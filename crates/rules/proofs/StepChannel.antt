@@ -72,27 +72,27 @@ module _ (s : Router) (part : List ℕ) (bytes : AreBytes part) (accepted : (ste
         → see (input_at c mid.inputs i v) ≡ see (input_at c came.inputs i v)
     alike see same = inputs_alike came (taken_sound s part bytes accepted) see same x
 
-    queue-mid : queue_of c mid.store i v (input_at c mid.inputs i v).queued
+    queue_mid : queue_of c mid.store i v (input_at c mid.inputs i v).queued
         ≡ (channel_view s i v).queue ++ out [] (channel_view s i v).wire
     unfolding allocated
-    queue-mid =
+    queue_mid =
         ap (queue_of c came.store i v) (alike (λ (y : InputVc). y.queued) (λ o w y. refl))
         ∙ queue_after s part before (accepted_none s part bytes accepted) bytes i v port vc
         ∙ ap (λ (l : List Flit). (channel_view s i v).queue ++ l) (sym (wire_out c i v s.wire (sound_legal s before).forward.0))
 
-    bound-mid : bound_to (input_at c mid.inputs i v).binding ≡ now_bound (grant_to came x) (channel_view s i v).bound
+    bound_mid : bound_to (input_at c mid.inputs i v).binding ≡ now_bound (grant_to came x) (channel_view s i v).bound
     unfolding taken_in offers_taken landed credits_returned credits_reached
-    bound-mid =
+    bound_mid =
         bound_now-law came (taken_sound s part bytes accepted) i v port vc
         ∙ ap (λ b. now_bound (grant_to came x) (bound_to b)) (binding_after s part before (accepted_none s part bytes accepted) bytes x)
 
     -- the whole view
-    pub channel-steps : channel_view (step_of s part).router i v
+    pub channel_steps : channel_view (step_of s part).router i v
         ≡ stepped_view (channel_view s i v) (offered part i v)
         (cond (brings_on part i v) (not (ends_kind (kind_at part i))) (channel_view s i v).opened)
         (grant_to came x) (leaves_from mid x)
     unfolding router_after sent_out allocated taken_in offers_taken landed credits_returned credits_reached
-    channel-steps =
+    channel_steps =
         let sound = readied_sound s part bytes accepted in
         let free = accepted_none s part bytes accepted in
         let taken =
@@ -100,7 +100,7 @@ module _ (s : Router) (part : List ℕ) (bytes : AreBytes part) (accepted : (ste
         ∙ alike (λ (y : InputVc). y.credit) (λ o w y. refl))
         ∙ taken_after s part before free bytes i v port vc in
         let wire = wire_after s part before free bytes i v port in
-        let queue = queue_left mid sound i v port vc ∙ ap (drop (one (leaves_from mid x))) queue-mid in
+        let queue = queue_left mid sound i v port vc ∙ ap (drop (one (leaves_from mid x))) queue_mid in
         let home = home_left mid sound i v port vc (readied_newest s part bytes accepted) (drop 1 (home_of c s.home i v))
         (home_after s part before free bytes i v port) in
         let opened =
@@ -108,7 +108,7 @@ module _ (s : Router) (part : List ℕ) (bytes : AreBytes part) (accepted : (ste
         ∙ inside_after s part before free bytes i v port vc in
         let bound =
         bound_left mid sound i v port vc
-        ∙ ap₂ (λ (q : List Flit) (b : Option OutVc). cond (leaves_from mid x && front_ends q) none b) queue-mid bound-mid in
+        ∙ ap₂ (λ (q : List Flit) (b : Option OutVc). cond (leaves_from mid x && front_ends q) none b) queue_mid bound_mid in
         ap (λ (y : Stepped). channel_view y.router i v) (accepted_steps s part bytes accepted)
         ∙ (λ t. record { taken = taken t; wire = wire t; queue = queue t; home = home t; opened = opened t; bound = bound t })
 

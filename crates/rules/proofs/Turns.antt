@@ -18,7 +18,7 @@ use Rattle.base.specs.declared.config.Config.{Config}
 use Rattle.state.specs.Views.{channel_number}
 use Rattle.rules.specs.Ports.{over_ports}
 use Rattle.rules.proofs.Channels.{channel_below, channel_apart, channel_same}
-use Rattle.rules.proofs.Folds.{changed, changed_at, turns, turns-length, turns_at, turns-elsewhere, over_keeps}
+use Rattle.rules.proofs.Folds.{changed, changed_at, turns, turns_length, turns_at, turns_elsewhere, over_keeps}
 
 module _ {A B : Type 0} where
   -- what is seen of the whole goes its own way, where in each turn it does
@@ -100,7 +100,7 @@ pub record Made {A : Type 0} (c : Config) (d : A) (vc : ℕ → Option ℕ) (g :
 module _ {A : Type 0} {c : Config} {d : A} {vc : ℕ → Option ℕ} {g : ℕ → A → A} {before later : List A}
     (made : Made c d vc g before later) where
   pub made_length : length later ≡ length before
-  made_length = ap length made.is ∙ turns-length d (λ (i : ℕ). on_channel c i (vc i)) g c.ports before
+  made_length = ap length made.is ∙ turns_length d (λ (i : ℕ). on_channel c i (vc i)) g c.ports before
 
   -- what each change keeps of an element is kept of all
   pub made_keeps : {B : Type 0} (see : A → B) → ((i : ℕ) (a : A) → see (g i a) ≡ see a) → (y : ℕ) → see (get_or later y d)
@@ -134,8 +134,8 @@ module _ {A : Type 0} {c : Config} {d : A} {vc : ℕ → Option ℕ} {g : ℕ �
             (channel_same c i v u)
 
     -- what is no channel's stays
-    pub made-past : (y : ℕ) → c.ports * c.vcs ≤ y → get_or later y d ≡ get_or before y d
-    made-past y h =
+    pub made_past : (y : ℕ) → c.ports * c.vcs ≤ y → get_or later y d ≡ get_or before y d
+    made_past y h =
         ap (λ (l : List A). get_or l y d) made.is
-        ∙ turns-elsewhere d (λ (i : ℕ). on_channel c i (vc i)) g c.ports before y (λ j l.
+        ∙ turns_elsewhere d (λ (i : ℕ). on_channel c i (vc i)) g c.ports before y (λ j l.
         elsewhere y j l (λ u m e. let b = channel_below c j u l m in absurd (omega arith)))

@@ -18,7 +18,7 @@ use Rattle.store.specs.Store.{first_slot, slot, pushed, popped}
 use Rattle.state.specs.Sound.{slots_empty}
 use Rattle.state.proofs.Clauses.{empty_behind, behind_zero}
 use Rattle.state.proofs.Queues.{slots_apart}
-use Rattle.store.proofs.Slots.{push_other_slot, pop_other_slot, pop-slot, pop-last-slot}
+use Rattle.store.proofs.Slots.{push_other_slot, pop_other_slot, pop_slot, pop_last_slot}
 
 -- the slots of channel x behind its queue of q are zero
 abbrev pub empty_in : List ℕ → ℕ → ℕ → Bool
@@ -51,11 +51,11 @@ module _ (store : List ℕ) (x : ℕ) where
       go : (k : ℕ) → k < 16 → q ≤ k → (b : Bool) → ltb k 15 ≡ b → get_or (popped store x) (slot x k) 0 ≡ 0
       go k h g true p =
           let l = ltb-true k 15 p in
-          pop-slot store x there whole k l ∙ empty_at store x (q + 1) e (k + 1) (omega arith) (omega arith)
+          pop_slot store x there whole k l ∙ empty_at store x (q + 1) e (k + 1) (omega arith) (omega arith)
       go k h g false p =
           let l = ltb-false k 15 p in
           let last : k ≡ 15 = omega arith in
-          ap (λ j. get_or (popped store x) (slot x j) 0) last ∙ pop-last-slot store x there whole
+          ap (λ j. get_or (popped store x) (slot x j) 0) last ∙ pop_last_slot store x there whole
 
   -- the slots of all other channels stay as they are
   pub push_keeps_empty_others : (q : ℕ) (f : Flit) (y r : ℕ) → x ≢ y → q < 16 → empty_in (pushed store x q f) y r ≡ empty_in store y r

@@ -177,10 +177,10 @@ module _ (s : Router) where
     names_at i v h g = (both (names_sound s.config s.inputs s.outputs i v) (input_sound s.config s.store s.wire s.home i v
         (input_at s.config s.inputs i v)) (at channel_test e i v h g)).0
 
-    input-at : (i v : ℕ) → i < s.config.ports → v < s.config.vcs
+    input_at-law : (i v : ℕ) → i < s.config.ports → v < s.config.vcs
         → input_sound s.config s.store s.wire s.home i v (input_at s.config s.inputs i v) ≡ true
     unfolding channel_sound
-    input-at i v h g = (both (names_sound s.config s.inputs s.outputs i v) (input_sound s.config s.store s.wire s.home i v
+    input_at-law i v h g = (both (names_sound s.config s.inputs s.outputs i v) (input_sound s.config s.store s.wire s.home i v
         (input_at s.config s.inputs i v)) (at channel_test e i v h g)).1
 
     -- the three tests of an input VC
@@ -201,7 +201,7 @@ module _ (s : Router) where
         × (packet_test i v ≡ true)
     unfolding input_sound
     three i v h g =
-        let p = both (credits_test i v) (queue_test i v && packet_test i v) (input-at i v h g) in
+        let p = both (credits_test i v) (queue_test i v && packet_test i v) (input_at-law i v h g) in
         let q = both (queue_test i v) (packet_test i v) p.1 in
         (p.0, q.0, q.1)
 
@@ -227,21 +227,21 @@ module _ (s : Router) where
     abbrev output_name_test : ℕ → ℕ → Bool
     output_name_test o w = Sound.output_named s.config s.inputs o w (output_at s.config s.outputs o w).holder
 
-    three-names : (i v : ℕ) → i < s.config.ports → v < s.config.vcs
+    three_names : (i v : ℕ) → i < s.config.ports → v < s.config.vcs
         → (output_test i v ≡ true) × (input_name_test i v ≡ true) × (output_name_test i v ≡ true)
     unfolding names_sound
-    three-names i v h g =
+    three_names i v h g =
         let p = both (output_test i v) (input_name_test i v && output_name_test i v) (names_at i v h g) in
         let q = both (input_name_test i v) (output_name_test i v) p.1 in
         (p.0, q.0, q.1)
 
     outputs : Sound.output_credits_fit s.config s.outputs ≡ true
     unfolding Sound.output_credits_fit
-    outputs = all_at output_test (λ o w h g. (three-names o w h g).0)
+    outputs = all_at output_test (λ o w h g. (three_names o w h g).0)
 
     names : Sound.names_agree s.config s.inputs s.outputs ≡ true
     unfolding Sound.names_agree
-    names = ap₂ ◌&&◌ (all_at input_name_test (λ i v h g. (three-names i v h g).1)) (all_at output_name_test (λ o w h g. (three-names o w h g).2))
+    names = ap₂ ◌&&◌ (all_at input_name_test (λ i v h g. (three_names i v h g).1)) (all_at output_name_test (λ o w h g. (three_names o w h g).2))
 
   -- a line's two clauses
   pub sound_wire : Sound.Sound s → (Sound.wire_legal s.config s.wire && Sound.line_unused s.config.forward s.config.ports

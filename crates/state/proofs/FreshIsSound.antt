@@ -70,11 +70,11 @@ flat_none (suc n) f off = ap (λ x. flat (places n f ++ (x ∷ []))) (off n) ∙
 total_none : (n : ℕ) (f : ℕ → ℕ) → ((k : ℕ) → f k ≡ 0) → total (places n f) ≡ 0
 unfolding places total
 total_none zero f off = refl
-total_none (suc n) f off = ap (λ x. total (places n f ++ (x ∷ []))) (off n) ∙ total-more (places n f) (total_none n f off)
+total_none (suc n) f off = ap (λ x. total (places n f ++ (x ∷ []))) (off n) ∙ total_more (places n f) (total_none n f off)
   where
-    total-more : (xs : List ℕ) → total xs ≡ 0 → total (xs ++ (0 ∷ [])) ≡ 0
-    total-more [] e = refl
-    total-more (x ∷ xs) e = let r = total-more xs (omega arith) in omega arith
+    total_more : (xs : List ℕ) → total xs ≡ 0 → total (xs ++ (0 ∷ [])) ≡ 0
+    total_more [] e = refl
+    total_more (x ∷ xs) e = let r = total_more xs (omega arith) in omega arith
 
 length_filled : {A : Type 0} (n size : ℕ) (x z : A) → n ≤ size → length (filled n size x z) ≡ size
 length_filled n size x z h =

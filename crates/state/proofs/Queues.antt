@@ -11,7 +11,7 @@ use lib.Seq.{length-take-le, take-take, drop-cons, get_or-take, get_or-drop, ext
 use Rattle.base.specs.declared.flit.Flit.{Flit}
 use Rattle.store.specs.Store.{first_slot, slot, front_of, pushed, popped}
 use Rattle.state.specs.Views.{slot_flit, queue_at}
-use Rattle.store.proofs.Slots.{front_there, push_there, push_length, push_other_slot, pop_length, pop_other_slot, pop-slot}
+use Rattle.store.proofs.Slots.{front_there, push_there, push_length, push_other_slot, pop_length, pop_other_slot, pop_slot}
 
 -- the queue of channel x, where q are queued
 abbrev pub queue_in : List ℕ → ℕ → ℕ → List Flit
@@ -69,7 +69,7 @@ module _ (store : List ℕ) (x : ℕ) (there : x < 32) (whole : length store ≡
       queue_part (popped store x) x q (omega arith)
       ∙ ap (map slot_flit) (part_same (popped store x) store (first_slot x) (first_slot x + 1) q (omega (arith, pop_length store x))
       (omega arith)
-      (λ k g. pop-slot store x there whole k (omega arith) ∙ ap (λ m. get_or store m 0) (omega arith)))
+      (λ k g. pop_slot store x there whole k (omega arith) ∙ ap (λ m. get_or store m 0) (omega arith)))
       ∙ ap (drop 1) (sym (front_and_rest q h))
 
   -- the queues of all other channels stay as they are

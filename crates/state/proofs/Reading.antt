@@ -90,11 +90,11 @@ front_is : (store : List ℕ) (base queued : ℕ) → queued ≤ 16 → (queued 
     → queue_at store base queued ≡ (slot_flit (get_or store base 0) ∷ left store base queued 1)
 front_is store base queued h n g =
     let z : base + 0 ≡ base = add-zero base in
-    left_all store base queued h ∙ left_next store base queued 0 (some_number queued n) (ap-lt z g)
+    left_all store base queued h ∙ left_next store base queued 0 (some_number queued n) (ap_lt z g)
     ∙ ap (λ b. slot_flit (get_or store b 0) ∷ left store base queued 1) z
   where
-    ap-lt : base + 0 ≡ base → base < length store → base + 0 < length store
-    ap-lt e l = omega arith
+    ap_lt : base + 0 ≡ base → base < length store → base + 0 < length store
+    ap_lt e l = omega arith
 
 pub start_empty : (store : List ℕ) (base queued : ℕ) (b : Binding) (to : OutVc) → b ≡ Bound to → queued ≡ 0
     → true ≡ begins_inside (queue_at store base queued) b

@@ -117,10 +117,10 @@ module _ (store : List ℕ) (x : ℕ) where
 
   -- of a channel that there is, each slot gets what the slot behind it held, and the last is empty
   module _ (there : x < 32) (whole : length store ≡ 512) where
-    moved-slot : (n k : ℕ) → n ≤ 16 → k < n → get_or (moved_up n store x) (slot x k) 0 ≡ get_or store (slot x (k + 1)) 0
+    moved_slot : (n k : ℕ) → n ≤ 16 → k < n → get_or (moved_up n store x) (slot x k) 0 ≡ get_or store (slot x (k + 1)) 0
     unfolding moved_up
-    moved-slot zero k h g = absurd (omega arith)
-    moved-slot (suc n) k h g = go (eqb k n) refl (moved-slot n k (omega arith))
+    moved_slot zero k h g = absurd (omega arith)
+    moved_slot (suc n) k h g = go (eqb k n) refl (moved_slot n k (omega arith))
       where
         go : (b : Bool) → eqb k n ≡ b → (k < n → get_or (moved_up n store x) (slot x k) 0 ≡ get_or store (slot x (k + 1)) 0)
             → get_or (set (moved_up n store x) (slot x n) (get_or store (slot x (n + 1)) 0)) (slot x k) 0 ≡ get_or store (slot x (k + 1)) 0
@@ -134,13 +134,13 @@ module _ (store : List ℕ) (x : ℕ) where
             let l : k < n = lt_of_le-ne (omega arith) d in
             get_or-set_other (moved_up n store x) (slot x n) (slot x k) (get_or store (slot x (n + 1)) 0) 0 (λ q. d (omega arith)) ∙ below l
 
-    pub pop-slot : (k : ℕ) → k < 15 → get_or (popped store x) (slot x k) 0 ≡ get_or store (slot x (k + 1)) 0
-    pop-slot k h =
+    pub pop_slot : (k : ℕ) → k < 15 → get_or (popped store x) (slot x k) 0 ≡ get_or store (slot x (k + 1)) 0
+    pop_slot k h =
         ap (λ l. get_or l (slot x k) 0) (sym (pop_there 15 (moved_up 15 store x) there refl refl))
         ∙ get_or-set_other (moved_up 15 store x) (slot x 15) (slot x k) 0 0 (λ e. omega arith)
-        ∙ moved-slot 15 k (omega arith) h
+        ∙ moved_slot 15 k (omega arith) h
 
-    pub pop-last-slot : get_or (popped store x) (slot x 15) 0 ≡ 0
-    pop-last-slot =
+    pub pop_last_slot : get_or (popped store x) (slot x 15) 0 ≡ 0
+    pop_last_slot =
         ap (λ l. get_or l (slot x 15) 0) (sym (pop_there 15 (moved_up 15 store x) there refl refl))
         ∙ get_or-set_same (moved_up 15 store x) (slot x 15) 0 0 (omega (arith, moved_length 15))

@@ -100,13 +100,13 @@ module _ (x y : List ℕ) (same : (i : ℕ) → i < 512 → byte x i ≡ byte y 
       cond (place_unsound p c) (refused numbers.not_sound 0 p)
       (cond (not p.ended && short i) (refused numbers.block_short 0 p)
       (cond (not p.ended && not (check i)) (refused numbers.check_wrong 0 p)
-      (cond (cond p.ended (some-follow i) (form p c i)) (refused numbers.block_wrong 0 p) (by_fields i))))
+      (cond (cond p.ended (some_follow i) (form p c i)) (refused numbers.block_wrong 0 p) (by_fields i))))
     where
       short : ltb (length x) 512 ≡ ltb (length y) 512
       short = le-ltb (length x) 512 h ∙ sym (le-ltb (length y) 512 g)
 
-      some-follow : ltb 0 (length x) ≡ ltb 0 (length y)
-      some-follow = lt-ltb 0 (length x) (omega arith) ∙ sym (lt-ltb 0 (length y) (omega arith))
+      some_follow : ltb 0 (length x) ≡ ltb 0 (length y)
+      some_follow = lt-ltb 0 (length x) (omega arith) ∙ sym (lt-ltb 0 (length y) (omega arith))
 
       by_fields : judged_by_field (field_wrong p x) p x ≡ judged_by_field (field_wrong p y) p y
       by_fields = ap (λ (f : Option ℕ). judged_by_field f p x) (field p) ∙ by_field p (field_wrong p y)

@@ -20,7 +20,7 @@ use Rattle.trace.specs.Changed.{ChangedAt, PassesCheck}
 use Rattle.trace.specs.Check.{sum, weighed, check_value, check_holds}
 use Rattle.trace.specs.Place.{good_place}
 use Rattle.trace.specs.Judged.{refused, judged}
-use Rattle.trace.proofs.Order.{judged-check}
+use Rattle.trace.proofs.Order.{judged_check}
 use Rattle.trace.proofs.Passing.{passes_good, passes_whole, passes_check}
 use Rattle.trace.proofs.Spelling.{spell_ext, two_inj}
 use Rattle.trace.proofs.Sums.{sum_ext, sum_change}
@@ -88,13 +88,13 @@ module _ (x y : List ℕ) (k : ℕ) (xs : AreBytes x) (ys : AreBytes y) (change 
       kept : 510 ≤ k → ⊥
       kept h = which (eqb k 510) refl
         where
-          summed-alike : sum 510 (weighed x) ≡ sum 510 (weighed y)
-          summed-alike =
+          summed_alike : sum 510 (weighed x) ≡ sum 510 (weighed y)
+          summed_alike =
               sum_ext 510 (weighed x) (weighed y) (λ i g. ap (λ (v : ℕ). (i + 1) * v)
               (change.same i (omega arith) (λ q. absurd (omega arith))))
 
           alike : (byte x 510 ≡ byte y 510) × (byte x 511 ≡ byte y 511)
-          alike = two_inj x y 510 xs ys (sym ex ∙ ap (λ (s : ℕ). s % 65521) summed-alike ∙ ey)
+          alike = two_inj x y 510 xs ys (sym ex ∙ ap (λ (s : ℕ). s % 65521) summed_alike ∙ ey)
 
           which : (b : Bool) → eqb k 510 ≡ b → ⊥
           which true q =
@@ -122,7 +122,7 @@ module _ (x y : List ℕ) (k : ℕ) (xs : AreBytes x) (ys : AreBytes y) (change 
   -- so that judging it gives 7, at every place before the end block
   pub changed_gives_7 : (p : Place) (c : ℕ) → good_place p c ≡ true → p.ended ≡ false → 512 ≤ length y → check_holds x ≡ true
       → judged p c y ≡ refused numbers.check_wrong 0 p
-  changed_gives_7 p c g e h k = judged-check p c y g e h (changed_fails k)
+  changed_gives_7 p c g e h k = judged_check p c y g e h (changed_fails k)
 
   -- "Any one byte changed, in a block whose check holds, must be noticed.", of the judge alone: a block passes its check at a place
   -- before the end block, that is, judging it there gives none of 2, 9 and 7; then judging the changed block there gives 7

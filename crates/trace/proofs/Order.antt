@@ -20,29 +20,29 @@ module _ (p : Place) (c : ℕ) (l : List ℕ) where
 
   module _ (g : good_place p c ≡ true) where
     -- after the end block
-    pub judged-follows : p.ended ≡ true → 0 < length l → judged p c l ≡ refused numbers.block_wrong 0 p
+    pub judged_follows : p.ended ≡ true → 0 < length l → judged p c l ≡ refused numbers.block_wrong 0 p
     unfolding judged place_unsound block_short check_wrong block_wrong bytes_follow
-    judged-follows e h = rw (g, lt-ltb 0 (length l) h, e)
+    judged_follows e h = rw (g, lt-ltb 0 (length l) h, e)
 
-    pub judged-done : p.ended ≡ true → length l ≤ 0 → judged p c l ≡ accepted no_more p
+    pub judged_done : p.ended ≡ true → length l ≤ 0 → judged p c l ≡ accepted no_more p
     unfolding judged place_unsound block_short check_wrong block_wrong bytes_follow field_wrong judged_by_field taken
-    judged-done e h = rw (g, le-ltb 0 (length l) h, e)
+    judged_done e h = rw (g, le-ltb 0 (length l) h, e)
 
     -- before it
     module _ (e : p.ended ≡ false) where
-      pub judged-short : length l < 512 → judged p c l ≡ refused numbers.block_short 0 p
+      pub judged_short : length l < 512 → judged p c l ≡ refused numbers.block_short 0 p
       unfolding judged place_unsound block_short
-      judged-short h = rw (g, lt-ltb (length l) 512 h, e)
+      judged_short h = rw (g, lt-ltb (length l) 512 h, e)
 
       module _ (h : 512 ≤ length l) where
-        pub judged-check : check_holds l ≡ false → judged p c l ≡ refused numbers.check_wrong 0 p
+        pub judged_check : check_holds l ≡ false → judged p c l ≡ refused numbers.check_wrong 0 p
         unfolding judged place_unsound block_short check_wrong
-        judged-check k = rw (g, le-ltb (length l) 512 h, k, e)
+        judged_check k = rw (g, le-ltb (length l) 512 h, k, e)
 
-        pub judged-form : check_holds l ≡ true → form_wrong p c l ≡ true → judged p c l ≡ refused numbers.block_wrong 0 p
+        pub judged_form : check_holds l ≡ true → form_wrong p c l ≡ true → judged p c l ≡ refused numbers.block_wrong 0 p
         unfolding judged place_unsound block_short check_wrong block_wrong
-        judged-form k f = rw (g, le-ltb (length l) 512 h, k, f, e)
+        judged_form k f = rw (g, le-ltb (length l) 512 h, k, f, e)
 
-        pub judged-read : check_holds l ≡ true → form_wrong p c l ≡ false → judged p c l ≡ judged_by_field (field_wrong p l) p l
+        pub judged_read : check_holds l ≡ true → form_wrong p c l ≡ false → judged p c l ≡ judged_by_field (field_wrong p l) p l
         unfolding judged place_unsound block_short check_wrong block_wrong
-        judged-read k f = rw (g, le-ltb (length l) 512 h, k, f, e)
+        judged_read k f = rw (g, le-ltb (length l) 512 h, k, f, e)

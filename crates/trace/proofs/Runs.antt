@@ -19,7 +19,7 @@ use Rattle.trace.specs.Check.{check_holds}
 use Rattle.trace.specs.Place.{good_place}
 use Rattle.trace.specs.Rules.{has_wrong_kind, has_wrong_number, has_wrong_count, has_wrong_unused, has_wrong_order, has_wrong_total, form_wrong, field_wrong}
 use Rattle.trace.specs.Judged.{judged_by_field, judged}
-use Rattle.trace.proofs.Order.{judged-read}
+use Rattle.trace.proofs.Order.{judged_read}
 
 -- ---- the unused bytes
 
@@ -54,4 +54,4 @@ pub judged_run : (p : Place) (c : ℕ) (l : List ℕ) (n : ℕ) → good_place p
     → (has_wrong_kind l || (has_wrong_number p l || (has_wrong_count l || (has_wrong_order p l || has_wrong_total c l)))) ≡ false
     → judged p c l ≡ judged_by_field (field_wrong p l) p l
 judged_run p c l n g e h k u b v f =
-    judged-read p c l g e h k (clauses_right p c l (blank_zeros l 6 2 8 refl u) (blank_zeros l (end_of_body l) n 510 b v) f)
+    judged_read p c l g e h k (clauses_right p c l (blank_zeros l 6 2 8 refl u) (blank_zeros l (end_of_body l) n 510 b v) f)

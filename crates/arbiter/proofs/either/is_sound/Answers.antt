@@ -6,7 +6,7 @@ use Prim.Native.Nat.{ℕ}
 use native.Mathlib.Omega.{arith}
 use Rattle.arbiter.specs.Matrix.{blank_from}
 use Rattle.arbiter.specs.Arbiter.{known, arbiter_of}
-use Rattle.arbiter.proofs.ByKind.{known_is, sound_unknown, sound-past, sound-turn, sound-pointer, sound-beyond, sound-order}
+use Rattle.arbiter.proofs.ByKind.{known_is, sound_unknown, sound_past, sound_turn, sound_pointer, sound_beyond, sound_order}
 use Rattle.arbiter.proofs.either.is_sound.Goals as goal
 use Rattle.arbiter.proofs.either.is_sound.Goals.{After-are_blank-2, Else-not-is_known}
 
@@ -30,20 +30,20 @@ returns-then-not-is_known c =
 pub returns-then-n-pointer : goal.returns-then-n-pointer
 returns-then-n-pointer c =
     let a = c.args in
-    sound-past a.places a.code a.n (arbiter_of a.pointer a.rows.now) (ok (goal.at.returns-then-n-pointer c).Else-not-is_known)
+    sound_past a.places a.code a.n (arbiter_of a.pointer a.rows.now) (ok (goal.at.returns-then-n-pointer c).Else-not-is_known)
     c.requires.1 c.if-code-eq-ROUND_ROBIN.true c.if-n-pointer.true
 
 pub returns-then-code-eq-ROUND_ROBIN : goal.returns-then-code-eq-ROUND_ROBIN
 returns-then-code-eq-ROUND_ROBIN c =
     let a = c.args in
     c.are_blank.ensures ∙ ap (λ (k : ℕ). blank_from 0 k a.rows.now) c.requires.1
-    ∙ sound-turn a.places a.code a.n (arbiter_of a.pointer a.rows.now) (ok (goal.at.returns-then-code-eq-ROUND_ROBIN c).Else-not-is_known)
+    ∙ sound_turn a.places a.code a.n (arbiter_of a.pointer a.rows.now) (ok (goal.at.returns-then-code-eq-ROUND_ROBIN c).Else-not-is_known)
     c.requires.1 c.if-code-eq-ROUND_ROBIN.true c.if-n-pointer.false
 
 pub returns-then-pointer-ne0 : goal.returns-then-pointer-ne0
 returns-then-pointer-ne0 c =
     let a = c.args in
-    sound-pointer a.places a.code a.n (arbiter_of a.pointer a.rows.now) (ok (goal.at.returns-then-pointer-ne0 c).Else-not-is_known)
+    sound_pointer a.places a.code a.n (arbiter_of a.pointer a.rows.now) (ok (goal.at.returns-then-pointer-ne0 c).Else-not-is_known)
     c.requires.1 c.if-code-eq-ROUND_ROBIN.false c.if-pointer-ne0.true
 
 pub are_blank-requires-2 : goal.are_blank-requires-2
@@ -56,7 +56,7 @@ are_blank-requires-2 c =
 pub returns-then-not-are_blank : goal.returns-then-not-are_blank
 returns-then-not-are_blank c =
     let a = c.args in
-    sound-beyond a.places a.code a.n (arbiter_of a.pointer a.rows.now)
+    sound_beyond a.places a.code a.n (arbiter_of a.pointer a.rows.now)
     (ok (goal.at.returns-then-not-are_blank c).Else-not-is_known) c.requires.1
     c.if-code-eq-ROUND_ROBIN.false (sym (blank (goal.at.returns-then-not-are_blank c).After-are_blank-2) ∙ c.if-not-are_blank.true)
 
@@ -70,7 +70,7 @@ is_total-requires c =
 pub returns : goal.returns
 returns c =
     let a = c.args in
-    c.is_total.ensures ∙ sound-order a.places a.code a.n (arbiter_of a.pointer a.rows.now)
+    c.is_total.ensures ∙ sound_order a.places a.code a.n (arbiter_of a.pointer a.rows.now)
     (ok (goal.at.returns c).Else-not-is_known) c.requires.1 c.if-code-eq-ROUND_ROBIN.false
     c.if-pointer-ne0.false (sym (blank (goal.at.returns c).After-are_blank-2)
     ∙ c.if-not-are_blank.false)

@@ -4,7 +4,7 @@ use Prim.Native.Nat.{◌≤◌, ◌<◌, ◌^◌}
 use native.Mathlib.Omega.{arith}
 use lib.Count.{count_trailing_zeros}
 use lib.Pow.{pow_pos}
-use Rattle.arbiter.proofs.Champion.{covered, trying_all, trying-below, trying-own, trying-wins, trying-less, trying_none}
+use Rattle.arbiter.proofs.Champion.{covered, trying_all, trying_below, trying_own, trying_wins, trying_less, trying_none}
 use Rattle.arbiter.proofs.matrix.choose.Goals as goal
 use Rattle.arbiter.proofs.matrix.choose.Goals.{In-loop-left}
 
@@ -13,14 +13,14 @@ tried : (c : In-loop-left) → count_trailing_zeros 32 c.loop-left.left < c.args
 tried c =
     let a = c.args in
     let p = c.requires in
-    trying-below a.n a.asking a.rows.now c.loop-left.left p.0 p.2 c.loop-left.invariant
+    trying_below a.n a.asking a.rows.now c.loop-left.left p.0 p.2 c.loop-left.invariant
     (omega (arith, c.loop-left-test.true))
 
 own-le : (c : In-loop-left) → 2 ^ count_trailing_zeros 32 c.loop-left.left ≤ c.loop-left.left
 own-le c =
     let a = c.args in
     let p = c.requires in
-    trying-own a.n a.asking a.rows.now c.loop-left.left p.0 p.2 c.loop-left.invariant
+    trying_own a.n a.asking a.rows.now c.loop-left.left p.0 p.2 c.loop-left.invariant
     (omega (arith, c.loop-left-test.true))
 
 pub loop-left-init : goal.loop-left-init
@@ -43,7 +43,7 @@ unfolding covered
 returns-then-asking-rows c =
     let a = c.args in
     let p = c.requires in
-    trying-wins a.n a.asking a.rows.now c.loop-left.left p.0 p.2 c.loop-left.invariant
+    trying_wins a.n a.asking a.rows.now c.loop-left.left p.0 p.2 c.loop-left.invariant
     (omega (arith, c.loop-left-test.true))
     (rw c.only-own.ensures at c.if-asking-rows.true)
 
@@ -61,7 +61,7 @@ loop-left-preserved c =
     let a = c.args in
     let p = c.requires in
     rw c.only-own.ensures
-    (trying-less a.n a.asking a.rows.now c.loop-left.left p.0 p.2 c.loop-left.invariant
+    (trying_less a.n a.asking a.rows.now c.loop-left.left p.0 p.2 c.loop-left.invariant
     (omega (arith, c.loop-left-test.true))
     (rw c.only-own.ensures at c.if-asking-rows.false))
 

@@ -13,7 +13,7 @@ use Rattle.base.proofs.Lists.{rest_of}
 use Rattle.runs.specs.declared.Run.{Run}
 use Rattle.router.specs.Running.{CallOutcome, ran_of}
 use Rattle.floor.specs.Handing.{Handed, called, handed_by, Passes}
-use Rattle.floor.proofs.Calls.{call_most, refused_passes, unwritten-passes, whole-passes, full-passes, more-passes}
+use Rattle.floor.proofs.Calls.{call_most, refused_passes, unwritten_passes, whole_passes, full_passes, more_passes}
 use Rattle.floor.proofs.passing.pass.Goals as goal
 
 -- a call's outcome is the run entry's with what is left of the part
@@ -44,7 +44,7 @@ returns-then-not-put g c =
     let l = c.loop-from in
     let o : CallOutcome = record { ran = c.run-ran.result; buffer = c.run-ran.new.buf } in
     l.invariant.3 1 _ _
-    (unwritten-passes (drop l.from c.args.part.now) (record { run = l.run; buffer = l.out }) o
+    (unwritten_passes (drop l.from c.args.part.now) (record { run = l.run; buffer = l.out }) o
     (call c.args.part.now l.out l.from l.run o c.run-ran.ensures) c.if-ran-ne-DONE.false
     (λ e. true≢false (sym (c.put.ensures.none e) ∙ c.if-not-put.true)))
 
@@ -53,7 +53,7 @@ returns-then-ran-eq0 g c =
     let l = c.loop-from in
     let o : CallOutcome = record { ran = c.run-ran.result; buffer = c.run-ran.new.buf } in
     l.invariant.3 1 _ _
-    (whole-passes (drop l.from c.args.part.now) (record { run = l.run; buffer = l.out }) o
+    (whole_passes (drop l.from c.args.part.now) (record { run = l.run; buffer = l.out }) o
     (call c.args.part.now l.out l.from l.run o c.run-ran.ensures) c.if-ran-ne-DONE.false c.if-ran-eq0.true)
 
 pub returns-then-ran-eq0-2 : goal.returns-then-ran-eq0-2
@@ -61,7 +61,7 @@ returns-then-ran-eq0-2 g c =
     let l = c.loop-from in
     let o : CallOutcome = record { ran = c.run-ran.result; buffer = c.run-ran.new.buf } in
     l.invariant.3 1 _ _
-    (full-passes (drop l.from c.args.part.now) (record { run = l.run; buffer = l.out }) o
+    (full_passes (drop l.from c.args.part.now) (record { run = l.run; buffer = l.out }) o
     (call c.args.part.now l.out l.from l.run o c.run-ran.ensures) c.if-ran-ne-DONE.false c.if-ran-eq0.false c.if-ran-eq0-2.true)
 
 pub overflow_add-from : goal.overflow_add-from
@@ -102,7 +102,7 @@ loop-from-preserved g c =
           let n : l.calls + suc k ≡ l.calls + 1 + k = omega arith in
           subst (λ (m : ℕ). Passes part (record { run = c.args.before; buffer = c.args.out.now }) m s g) n
           (l.invariant.3 (suc k) s g
-          (more-passes (drop l.from part) (record { run = l.run; buffer = l.out }) o e c.if-ran-ne-DONE.false c.if-ran-eq0.false
+          (more_passes (drop l.from part) (record { run = l.run; buffer = l.out }) o e c.if-ran-ne-DONE.false c.if-ran-eq0.false
           c.if-ran-eq0-2.false k s g
           (subst (λ (rest : List ℕ). Passes rest (handed_by o) k s g) (sym (drop-drop c.run-ran.result.used l.from part)) p)))),
     )

@@ -5,7 +5,7 @@ use lib.ListN.{length}
 use Rattle.rules.specs.Intake.{Queues}
 use Rattle.router.proofs.Landing.{store_long}
 use Rattle.router.proofs.SoundFits.{legal_channels}
-use Rattle.router.proofs.WholeCycle.{router_is, reply_is, router-rests, reply-rests}
+use Rattle.router.proofs.WholeCycle.{router_is, reply_is, router_rests, reply_rests}
 use Rattle.router.proofs.acting.act.Goals as goal
 
 pub report-senders-requires : goal.report-senders-requires
@@ -59,13 +59,13 @@ ready-ready-requires c = legal_channels c.requires.0
 pub returns-then-ready-eq0 : goal.returns-then-ready-eq0
 returns-then-ready-eq0 c =
     record {
-      after = router-rests c.args.config c.requires.0.ports.1 c.args.parts c.args.part.now c.args.store.now
+      after = router_rests c.args.config c.requires.0.ports.1 c.args.parts c.args.part.now c.args.store.now
           c.args.wire.now c.args.home.now _ _ _ _ _ _ _ c.advance_home.ensures
           c.pay_outputs-outputs2.ensures c.land-inputs3.ensures c.advance_wire.ensures
           c.take_offers-inputs4.ensures _ c.grants-made.result _ _ _ c.asking-sets.ensures
           c.grants-made.ensures c.bind-named.ensures c.move_on-vcs.ensures _ c.ready-ready.ensures
           c.if-ready-eq0.true;
-      said = reply-rests c.args.config c.requires.0.ports.1 c.args.parts c.args.part.now
+      said = reply_rests c.args.config c.requires.0.ports.1 c.args.parts c.args.part.now
           c.args.store.now c.args.wire.now c.args.home.now _ _ _ _ _ _ _
           c.advance_home.ensures c.pay_outputs-outputs2.ensures c.land-inputs3.ensures
           c.advance_wire.ensures c.take_offers-inputs4.ensures _ c.grants-made.result _ _ _

@@ -15,7 +15,7 @@ use Rattle.rules.specs.Numbers.{first_of}
 use Rattle.rules.proofs.Facts.{sound_lengths, sound_legal}
 use Rattle.router.specs.Whole.{router_of}
 use Rattle.router.proofs.SoundFits.{credits_fit, queues_fit, output_credits_fit-law}
-use Rattle.router.proofs.StepLaws.{rest, refused_steps, accepted_steps, accepted_early, accepted_long, rest_gives, after_is, said-is}
+use Rattle.router.proofs.StepLaws.{rest, refused_steps, accepted_steps, accepted_early, accepted_long, rest_gives, after_is, said_is}
 use Rattle.router.proofs.cycle.inner_step.Goals as goal
 use Rattle.router.proofs.cycle.inner_step.Goals.{After-judge-verdict, In_default, Start}
 
@@ -77,5 +77,5 @@ returns c =
     accepted_steps (given (goal.at.returns c).Start) (bytes (goal.at.returns c).Start) (passes (goal.at.returns c).Start) (taken (goal.at.returns c).In_default) _ _
     (after_is (given (goal.at.returns c).Start) (bytes (goal.at.returns c).Start) c.pay_senders-paid.result c.pay_senders-paid.ensures _
     (c.act-acted.ensures.after c.args.cycle))
-    (said-is (given (goal.at.returns c).Start) (bytes (goal.at.returns c).Start) c.pay_senders-paid.result c.pay_senders-paid.ensures _
+    (said_is (given (goal.at.returns c).Start) (bytes (goal.at.returns c).Start) c.pay_senders-paid.result c.pay_senders-paid.ensures _
     (c.act-acted.ensures.said c.args.cycle))

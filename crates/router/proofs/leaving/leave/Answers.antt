@@ -10,7 +10,7 @@ use borrow.Author.Rules.{rules}
 use Rattle.rules.specs.Ports.{over_ports}
 use Rattle.rules.specs.Departures.{Leaving, departures}
 use Rattle.rules.proofs.Folds.{over_none, over_again}
-use Rattle.router.proofs.Departing.{leave_turn, Won, won-at, stays, among, not-bound, leaves-now, leaves-past, leaving_long}
+use Rattle.router.proofs.Departing.{leave_turn, Won, won_at, stays, among, not_bound, leaves_now, leaves_past, leaving_long}
 use Rattle.router.proofs.Numbers.{fewer, more}
 use Rattle.router.proofs.leaving.leave.Goals as goal
 use Rattle.router.proofs.leaving.leave.Goals.{At-loop-next, Else-x-ge-CHANNEL_PLACES, In-loop-next, Start}
@@ -69,7 +69,7 @@ winner c =
     let h : c.winning-x.result < 32 = omega arith in
     let a = c.args in (
       h,
-      won-at a.config a.rows a.picks c.loop-next.next c.winning-x.result
+      won_at a.config a.rows a.picks c.loop-next.next c.winning-x.result
           c.winning-x.ensures h,
     )
 
@@ -122,7 +122,7 @@ loop-next-preserved-in_default c =
     let w = (winner (goal.at.loop-next-preserved-in_default c).Else-x-ge-CHANNEL_PLACES).1 in (
       more c.args.config.ports c.loop-next.next (turning (goal.at.loop-next-preserved-in_default c).In-loop-next).0,
       again (goal.at.loop-next-preserved-in_default c).At-loop-next
-          (not-bound a.config a.rows a.picks (sofar (goal.at.loop-next-preserved-in_default c).At-loop-next) c.loop-next.next _ _ _ w.row refl w.pick refl w.on
+          (not_bound a.config a.rows a.picks (sofar (goal.at.loop-next-preserved-in_default c).At-loop-next) c.loop-next.next _ _ _ w.row refl w.pick refl w.on
           c.in_default.is),
     )
 
@@ -172,7 +172,7 @@ loop-next-preserved-then-y-ge-CHANNEL_PLACES c =
     let far : length c.loop-next.outputs ≤ c.number-y.result = rw (longs (goal.at.loop-next-preserved-then-y-ge-CHANNEL_PLACES c).At-loop-next).1 c.if-y-ge-CHANNEL_PLACES.true in (
       more c.args.config.ports c.loop-next.next (turning (goal.at.loop-next-preserved-then-y-ge-CHANNEL_PLACES c).In-loop-next).0,
       again (goal.at.loop-next-preserved-then-y-ge-CHANNEL_PLACES c).At-loop-next
-          (leaves-past a.config a.rows a.picks (sofar (goal.at.loop-next-preserved-then-y-ge-CHANNEL_PLACES c).At-loop-next) c.loop-next.next _ _ _ w.row refl w.pick refl w.on _
+          (leaves_past a.config a.rows a.picks (sofar (goal.at.loop-next-preserved-then-y-ge-CHANNEL_PLACES c).At-loop-next) c.loop-next.next _ _ _ w.row refl w.pick refl w.on _
           c.in-Bound.is c.ends_packet-last.ensures c.after_leaving.ensures
           c.let_go.ensures.0 c.let_go.ensures.1 c.let_go.ensures.2
           c.wide.ensures.value c.number-y.ensures far),
@@ -203,7 +203,7 @@ loop-next-preserved c =
     let w = (winner (goal.at.loop-next-preserved c).Else-x-ge-CHANNEL_PLACES).1 in (
       more c.args.config.ports c.loop-next.next (turning (goal.at.loop-next-preserved c).In-loop-next).0,
       again (goal.at.loop-next-preserved c).At-loop-next
-          (leaves-now a.config a.rows a.picks (sofar (goal.at.loop-next-preserved c).At-loop-next) c.loop-next.next _ _ _ w.row refl w.pick refl w.on _
+          (leaves_now a.config a.rows a.picks (sofar (goal.at.loop-next-preserved c).At-loop-next) c.loop-next.next _ _ _ w.row refl w.pick refl w.on _
           c.in-Bound.is c.ends_packet-last.ensures c.after_leaving.ensures
           c.let_go.ensures.0 c.let_go.ensures.1 c.let_go.ensures.2 c.wide.ensures.value
           c.number-y.ensures c.after_taking.ensures),

@@ -4,7 +4,7 @@ use mathlib.Core.Path.{◌∙◌}
 use native.Mathlib.Omega.{arith}
 use Rattle.listing.specs.Lines.{cycle_lines}
 use Rattle.listing.proofs.Lengths.{cycle_length-law}
-use Rattle.router.proofs.Cycling.{refused-run, accepted-run}
+use Rattle.router.proofs.Cycling.{refused_run, accepted_run}
 use Rattle.router.proofs.Writes.{place_fits}
 use Rattle.state.proofs.Legal.{sound_cycle}
 use Rattle.router.proofs.running.cycle.Goals as goal
@@ -18,7 +18,7 @@ refuse-requires c = c.requires.room
 pub returns-in-Refused : goal.returns-in-Refused
 returns-in-Refused c =
     c.refuse.ensures c.args.config _ _ _
-    ∙ refused-run c.args.config c.args.before c.args.store.now c.args.wire.now
+    ∙ refused_run c.args.config c.args.before c.args.store.now c.args.wire.now
     c.args.home.now c.args.out.now c.args.part.now _ _ _ _ _ _ _ c.inner_step-done.ensures _
     c.in-Refused.is
 
@@ -39,7 +39,7 @@ overflow_add-result-2 c =
 
 pub returns : goal.returns
 returns c =
-    accepted-run c.args.config c.args.before c.args.store.now c.args.wire.now c.args.home.now
+    accepted_run c.args.config c.args.before c.args.store.now c.args.wire.now c.args.home.now
     c.args.out.now c.args.part.now _ _ _ _ _ _ _ c.inner_step-done.ensures
     c.in_default.is c.write_cycle.result _ c.size-bytes.result
     c.flits_of.result c.write_cycle.ensures c.size-bytes.ensures

@@ -6,7 +6,7 @@ use native.Mathlib.Omega.{arith}
 use lib.ListN.{length, get_or}
 use borrow.Author.Rules.{rules}
 use Rattle.state.proofs.Exact.{length_any}
-use Rattle.router.proofs.Columns.{asks_not, no_pick, past_the_end, as-bound, rows_none, rows_same, rows-with}
+use Rattle.router.proofs.Columns.{asks_not, no_pick, past_the_end, as_bound, rows_none, rows_same, rows_with}
 use Rattle.router.proofs.Numbers.{more}
 use Rattle.router.proofs.switching.table_of.Goals as goal
 
@@ -40,7 +40,7 @@ loop-next-preserved-then-o-ge-PORT_PLACES c =
     let a = c.args in (
       more a.config.ports c.loop-next.next c.loop-next-test.true,
       rows_same a.config a.inputs a.picks c.loop-next.table c.loop-next.next c.output_of-o.result
-          c.loop-next.invariant.1 (as-bound a.config a.inputs c.loop-next.next (get_or a.picks c.loop-next.next 0) c.if-pick-eq0.false c.wide.result c.wide.ensures.value
+          c.loop-next.invariant.1 (as_bound a.config a.inputs c.loop-next.next (get_or a.picks c.loop-next.next 0) c.if-pick-eq0.false c.wide.result c.wide.ensures.value
           c.number-x.result c.number-x.ensures c.output_of-o.result c.output_of-o.ensures) c.if-o-ge-PORT_PLACES.true,
     )
 
@@ -49,8 +49,8 @@ loop-next-preserved c =
     let a = c.args in
     let low : c.loop-next.next < 8 = let p = c.requires in omega arith in (
       more a.config.ports c.loop-next.next c.loop-next-test.true,
-      rows-with a.config a.inputs a.picks c.loop-next.table c.loop-next.next c.output_of-o.result
-          c.loop-next.invariant.1 (as-bound a.config a.inputs c.loop-next.next (get_or a.picks c.loop-next.next 0) c.if-pick-eq0.false c.wide.result c.wide.ensures.value
+      rows_with a.config a.inputs a.picks c.loop-next.table c.loop-next.next c.output_of-o.result
+          c.loop-next.invariant.1 (as_bound a.config a.inputs c.loop-next.next (get_or a.picks c.loop-next.next 0) c.if-pick-eq0.false c.wide.result c.wide.ensures.value
           c.number-x.result c.number-x.ensures c.output_of-o.result c.output_of-o.ensures) low c.if-o-ge-PORT_PLACES.false,
     )
 
