@@ -14,7 +14,7 @@ LIST appears whole or not at all: it is written to LIST.part, which takes its na
 regular file (a pipe, a device, '-') is written as it comes, and the status says whether it is whole. TRACE is never written.
 
   --build      prove and build the program of this tree, if that is not done; the first use does it too, in some minutes
-  --take-over  with --build: what target/ of this tree has proved is not proved again, as rt would have it
+  --take-over  with --build: what rt ci has proved of the same files on this machine is not proved again
   --as-built   run what was built, though the tree has changed since
   --progress   tell how far it is, also where standard error is no terminal
   --quiet      tell nothing but what went wrong

@@ -73,8 +73,9 @@ def made(here, quiet, take_over):
         with tempfile.TemporaryDirectory(prefix='night-list.') as work:
             record = {'commit': commit(ROOT), 'kit': here.id, 'content': copied(work, here)}
             record['check'] = prove(here, work, quiet, take_over)
-            put_together(here, os.path.join(work, 'target', 'bin', PROGRAM), new)
-            try_once(new, os.path.join(work, 'crates', PROGRAM))
+            crate = os.path.join(work, 'crates', PROGRAM)
+            put_together(here, os.path.join(crate, 'out', PROGRAM), new)
+            try_once(new, crate)
         record['files'] = digest(new, files(new), '')
         record['when'] = time.strftime('%Y-%m-%d %H:%M:%S UTC', time.gmtime())
         with open(os.path.join(new, RECORD), 'w', encoding='utf-8', errors='replace') as said:
@@ -94,7 +95,7 @@ def copied(work, here):
 
 
 def put_together(here, program, folder):
-    """The program, the libraries that it runs with and, on a processor that is not x86-64, the emulator."""
+    """The program, the libraries that it runs with and, where the kit has one, for a processor that is not x86-64, the emulator."""
     libraries, emulator = os.path.join(here.tools, 'lib'), os.path.join(here.tools, 'bin', EMULATOR)
     copies = {os.path.join(LIBRARIES, name): os.path.join(libraries, name) for name in os.listdir(libraries) if '.so' in name}
     copies[PROGRAM] = program

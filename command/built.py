@@ -27,7 +27,7 @@ class Build:
 
 
 def started(folder):
-    """How the program of a folder is started: it is for x86-64 and runs under the kit's loader; elsewhere the kit has an emulator."""
+    """How the program of a folder is started: it is for x86-64 and runs under the kit's loader, and an emulator where the kit has one."""
     loader, libraries, program, emulator = (os.path.join(folder, name) for name in (LOADER, LIBRARIES, PROGRAM, EMULATOR))
     start = [loader, '--library-path', libraries, program]
     return [emulator, *start] if os.path.exists(emulator) else start

@@ -1,12 +1,14 @@
 """The tree that the command stands in, and the kit: what they hold, by name and by content."""
 import hashlib
 import os
+import re
 import shutil
 import stat
 import subprocess
 
 ROOT = os.path.dirname(os.path.dirname(os.path.realpath(__file__)))
 MACHINE = os.uname().machine
+OUT = re.compile('crates/[^/]+/out')  # what rt makes of a crate, and keeps for itself
 
 
 class Kit:
@@ -14,7 +16,7 @@ class Kit:
 
     def __init__(self, home, rt):
         self.home, self.rt = home, rt
-        self.tools = os.path.join(home, 'on', MACHINE, 'toolchain')
+        self.tools = os.path.join(home, 'toolchain')
         with open(os.path.join(home, 'KIT-ID'), encoding='utf-8', errors='replace') as said:
             self.id = ' '.join(said.read().split())
 
@@ -35,11 +37,12 @@ def kit():
 
 def sources(root):
     """The files that the program is made from."""
-    return ['crates.txt', *files(root, 'crates')]
+    handles = ['HANDLES'] if os.path.lexists(os.path.join(root, 'HANDLES')) else []  # what rt allows a crate; it need not be there
+    return ['crates.txt', *handles, *files(root, 'crates', but=OUT)]
 
 
 def content(root, kit_id):
-    """A hash of all that the program is made from: crates.txt, crates/ and the kit, on this kind of machine."""
+    """A hash of all that the program is made from: crates.txt, HANDLES, crates/ and the kit, on this kind of machine."""
     return digest(root, sources(root), f'{kit_id} on {MACHINE}')
 
 
@@ -62,12 +65,15 @@ def data_of(path):
         return file.read()
 
 
-def files(root, folder=''):
-    """The names of all files and links below a folder of the root, in one order."""
+def files(root, folder='', but=None):
+    """The names of all files and links below a folder of the root, in one order; a folder whose name `but` matches is left out."""
     found = []
     for entry in os.scandir(os.path.join(root, folder)):
         name = os.path.join(folder, entry.name)
-        found += files(root, name) if entry.is_dir(follow_symlinks=False) else [name]
+        if not entry.is_dir(follow_symlinks=False):
+            found.append(name)
+        elif not (but and but.fullmatch(name)):
+            found += files(root, name, but)
     return sorted(found)
 
 
@@ -76,7 +82,8 @@ def commit(root):
     if not os.path.exists(os.path.join(root, '.git')):
         return 'no commit'
     head = git(root, 'rev-parse', '--short=12', 'HEAD')
-    changed = git(root, 'status', '--porcelain', '--ignored', '--', 'crates', 'crates.txt')
+    told = git(root, 'status', '--porcelain', '--untracked-files=all', '--ignored=matching', '--', 'crates', 'crates.txt', 'HANDLES')
+    changed = [line for line in told.splitlines() if not re.match(rf'(\?\?|!!) {OUT.pattern}/', line)]
     return (head or 'no commit') + (' with changes' if changed else '')
 
 

@@ -1,6 +1,6 @@
 """A small tree of its own for each test: the command in it, a kit whose `rt` only pretends to prove, and a program.
 
-NIGHT_LIST_SCRIPT names another script to be tried in the command's place, NIGHT_LIST_PROGRAM another program than target/bin/night_list."""
+NIGHT_LIST_SCRIPT names another script to be tried in the command's place, NIGHT_LIST_PROGRAM another program than rt ci's."""
 import fcntl
 import os
 import select
@@ -10,30 +10,42 @@ import subprocess
 import tempfile
 import unittest
 
-from command.tree import MACHINE, ROOT, kit
+from command.tree import ROOT, kit
 
 SCRIPT = os.environ.get('NIGHT_LIST_SCRIPT')
-PROGRAM = os.environ.get('NIGHT_LIST_PROGRAM') or os.path.join(ROOT, 'target', 'bin', 'night_list')
+OUT = os.path.join('crates', 'night_list', 'out', 'night_list')  # where rt leaves the program
+PROGRAM = os.environ.get('NIGHT_LIST_PROGRAM') or os.path.join(ROOT, OUT)
 LISTING_TRACE = os.path.join(ROOT, 'examples', 'listing.trace')
 PIPE = fcntl.fcntl(os.pipe()[1], fcntl.F_GETPIPE_SZ)  # a longer write comes back only when somebody reads
 PATIENCE = 60  # seconds after which what has not ended hangs
 
-# as rt: a crate with a stamp is not built again; `calls` counts, `hold` is a FIFO that makes it wait, `fails` makes it fail
+# as rt ci: it keeps in `kept` what it passed, by a sum of the files, and takes that over unless it is told --anew;
+# `calls` counts, `given` has the names of the files, `hold` is a FIFO that makes it wait, `fails` makes it fail
 RT = """#!/bin/sh
 kit=$(cd "$(dirname "$0")/.." && pwd -P)
 echo "$* in $PWD" >>"$kit/calls"
+[ "$1" = ci ] || exit 2
 [ ! -p "$kit/hold" ] || read -r _ <"$kit/hold"
-[ ! -e "$kit/fails" ] || { echo 'rt: base NOT PROVED (exit 1, 0 s)'; echo 'rt: FAILED: base'; exit 1; }
-echo 'rt: base proved (0 s)'
-if [ -f target/stamp/night_list ]; then
-    echo 'rt: night_list proved (unchanged since it was last proved)'
-else
-    mkdir -p target/bin target/stamp
-    cp "$kit/program" target/bin/night_list
-    echo 'rt: night_list proved (0 s)'
-    echo stamp >target/stamp/night_list
-fi
-echo 'rt: ok, 2 crates proved'
+find . -type f | LC_ALL=C sort >"$kit/given"
+sum=$(xargs cat <"$kit/given" | cksum)
+[ ! -e "$kit/fails" ] || {
+    printf '== base\\nwhat is wrong\\nrt: base NOT PROVED\\n'
+    seq 100
+    printf 'rt: FAILED: base\\n0 passed, 1 failed\\n'
+    exit 1
+}
+for crate in base night_list; do
+    if [ "$2" != --anew ] && grep -q -s -x "$sum" "$kit/kept"; then
+        echo "rt: $crate is kept: an earlier run proved the same"
+    else
+        printf "== $crate\\nfn $crate::f: proved\\nrt: $crate proved\\n"
+    fi
+done
+mkdir crates/night_list/out
+cp "$kit/program" crates/night_list/out/night_list
+echo "$sum" >>"$kit/kept"
+echo 'rt: ok; handles allowed: none'
+echo '2 passed, 0 failed'
 """
 # stands in for the kit's loader, so that a program may be a script
 LOADER = """#!/bin/sh
@@ -62,9 +74,11 @@ class Floor(unittest.TestCase):
         os.chmod(self.at, 0o755)  # some tests run as nobody
         self.tree, self.kit = os.path.join(self.at, 'tree'), os.path.join(self.at, 'kit')
         self.make_kit()
-        os.makedirs(os.path.join(self.tree, 'crates', 'base', 'src'))
+        for crate in ('base', 'night_list'):
+            os.makedirs(os.path.join(self.tree, 'crates', crate, 'src'))
         self.write('tree/crates.txt', 'base:\nnight_list: base\n')
         self.write('tree/crates/base/src/lib.txt', 'as it was\n')
+        self.write('tree/crates/night_list/src/main.txt', 'as it was\n')
         shutil.copy(SCRIPT or os.path.join(ROOT, 'night-list'), os.path.join(self.tree, 'night-list'))
         shutil.copytree(os.path.join(ROOT, 'command'), os.path.join(self.tree, 'command'),
                         ignore=shutil.ignore_patterns('tests', '__pycache__'))
@@ -74,7 +88,7 @@ class Floor(unittest.TestCase):
         self.surroundings['PATH'] = os.path.join(self.kit, 'bin') + os.pathsep + os.environ['PATH']
 
     def make_kit(self):
-        tools = os.path.join(self.kit, 'on', MACHINE, 'toolchain')
+        tools = os.path.join(self.kit, 'toolchain')
         os.makedirs(os.path.join(self.kit, 'bin'))
         os.makedirs(tools)
         self.write('kit/KIT-ID', 'a pretended kit\n')
@@ -86,7 +100,7 @@ class Floor(unittest.TestCase):
                 os.symlink(os.path.join(own, part), os.path.join(tools, part))
         else:
             os.makedirs(os.path.join(tools, 'lib'))
-            self.write(f'kit/on/{MACHINE}/toolchain/lib/ld-linux-x86-64.so.2', LOADER, 0o755)
+            self.write('kit/toolchain/lib/ld-linux-x86-64.so.2', LOADER, 0o755)
             self.write('kit/program', f'#!/bin/sh\n{self.program}\n', 0o755)
 
     def write(self, name, data, mode=0o644):

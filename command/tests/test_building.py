@@ -6,7 +6,7 @@ import signal
 import subprocess
 import unittest
 
-from command.tests.support import LISTING_TRACE, PATIENCE, PIPE, Floor, as_nobody
+from command.tests.support import LISTING_TRACE, OUT, PATIENCE, PIPE, Floor, as_nobody
 from command.tests.traces import LISTING, busy
 
 
@@ -21,8 +21,8 @@ class Building(Floor):
         self.assertEqual((status, out), (0, LISTING))
         self.assertEqual(err.splitlines(), [
             'night-list: proving and building the program, 2 crates; some minutes, once',
-            'night-list: 1 of 2 proved: base (0 s)',
-            'night-list: 2 of 2 proved: night_list (0 s)',
+            'night-list: 1 of 2 proved: base',
+            'night-list: 2 of 2 proved: night_list',
             'night-list: whole: 6 cycles accepted, 4 flits out',
         ])
         self.assertEqual(self.night('--quiet', LISTING_TRACE, '-'), (0, LISTING, ''))
@@ -100,14 +100,15 @@ class Building(Floor):
     def program_file(self):
         """The program that a run takes."""
         built = os.path.join(self.tree, 'built', 'current', 'night_list')
-        return built if os.path.exists(built) else os.path.join(self.tree, 'target', 'bin', 'night_list')
+        return built if os.path.exists(built) else os.path.join(self.tree, OUT)
 
     def test_a_build_that_fails_leaves_nothing(self):
         self.write('kit/fails', '')
         before = set(self.everything())
         status, out, err = self.night(LISTING_TRACE, '-')
         self.assertEqual((status, out), (4, ''))
-        self.assertIn('rt: base NOT PROVED (exit 1, 0 s)\nrt: FAILED: base\n', err)
+        self.assertIn('what is wrong\nrt: base NOT PROVED\n', err)  # though rt went on
+        self.assertIn('100\nrt: FAILED: base\n0 passed, 1 failed\n', err)
         self.assertIn('night-list: the program was not built: rt ended with status 1', err)
         self.assertEqual(set(self.everything()) - before, {os.path.join(self.tree, 'built', 'lock')})
 
@@ -118,7 +119,6 @@ class Building(Floor):
         self.assertEqual(os.listdir(os.path.join(self.at, 'tmp')), [])
 
     def test_a_program_that_does_not_do_what_its_crate_says_is_not_put_in_place(self):
-        os.makedirs(os.path.join(self.tree, 'crates', 'night_list'))
         self.write('tree/crates/night_list/stdin', '')
         self.write('tree/crates/night_list/stdout', 'R 9 0 1\n')
         status, _, err = self.night('--build')
@@ -187,7 +187,7 @@ class Building(Floor):
     def test_building_twice_builds_once(self):
         self.build()
         status, _, err = self.night('--build')
-        self.assertEqual((status, err), (0, 'night-list: built from no commit: rt: ok, 2 crates proved\n'))
+        self.assertEqual((status, err), (0, 'night-list: built from no commit: rt ci: 2 passed, 0 failed\n'))
         self.assertEqual(self.calls(), 1)
 
     def test_a_build_beside_a_run(self):
@@ -204,18 +204,46 @@ class Building(Floor):
         self.assertEqual(self.ended(run)[0], 0)
         self.assertEqual(self.read('list'), whole)
 
-    def test_what_the_tree_has_proved_is_taken_over_if_asked_for(self):
-        for folder in ('stamp', 'bin'):
-            os.makedirs(os.path.join(self.tree, 'target', folder))
-        self.write('tree/target/stamp/night_list', 'stamp\n')
-        again = 'night-list: 2 of 2 proved: night_list (0 s)\n'
-        self.assertIn(again, self.night('--build', '--take-over')[2])  # a stamp without its program is worth nothing
+    def test_what_was_proved_is_taken_over_if_asked_for(self):
+        again, kept = 'night-list: 2 of 2 proved: night_list\n', 'night-list: 2 of 2 proved: night_list (an earlier run proved the same)\n'
+        self.assertIn(again, self.night('--build', '--take-over')[2])  # there is nothing yet
         shutil.rmtree(os.path.join(self.tree, 'built'))
-        shutil.copy(os.path.join(self.kit, 'program'), os.path.join(self.tree, 'target', 'bin', 'night_list'))
         self.assertIn(again, self.night(LISTING_TRACE, '-')[2])  # and a first use proves all
         shutil.rmtree(os.path.join(self.tree, 'built'))
-        self.assertIn('night_list (unchanged since it was last proved)', self.night('--build', '--take-over')[2])
+        self.assertIn(kept, self.night('--build', '--take-over')[2])
         self.assertEqual(self.night(LISTING_TRACE, '-')[:2], (0, LISTING))
+        self.write('tree/crates/base/src/lib.txt', 'another\n')
+        self.assertIn(again, self.night('--build', '--take-over')[2])  # what is not the same is proved
+
+    def test_what_the_program_does_not_stand_on_is_not_proved(self):
+        os.makedirs(os.path.join(self.tree, 'crates', 'base', 'must-fail'))
+        os.makedirs(os.path.join(self.tree, 'crates', 'other', 'src'))
+        self.write('tree/crates/base/must-fail/wrong.edit', 'a wrong version\n')
+        self.write('tree/crates/other/src/lib.txt', 'of no use\n')
+        self.write('tree/crates.txt', '# all\nnight_list: base # and what base stands on\nother: base\nbase\n')
+        self.assertEqual(self.night('--build')[0], 0)
+        given = ['crates.txt', 'crates/base/src/lib.txt', 'crates/night_list/src/main.txt']
+        self.assertEqual(self.read('kit/given').splitlines(), [f'./{name}' for name in given])
+
+    def test_what_rt_makes_in_the_tree_is_none_of_it(self):
+        self.git('init', '--quiet')
+        self.write('tree/.gitignore', 'built/\nout/\n*.old\n')
+        self.git('add', '.')
+        self.git('commit', '--quiet', '--message', 'first')
+        self.build()
+        os.makedirs(os.path.join(self.tree, 'crates', 'base', 'out', 'rlib'))
+        self.write('tree/crates/base/out/rlib/stamp', 'as rt check leaves it\n')
+        self.assertEqual(self.night(LISTING_TRACE, '-')[:2], (0, LISTING))
+        self.assertNotIn('with changes', self.night('--version')[1])
+        self.write('tree/HANDLES', 'Handles allowed: none.\n')
+        self.assertIn(' with changes) is not what was built', self.night(LISTING_TRACE, '-')[2])
+        self.assertEqual(self.night('--build')[0], 0)
+        given = self.read('kit/given')
+        self.assertIn('./HANDLES\n', given)
+        self.assertNotIn('/out/', given)
+        os.remove(os.path.join(self.tree, 'HANDLES'))
+        self.write('tree/crates/base/src/lib.old', 'ignored, and copied all the same\n')
+        self.assertIn(' with changes) is not what was built', self.night(LISTING_TRACE, '-')[2])
 
     def test_what_is_no_file_in_the_tree_is_not_waited_for(self):
         self.build()

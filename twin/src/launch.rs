@@ -11,13 +11,16 @@ use std::time::{Duration, Instant};
 const X86_64: u16 = 62;
 const AARCH64: u16 = 183;
 
+/// The kit's emulator, below its toolchain, where it has one.
+const EMULATOR: &str = "bin/qemu-x86_64";
+
 /// How a program is started here.
 #[derive(Clone, Debug, PartialEq, Eq)]
 pub enum Start {
     /// A build for this machine, or a script.
     Direct(PathBuf),
-    /// A program that the kit built for x86-64, on another machine: under the kit's emulator, loader and C library, as `rt`
-    /// does it.
+    /// A program that the kit built for x86-64, on another machine: under the emulator, loader and C library of a kit that has
+    /// an emulator; the kit for x86-64 has none.
     Emulated {
         toolchain: PathBuf,
         program: PathBuf,
@@ -37,10 +40,7 @@ impl Start {
             None => Ok(Start::Direct(program)),
             Some(machine) if machine == here => Ok(Start::Direct(program)),
             Some(X86_64) => Ok(Start::Emulated {
-                toolchain: kit()?
-                    .join("on")
-                    .join(std::env::consts::ARCH)
-                    .join("toolchain"),
+                toolchain: toolchain_of(&kit()?)?,
                 program,
             }),
             Some(machine) => Err(format!(
@@ -54,7 +54,7 @@ impl Start {
             Start::Direct(program) => Command::new(program),
             Start::Emulated { toolchain, program } => {
                 let lib = toolchain.join("lib");
-                let mut command = Command::new(toolchain.join("bin/qemu-x86_64"));
+                let mut command = Command::new(toolchain.join(EMULATOR));
                 command.arg(lib.join("ld-linux-x86-64.so.2"));
                 command.arg("--library-path").arg(&lib).arg(program);
                 // what is set for some other emulator isn't meant for this one
@@ -93,6 +93,17 @@ fn kit() -> Result<PathBuf, String> {
     let path = std::env::var_os("PATH").unwrap_or_default();
     kit_on(&path)
         .ok_or_else(|| "an x86-64 program needs the kit's emulator here, and PATH has no rt".into())
+}
+
+/// The toolchain of a kit that has an emulator.
+fn toolchain_of(kit: &Path) -> Result<PathBuf, String> {
+    let toolchain = kit.join("toolchain");
+    if !toolchain.join(EMULATOR).exists() {
+        return Err(
+            "an x86-64 program needs the kit's emulator here, and this kit has none".into(),
+        );
+    }
+    Ok(toolchain)
 }
 
 fn kit_on(path: &OsStr) -> Option<PathBuf> {
@@ -174,23 +185,26 @@ mod tests {
     use super::*;
 
     #[test]
-    fn a_kit_program_on_another_machine_is_started_as_rt_does() {
+    fn a_kit_program_on_another_machine_is_started_under_the_kits_emulator() {
         let start = Start::Emulated {
-            toolchain: "/kit/on/aarch64/toolchain".into(),
+            toolchain: "/kit/toolchain".into(),
             program: "/there/night_list".into(),
         };
         let command = start.command();
-        assert_eq!(
-            command.get_program(),
-            "/kit/on/aarch64/toolchain/bin/qemu-x86_64"
-        );
+        assert_eq!(command.get_program(), "/kit/toolchain/bin/qemu-x86_64");
         let words: Vec<_> = command.get_args().collect();
-        let lib = "/kit/on/aarch64/toolchain/lib";
+        let lib = "/kit/toolchain/lib";
         let loader = format!("{lib}/ld-linux-x86-64.so.2");
         assert_eq!(
             words,
             [&*loader, "--library-path", lib, "/there/night_list"]
         );
+    }
+
+    #[test]
+    fn a_kit_without_an_emulator_is_told() {
+        let said = toolchain_of(Path::new("/there is no kit"));
+        assert!(said.expect_err("none is there").contains("has none"));
     }
 
     #[test]
