@@ -1,6 +1,6 @@
 -- reader: no second outcome satisfies the contract of a public function; of a slice handed back what `slice_of` shows counts (Trace).
--- `over`, `shown` and `moved` are not covered, so Rattle draws no `Reads` for them: what their contracts tell stands here, and `..-says`
--- shows that the written clauses ask for nothing and tell just that.
+-- With the older kit `over`, `shown` and `moved` were not covered, and Rattle drew no `Reads` for them: what their contracts tell stands
+-- here, and `.._says` shows that the written clauses ask for nothing and tell just that.
 -- Assumes nothing.
 use mathlib.Core.Path.{◌≡◌, refl, sym, ◌∙◌}
 use Rattle.trace.specs.Cycles.{slice_of, part_of_cycle}

@@ -47,18 +47,19 @@ found_back (found.Refused n k) p = refl
 pub judge_once : Once judge_contract.ended judge.Reads.Asked judge.Reads.Learnt
 judge_once κs a = (tt, λ r s u v p q. (seen_once block_outcome answer_of (λ x. found_back x.found x.place) r s p q, refl))
 
--- The one exception: of the slice handed back the contract determines memory, start and bytes, all that a program has of it.
--- The name under which the proofs follow a reference is free, as the second law says: any other does as well.
+-- Of the slice handed back the contract determines memory, start and bytes, all that a program has of it, ..
 pub cycle_part_once : OnceSeen part_contract.ended (λ κs. slice_of) part.Reads.Asked part.Reads.Learnt
 cycle_part_once κs a = (tt, λ r s u v p q. (p ∙ sym q, refl))
 
--- Today's Rattle gives a slice that is only read no such name, so that nothing is left open.
+-- .. and all that it is,
 pub cycle_part_whole_once : Once part_contract.ended part.Reads.Asked part.Reads.Learnt
 cycle_part_whole_once κs a = (
   tt,
   λ r s u v p q. (λ i. let e = (p ∙ sym q) i in record { ref_ptr = (e.memory, e.start); now = e.bytes }, refl),
 )
 
+-- since a slice that is only read has no name under which the proofs follow it. With the older kit it had one, which was free: any other
+-- did as well.
 pub cycle_part_name_free : (κs : Lfts 1) (a : Args part_contract.signature κs) (r : Bor (List ℕ)) (u : Lasts part_contract.ended κs a) (other : ℕ)
     → part.Reads.Learnt κs a r (at_exit part_contract.ended κs a u)
     → part.Reads.Learnt κs a (record { ref_ptr = r.ref_ptr; now = r.now }) (at_exit part_contract.ended κs a u)

@@ -49,8 +49,8 @@ module _ (T : Ended) where
       × ((r s : Result κs) (u v : Lasts T κs a) → Learnt κs a r (at_exit T κs a u) → Learnt κs a s (at_exit T κs a v)
       → fine κs r → fine κs s → (r ≡ s) × (u ≡ v))
 
-  -- Of a function that the borrow checker does not cover Rattle draws no `Reads`: that its written clauses ask for nothing and tell
-  -- just this.
+  -- Of a function that the borrow checker does not cover Rattle drew no `Reads` with the older kit: that its written clauses ask for
+  -- nothing and tell just this.
   abbrev pub Says : (M : Type 1) → ((𝓤 : Ura M) → (𝓛 : Logic 𝓤) → (Memory → SProp 𝓤) → (Routine → Fun 𝓤) → Clauses 𝓤 T) → Tells → Type 2
   Says M clauses Learnt =
       (𝓤 : Ura M) (𝓛 : Logic 𝓤) (mem : Memory → SProp 𝓤) (run : Routine → Fun 𝓤) (κs : Lifetimes) (a : Input κs)
