@@ -32,7 +32,7 @@ def prove(kit, work, quiet, take_over):
         end_all(rt)
     if status or not lines or not re.fullmatch(r'\d+ passed, 0 failed', lines[-1]):
         put(2, ''.join(f'{line}\n' for line in failure(lines)))
-        raise Trouble(NOT_BUILT, f'the program was not built: rt ended with status {status}; what it said of it is above')
+        raise Trouble(NOT_BUILT, f'the program was not built: rt ended with status {status}; what it said of that is above')
     return f'rt ci: {lines[-1]}'
 
 
