@@ -1,7 +1,7 @@
 -- One call of a run prints what the list has for the blocks that it used.
 -- Assumes nothing.
 use mathlib.Core.Path.{◌≡◌, refl, sym, ap, ap₂, subst, ◌∙◌}
-use mathlib.Core.Logic.{◌⊎◌, inl, inr}
+use mathlib.Core.Logic.{inl, inr}
 use mathlib.Core.Bool.{Bool, true, false, cond, not, true≢false}
 use mathlib.Core.List.{List, [], ◌∷◌, ◌++◌, append-nil}
 use Prim.Native.Nat.{ℕ, ◌+◌, ◌-◌, ◌*◌, ◌≤◌, ◌<◌}
@@ -19,7 +19,7 @@ use Rattle.listing.proofs.Ports.{text_append}
 use Rattle.runs.specs.declared.Run.{Run}
 use Rattle.runs.specs.Run.{run_sound}
 use Rattle.runs.proofs.Places.{going_good}
-use Rattle.router.specs.Running.{Writing, block_taken, blocks_in, block_at, lacks_block_room, Call, begins, takes, stops, going_on}
+use Rattle.router.specs.Running.{Writing, blocks_in, block_at, lacks_block_room, Call, begins, takes, going_on}
 use Rattle.router.specs.Running.{CallOutcome, answered, ran_of}
 use Rattle.router.proofs.Going.{piece_bytes}
 use Rattle.router.proofs.Onward.{goes_full, used_inside}

@@ -10,7 +10,7 @@ use lib.Dec.{eqb}
 use lib.ListN.{length}
 use Rattle.base.specs.declared.config.Config.{Config}
 use Rattle.base.specs.Numbers.{done, room}
-use Rattle.base.specs.Sizes.{field, illegal_field}
+use Rattle.base.specs.Sizes.{illegal_field}
 use Rattle.base.proofs.Configurations.{illegal_exact, in_range-law}
 use Rattle.state.specs.declared.Router.{Router}
 use Rattle.state.specs.Sound.{Sound}

@@ -5,19 +5,18 @@ use mathlib.Core.Path.{◌≡◌, refl, sym, ap, subst, ◌∙◌}
 use mathlib.Core.Logic.{◌⊎◌, inl, inr}
 use mathlib.Core.Bool.{Bool, true, false, cond, true≢false}
 use mathlib.Core.List.{List}
-use mathlib.Core.Option.{Option, some, none}
 use Prim.Native.Nat.{ℕ, zero, suc, ◌+◌, ◌-◌, ◌*◌, ◌≤◌, ◌<◌, min}
 use native.Mathlib.Nat.{le_refl}
 use native.Mathlib.Omega.{arith}
 use lib.Dec.{ltb}
-use lib.ListN.{length, take, drop, length-take, length-drop}
+use lib.ListN.{length, drop, length-take, length-drop}
 use borrow.Author.Tests.{lt-ltb, ltb-true, ltb-false}
 use Rattle.trace.specs.declared.place.Place.{Place}
 use Rattle.trace.specs.Bytes.{AreBytes}
 use Rattle.trace.specs.Blocks.{held_of}
 use Rattle.trace.specs.Place.{good_place}
 use Rattle.trace.specs.Rules.{place_unsound, block_short, check_wrong, bytes_follow, block_wrong, field_wrong}
-use Rattle.trace.specs.Judged.{BlockOutcome, no_more, accepted, refused, next_place, taken, judged_by_field, judged}
+use Rattle.trace.specs.Judged.{BlockOutcome, next_place, taken, judged_by_field, judged}
 use Rattle.trace.proofs.Findings.{FoundAs, refuses, configures, holds, ends, is_over, found_as}
 use Rattle.runs.proofs.Places.{between_is, right_between}
 use Rattle.router.specs.Running.{Writing, wrote, on_run, with_place, ended_by, by_outcome, block_taken, block_at, lacks_block_room, Call}
