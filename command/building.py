@@ -6,7 +6,7 @@ import subprocess
 import tempfile
 import time
 
-from command.built import CURRENT, EMULATOR, FOLDER, LIBRARIES, PROGRAM, RECORD, Build, current, started
+from command.built import CURRENT, EMULATOR, FOLDER, LIBRARIES, PROGRAM, RECORD, Build, current, named, started
 from command.proving import prove
 from command.tree import ROOT, commit, content, data_of, digest, files, kit, sources
 from command.trouble import NOT_BUILT, OUT_OF_DATE, Trouble, say
@@ -126,14 +126,17 @@ def open_to_all(folder):
 
 def put_in_place(new, name):
     """Makes a build the current one, at once; the one before stays for a run that is just starting."""
-    before = os.path.basename(os.path.realpath(CURRENT))
-    own, link = os.path.join(FOLDER, name), os.path.join(FOLDER, 'link')
+    try:
+        before = os.path.basename(named())
+    except OSError:
+        before = None
+    own, name_file = os.path.join(FOLDER, name), os.path.join(FOLDER, 'name')
     shutil.rmtree(own, ignore_errors=True)
     os.rename(new, own)
-    if os.path.lexists(link):
-        os.remove(link)
-    os.symlink(name, link)
-    os.rename(link, CURRENT)
+    with open(name_file, 'w', encoding='utf-8') as said:
+        said.write(name + '\n')
+    os.chmod(name_file, 0o644)
+    os.rename(name_file, CURRENT)
     for other in set(os.listdir(FOLDER)) - {'lock', os.path.basename(CURRENT), name, before}:
         shutil.rmtree(os.path.join(FOLDER, other), ignore_errors=True)
     return Build(own)

@@ -1,4 +1,4 @@
-"""What was built: the folder built/ of the tree, in it a folder for each build, and `current`, the one that runs."""
+"""What was built: the folder built/ of the tree, in it a folder for each build, and the file `current`, which names the one that runs."""
 import os
 
 from command.tree import ROOT, digest, files
@@ -33,12 +33,18 @@ def started(folder):
     return [emulator, *start] if os.path.exists(emulator) else start
 
 
+def named():
+    """The folder of the build that runs. Its name stands in a file, and no link leads there: rt ci refuses a tree with a link in it."""
+    with open(CURRENT, encoding='utf-8', errors='replace') as name:
+        return os.path.join(FOLDER, os.path.basename(name.readline().rstrip('\n')))
+
+
 def current():
     """The build that runs, or nothing where none is whole."""
     try:
-        build = Build(os.path.realpath(CURRENT))
+        build = Build(named())
         return build if build.whole() else None
-    except (FileNotFoundError, NotADirectoryError, KeyError, ValueError):
+    except (FileNotFoundError, NotADirectoryError, IsADirectoryError, KeyError, ValueError):
         return None
     except OSError as fault:
         raise Trouble(NOT_BUILT, f'what is built cannot be read: {fault.filename or FOLDER}: {fault.strerror}') from None

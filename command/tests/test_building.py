@@ -93,13 +93,19 @@ class Building(Floor):
         status, _, err = self.night(LISTING_TRACE, list_)
         self.assertEqual((status, self.read('list')), (4, LISTING), err)
 
+    def built_folder(self):
+        """The folder of the build that runs, as the file `current` names it."""
+        if not os.path.isfile(os.path.join(self.tree, 'built', 'current')):
+            return os.path.join(self.tree, 'built', 'none')
+        return os.path.join(self.tree, 'built', self.read('tree/built/current').strip())
+
     def library_file(self):
         """What the program runs with."""
-        return os.path.join(self.tree, 'built', 'current', 'lib', 'libc.so.6')
+        return os.path.join(self.built_folder(), 'lib', 'libc.so.6')
 
     def program_file(self):
         """The program that a run takes."""
-        built = os.path.join(self.tree, 'built', 'current', 'night_list')
+        built = os.path.join(self.built_folder(), 'night_list')
         return built if os.path.exists(built) else os.path.join(self.tree, OUT)
 
     def test_a_build_that_fails_leaves_nothing(self):

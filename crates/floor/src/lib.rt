@@ -12,5 +12,5 @@ pub use output::put;
 pub use passing::{Passed, Stop, hand, pass};
 pub use whole::{Ended, Listed, list};
 
-// How often a read or a write that moves nothing is tried again: a signal may have interrupted it, and the answer does not say so.
+// How often a read or a write that moves nothing is tried again: a signal may have interrupted it.
 pub(crate) const TRIES: u32 = 100;

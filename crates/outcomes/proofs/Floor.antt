@@ -11,36 +11,48 @@ use Rattle.floor.proofs.pass as pass
 use Rattle.floor.specs.contracts.pass as pass_contract
 use Rattle.floor.proofs.hand as hand
 use Rattle.floor.specs.contracts.hand as hand_contract
-use Rattle.outcomes.specs.Once.{OnceWhere}
+use contract.Lifetimes.{Lfts}
+use denote.Triple.Entry.{Args, Res}
+use denote.Triple.Clauses.{Ended, Lasts, at_exit}
+use Rattle.floor.specs.declared.passing.Stop.{Stop}
+use Rattle.outcomes.specs.Once.{Tells, OnceWhere}
 use denote.RattleType.{RattleType}
 use denote.Param.Laws.{Laws}
 use mir.Syntax.{Dict}
 use Rattle.std.specs.declared.io.Print.{Ghosts}
 
+-- whatever the stream is that the lines are written to, and whatever lifetimes its type names
+module _ (P : RattleType) (L : Laws P) (G : Ghosts P.Denot) (d : Dict) where
+  abbrev Same : (T : Ended) (Learnt : Tells T) (stop : (κs : Lfts T.signature.lifetimes) → Res T.signature κs → Stop) → Type 0
+  Same T Learnt stop =
+      (κs : Lfts T.signature.lifetimes) (a : Args T.signature κs) (r s : Res T.signature κs) (u v : Lasts T κs a)
+      → Learnt κs a r (at_exit T κs a u) → Learnt κs a s (at_exit T κs a v) → is_written (stop κs r) ≡ true → is_written (stop κs s) ≡ true
+      → (r ≡ s) × (u ≡ v)
+
+  pub pass_same : Same (pass_contract.ended P G d) (pass.Reads.Learnt P L G d) (λ κs r. r.stop)
+  pass_same κs a r s u v p q e f =
+      let same = passes_once p q e f in (
+        λ i. record { run = (same.after i).run; calls = same.calls i; stop = same.stop i },
+        λ i. (tt, (tt, ((same.after i).buffer, (tt, tt)))),
+      )
+
+  pub hand_same : Same (hand_contract.ended P G d) (hand.Reads.Learnt P L G d) (λ κs r. r.stop)
+  hand_same κs a r s u v p q e f =
+      let same = handing_once p q e f in (
+        λ i. record { run = (same.after i).run; calls = same.calls i; stop = same.stop i },
+        λ i. (tt, (tt, (tt, ((same.after i).buffer, (tt, tt))))),
+      )
+
 -- a stream that names no lifetime, as standard output, is lent for as long as one likes
 lent : (P : RattleType) (κ : List ℕ) → P.lives ≡ [] → (l : ℕ) → Mem l P.lives → Mem l κ
 lent P κ owned l m = absurd (not-mem-nil (subst (λ (ls : List ℕ). Mem l ls) owned m))
 
--- whatever the stream is that the lines are written to
+-- and where that type names none, nothing is asked of a caller either
 module _ (P : RattleType) (L : Laws P) (G : Ghosts P.Denot) (d : Dict) (owned : P.lives ≡ []) where
   pub pass_once : OnceWhere (pass_contract.ended P G d) (λ κs r. is_written r.stop ≡ true) (pass.Reads.Asked P L G d)
       (pass.Reads.Learnt P L G d)
-  pass_once κs a = (
-    lent P _ owned,
-    λ r s u v p q e f.
-        let same = passes_once p q e f in (
-          λ i. record { run = (same.after i).run; calls = same.calls i; stop = same.stop i },
-          λ i. (tt, (tt, ((same.after i).buffer, (tt, tt)))),
-        ),
-  )
+  pass_once κs a = (lent P _ owned, pass_same P L G d κs a)
 
   pub hand_once : OnceWhere (hand_contract.ended P G d) (λ κs r. is_written r.stop ≡ true) (hand.Reads.Asked P L G d)
       (hand.Reads.Learnt P L G d)
-  hand_once κs a = (
-    lent P _ owned,
-    λ r s u v p q e f.
-        let same = handing_once p q e f in (
-          λ i. record { run = (same.after i).run; calls = same.calls i; stop = same.stop i },
-          λ i. (tt, (tt, (tt, ((same.after i).buffer, (tt, tt))))),
-        ),
-  )
+  hand_once κs a = (lent P _ owned, hand_same P L G d κs a)

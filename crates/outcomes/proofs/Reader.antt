@@ -1,4 +1,4 @@
--- reader: no second outcome satisfies the contract of a public function; of a slice handed back what `slice_of` shows counts (Trace).
+-- reader: no second outcome satisfies the contract of a public function; of a slice handed back what `slice_of` shows, which is all (Trace).
 -- With the older kit `over`, `shown` and `moved` were not covered, and Rattle drew no `Reads` for them: what their contracts tell stands
 -- here, and `.._says` shows that the written clauses ask for nothing and tell just that.
 -- Assumes nothing.
@@ -20,6 +20,13 @@ next_cycle_once κs a = (tt, λ r s u v p q. (p ∙ sym q, refl))
 pub shown_at_once : OnceSeen shown_at_contract.ended (λ κs. slice_of) shown_at.Reads.Asked shown_at.Reads.Learnt
 shown_at_once κs a = (tt, λ r s u v p q. (p ∙ sym q, refl))
 
+-- memory, start and bytes are all that a slice is
+pub shown_at_whole_once : Once shown_at_contract.ended shown_at.Reads.Asked shown_at.Reads.Learnt
+shown_at_whole_once κs a = (
+  tt,
+  λ r s u v p q. (λ i. let e = (p ∙ sym q) i in record { ref_ptr = (e.memory, e.start); now = e.bytes }, refl),
+)
+
 -- ---- the three over the struct
 
 abbrev over_tells : Tells over.ended
@@ -39,6 +46,12 @@ shown_says 𝓤 𝓛 mem run κs a g = (refl, λ r u. refl)
 
 pub shown_once : OnceSeen shown.ended (λ κs. slice_of) (λ κs a. Unit {0}) shown_tells
 shown_once κs a = (tt, λ r s u v p q. (p ∙ sym q, refl))
+
+pub shown_whole_once : Once shown.ended (λ κs a. Unit {0}) shown_tells
+shown_whole_once κs a = (
+  tt,
+  λ r s u v p q. (λ i. let e = (p ∙ sym q) i in record { ref_ptr = (e.memory, e.start); now = e.bytes }, refl),
+)
 
 abbrev moved_tells : Tells moved.ended
 moved_tells κs a r u = (r.block ≡ a.0.block) × (r.cycle ≡ following_cycle a.0.block.now a.0.cycle)
