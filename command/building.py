@@ -114,7 +114,8 @@ def try_once(folder, crate):
     if os.path.exists(given):
         ran = subprocess.run(started(folder), input=data_of(given), capture_output=True, env={}, check=False)
         if (ran.returncode, ran.stdout, ran.stderr) != (0, data_of(expected), b''):
-            raise Trouble(NOT_BUILT, f'the program was built and does not run: status {ran.returncode}, {ran.stderr.decode(errors="replace")}')
+            said = ran.stderr.decode(errors='replace')
+            raise Trouble(NOT_BUILT, f'the program was built and does not run: status {ran.returncode}, {said}')
 
 
 def open_to_all(folder):

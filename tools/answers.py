@@ -5,6 +5,7 @@ usage: python3 tools/answers.py NAMES CRATE [FUNCTION..]
 
 CRATE is a crate's folder; NAMES is the names.json that `rt check --generated DIR --old-names` writes for it. Each goal, place, step and
 field goes by its new name; an answer that is only `search rules` is left out, since the check finds it. What it could not turn is printed.
+With WORDS in the environment, the file of what `respell.py --names` printed before it respelled, fields of our own records go by that too.
 """
 import glob
 import json
@@ -239,13 +240,12 @@ class Function:
 
     def body(self, text, env, goal):
         """Steps, fields and places by their new names; what an earlier place has is named from the record itself."""
-        head, eq, rest = text, "", ""
-        m = re.search(r"^[^\s:(){}]+(?: [^\s=:]+)* =", text, re.M)
         mark = lambda root, place: f"\u27ea{root}|{place}\u27eb"
         for var, place in env.items():
             text = re.sub(r"(?<![\w.'\u2080-\u2089-])" + re.escape(var) + r"(?![\w'\u2080-\u2089-])", mark(var, place), text)
         # the head of the equation keeps its variable
-        text = re.sub(r"^([^\s:(){}]+(?: [^\s=:]+)* =)", lambda m: re.sub(r"\u27ea([^|]+)\|[^\u27eb]*\u27eb", r"\1", m.group(1)), text, flags=re.M)
+        plain = lambda m: re.sub(r"\u27ea([^|]+)\|[^\u27eb]*\u27eb", r"\1", m.group(1))
+        text = re.sub(r"^([^\s:(){}]+(?: [^\s=:]+)* =)", plain, text, flags=re.M)
         text = re.sub(r"\(\u27ea([^|]+)\|[^\u27eb]*\u27eb :", r"(\1 :", text)
         MARK = r"\u27ea([^|]+)\|([^\u27eb]*)\u27eb"
         while True:
@@ -258,7 +258,8 @@ class Function:
             if k:
                 alias = k.group(1)
                 rest = text[k.end():]
-                rest = re.sub(r"(?<![\w.'\u2080-\u2089-])" + re.escape(alias) + r"(?![\w'\u2080-\u2089-])", mark(k.group(2), k.group(3)), rest)
+                word = r"(?<![\w.'\u2080-\u2089-])" + re.escape(alias) + r"(?![\w'\u2080-\u2089-])"
+                rest = re.sub(word, mark(k.group(2), k.group(3)), rest)
                 text = text[:k.start()] + rest
             for k in re.finditer(r" *let (\S+)(?: : [^=\n]*)? = (" + MARK + r"(?:\." + STEP + r")+)\s+in\n?", text):
                 if alike(k.group(2).split("\u27eb.")[1].split(".")[0]) in self.steps:
@@ -286,7 +287,8 @@ class Function:
         for name, wants in self.takes.items():
             text = re.sub(r"(?<![\w.'-])" + re.escape(name) + r" " + MARK, lambda m: name + " " + mark(m.group(1), wants), text)
         text = re.sub(MARK, alone, text)
-        text = re.sub(r"(?<=[\w')\u2080-\u2089])((?:\." + STEP + r")+)", lambda m: "." + self.chain(m.group(1)[1:].split("."), False) if "\u27ea" not in m.group(0) else m.group(0), text)
+        below = lambda m: "." + self.chain(m.group(1)[1:].split("."), False)
+        text = re.sub(r"(?<=[\w')\u2080-\u2089])((?:\." + STEP + r")+)", below, text)
         return re.sub(r"tie\.(" + STEP + ")((?: (?:invariant|decreases)-" + STEP + ")*)", self.place, text)
 
     def chain(self, parts, step):
@@ -445,7 +447,9 @@ def turn(path, names, crate):
                 params = params[:1]
             # other names of the answer in its own text
             term = now + " " + " ".join((["g"] if f.own in GENERIC else []) + params) + " =" + rhs
-            lines = ([comment] if comment else []) + [f"pub {now} : goal.{now}"] + unf + [by_name_of_clause(tidy(f.body(term, f.env(now, params[0]), now)), CLAUSES.get(f.own, {}).get("ensures") if now.startswith("returns") else None)]
+            several = CLAUSES.get(f.own, {}).get("ensures") if now.startswith("returns") else None
+            answer = by_name_of_clause(tidy(f.body(term, f.env(now, params[0]), now)), several)
+            lines = ([comment] if comment else []) + [f"pub {now} : goal.{now}"] + unf + [answer]
             out.append("\n".join(lines))
             continue
         m = re.search(r"^abbrev (?:pub )?((?:invariant|decreases)\S*) : tie\.", b, re.M)
@@ -461,7 +465,8 @@ def turn(path, names, crate):
             mm = re.match(r"^\(λ (\S+)(?: κs)?\. ((?:.|\n)*)\)$", a)
             if mm and mm.group(2).strip() != "search rules":
                 now = f.needs[i][1]
-                out.append(f"pub {now} : goal.{now}\n" + tidy(f.body(f"{now} {mm.group(1)} =\n    {mm.group(2)}", f.env(now, mm.group(1)), now)))
+                answer = f.body(f"{now} {mm.group(1)} =\n    {mm.group(2)}", f.env(now, mm.group(1)), now)
+                out.append(f"pub {now} : goal.{now}\n" + tidy(answer))
             elif not mm:
                 said.append(f"{where}: argument {a[:60]}")
     goals = f"use Rattle.{os.path.basename(os.path.abspath(crate))}.proofs.{where.replace('/', '.')}"
@@ -501,7 +506,9 @@ def invariants_of(f, inv, head, uses, goals, said):
         for p, fld in zip(params, fields):
             if p != "_":
                 rhs = re.sub(r"(?<![\w.'₀-₉-])" + re.escape(p) + r"(?![\w'₀-₉-])(?! = )", lambda mm: "l." + fld, rhs)
-        out.append("\n".join(comment + [f"abbrev pub {kind}-{new_loop} : goal.{kind}-{new_loop}"] + unf + [f"{kind}-{new_loop} {'g ' if f.own in GENERIC else ''}l =" + rhs]))
+        name = f"{kind}-{new_loop}"
+        equation = f"{name} {'g ' if f.own in GENERIC else ''}l =" + rhs
+        out.append("\n".join(comment + [f"abbrev pub {name} : goal.{name}"] + unf + [equation]))
     return "\n".join(head + uses + [goals + ".Given as goal", ""]) + "\n" + "\n\n".join(out) + "\n"
 
 

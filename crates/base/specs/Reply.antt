@@ -21,4 +21,7 @@ departure_of (left.Flit d) = some d
 
 -- a reply that reports nothing
 abbrev pub empty_reply : Reply
-empty_reply = record { senders = replicate 8 (record { reached = reached.Nothing }); outputs = replicate 8 (record { left = left.Nothing }) }
+empty_reply = record {
+  senders = replicate 8 (record { reached = reached.Nothing });
+  outputs = replicate 8 (record { left = left.Nothing });
+}

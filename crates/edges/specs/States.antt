@@ -5,9 +5,12 @@ use Rattle.base.specs.Sizes.{with_downstream}
 use Rattle.state.specs.declared.Router.{Router}
 use Rattle.state.specs.Fresh.{fresh_output}
 use Rattle.state.specs.Setters.{with_config, with_cycle, with_store}
-use Rattle.state.specs.Sound.{Clause, the_configuration, the_cycles, the_wire, the_home, the_wire_rest, the_home_rest, the_shape, the_credits}
-use Rattle.state.specs.Sound.{the_queues, the_output_credits, the_channels, the_slots, the_names, the_packets, the_arbiters, the_other_arbiters}
-use Rattle.state.proofs.SoundStates.{with_input, with_output, with_slot, with_wire_place, with_home_place, with_vc_arbiter, with_input_arbiter}
+use Rattle.state.specs.Sound.{Clause, the_configuration, the_cycles, the_wire, the_home, the_wire_rest, the_home_rest, the_shape}
+use Rattle.state.specs.Sound.{the_credits}
+use Rattle.state.specs.Sound.{the_queues, the_output_credits, the_channels, the_slots, the_names, the_packets, the_arbiters}
+use Rattle.state.specs.Sound.{the_other_arbiters}
+use Rattle.state.proofs.SoundStates.{with_input, with_output, with_slot, with_wire_place, with_home_place, with_vc_arbiter}
+use Rattle.state.proofs.SoundStates.{with_input_arbiter}
 use Rattle.state.proofs.SoundStates.{config, turns, unbound, bound, held, head, single, body, on, pointer_wide, pointer_narrow}
 
 -- for each clause of soundness a router that breaks this clause alone

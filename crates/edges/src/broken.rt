@@ -1,7 +1,8 @@
 // For each clause of soundness a router that breaks this clause alone, and is refused with 2. The arrays' lengths no struct can break.
 ghost use Rattle.std.specs.Prelude.{◌≡◌, false};
 ghost use Rattle.state.specs.Sound.{sound};
-ghost use Rattle.state.specs.Sound.{the_configuration, the_cycles, the_wire, the_home, the_wire_rest, the_home_rest, the_credits, the_queues};
+ghost use Rattle.state.specs.Sound.{the_configuration, the_cycles, the_wire, the_home, the_wire_rest, the_home_rest, the_credits};
+ghost use Rattle.state.specs.Sound.{the_queues};
 ghost use Rattle.state.specs.Sound.{the_output_credits, the_channels, the_slots, the_names, the_packets, the_arbiters, the_other_arbiters};
 ghost use Rattle.edges.specs.States.{broken};
 

@@ -1,7 +1,8 @@
 -- What handing bytes over to the run entry comes to, call by call. What the system does with a call's lines is not said here: it takes
 -- them, or it does not (`NotWritten`).
 -- Assumes nothing.
-use Rattle.std.specs.Prelude.{◌≡◌, Bool, true, false, cond, ◌&&◌, List, [], ◌∷◌, ◌++◌, ℕ, zero, suc, ◌+◌, ◌%◌, ◌≤◌, ◌<◌, eqb, ltb, length, take, drop}
+use Rattle.std.specs.Prelude.{◌≡◌, Bool, true, false, cond, ◌&&◌, List, [], ◌∷◌, ◌++◌, ℕ, zero, suc, ◌+◌, ◌%◌, ◌≤◌, ◌<◌, eqb, ltb, length}
+use Rattle.std.specs.Prelude.{take, drop}
 use Rattle.std.proofs.Math.Option.{Option, some, none}
 use Rattle.base.specs.Numbers as numbers
 use Rattle.trace.specs.Blocks.{block_length}
@@ -77,7 +78,8 @@ pub data HandsOver (full : ℕ) (piece : List ℕ) (h : Handed) : ℕ → Stop �
   uneven : is_whole_blocks full ≡ false → HandsOver full piece h 0 Uneven h
   fills : (k : ℕ) (s : Stop) (g : Handed) → is_whole_blocks full ≡ true → AreBytes piece → length piece ≡ full → Passes piece h k s g
       → HandsOver full piece h k s g
-  last : (k : ℕ) (s : Stop) (g : Handed) (l : ℕ) (t : Stop) (e : Handed) → is_whole_blocks full ≡ true → AreBytes piece → length piece < full
+  last : (k : ℕ) (s : Stop) (g : Handed) (l : ℕ) (t : Stop) (e : Handed) → is_whole_blocks full ≡ true → AreBytes piece
+      → length piece < full
       → Passes piece h k s g → Finishes g k s l t e → HandsOver full piece h l t e
 
 -- the first bytes of a buffer
@@ -108,7 +110,8 @@ last_lines (stopped w) = []
 last_lines (over w o) = []
 last_lines (ends l t e w o p) = lines_of p
 
-unfoldable pub piece_lines : {full : ℕ} {piece : List ℕ} {h : Handed} {k : ℕ} {s : Stop} {g : Handed} → HandsOver full piece h k s g → List ℕ
+unfoldable pub piece_lines : {full : ℕ} {piece : List ℕ} {h : Handed} {k : ℕ} {s : Stop} {g : Handed} → HandsOver full piece h k s g
+    → List ℕ
 piece_lines (uneven f) = []
 piece_lines (fills k s g f b e p) = lines_of p
 piece_lines (last k s g l t e v b f p q) = lines_of p ++ last_lines q

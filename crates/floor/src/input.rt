@@ -19,13 +19,13 @@ pub fn fill<R: Read>(from: &mut R, buf: &mut [u8]) -> Filled
     let mut tries = TRIES;
     while bytes < buf.len() {
         match from.read(&mut buf[bytes..]) {
+            Ok(0) => {
+                return Filled {
+                    bytes,
+                    failed: false,
+                };
+            }
             Ok(more) => {
-                if more == 0 {
-                    return Filled {
-                        bytes,
-                        failed: false,
-                    };
-                }
                 bytes += more;
                 tries = TRIES;
             }

@@ -14,25 +14,17 @@ pub fn put<P: Print>(to: &P, buf: &[u8], bytes: usize) -> bool
     let mut done: usize = 0;
     let mut tries = TRIES;
     while done < bytes {
-        match to.write_some(&buf[done..bytes]) {
-            Ok(more) => {
-                if 0 < more {
-                    done += more;
-                    tries = TRIES;
-                    continue;
-                }
-                if tries == 0 {
-                    return false;
-                }
-                tries -= 1;
-            }
-            Err(_) => {
-                if tries == 0 {
-                    return false;
-                }
-                tries -= 1;
+        if let Ok(more) = to.write_some(&buf[done..bytes]) {
+            if 0 < more {
+                done += more;
+                tries = TRIES;
+                continue;
             }
         }
+        if tries == 0 {
+            return false;
+        }
+        tries -= 1;
     }
     true
 }

@@ -14,7 +14,8 @@ use Rattle.listing.specs.Writing.{lacks_room}
 use Rattle.listing.proofs.Exactness.{lacks_is}
 use Rattle.runs.specs.declared.Run.{Run}
 use Rattle.runs.specs.Run.{run_sound}
-use Rattle.router.specs.Running.{room_of_block, blocks_in, block_at, lacks_block_room, Call, begins, takes, stops, going_on, CallOutcome, refused_with}
+use Rattle.router.specs.Running.{room_of_block, blocks_in, block_at, lacks_block_room, Call, begins, takes, stops, going_on, CallOutcome}
+use Rattle.router.specs.Running.{refused_with}
 use Rattle.router.specs.Running.{answered, ran_of}
 use Rattle.router.proofs.Onward.{block_on, used_inside}
 use Rattle.router.proofs.RunLaws.{run_asks}
@@ -129,7 +130,8 @@ call_cut n part buffer at bytes sound =
     (inl (0, refl)))
 
 -- and at the end of the input a run that is not asked for room is over
-pub end_over : (n : Run) (buffer : List ℕ) (at : ℕ) → run_sound n ≡ true → n.over ≡ false → (ran_of n [] buffer at).ran.number ≡ numbers.done
+pub end_over : (n : Run) (buffer : List ℕ) (at : ℕ) → run_sound n ≡ true → n.over ≡ false →
+    (ran_of n [] buffer at).ran.number ≡ numbers.done
     → (ran_of n [] buffer at).ran.asks ≡ 0 → (ran_of n [] buffer at).ran.run.over ≡ true
 end_over n buffer at sound going fine none = go (lacks_block_room buffer at) refl
   where

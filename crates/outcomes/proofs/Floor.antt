@@ -11,11 +11,7 @@ use Rattle.floor.proofs.pass as pass
 use Rattle.floor.specs.contracts.pass as pass_contract
 use Rattle.floor.proofs.hand as hand
 use Rattle.floor.specs.contracts.hand as hand_contract
-use contract.Lifetimes.{Lfts}
-use denote.Triple.Entry.{Args, Res}
-use denote.Triple.Clauses.{Ended, Lasts, at_exit}
-use Rattle.floor.specs.declared.passing.Stop.{Stop}
-use Rattle.outcomes.specs.Once.{Tells, OnceWhere}
+use Rattle.outcomes.specs.Once.{OnceWhere, SameWhere}
 use denote.RattleType.{RattleType}
 use denote.Param.Laws.{Laws}
 use mir.Syntax.{Dict}
@@ -23,20 +19,14 @@ use Rattle.std.specs.declared.io.Print.{Ghosts}
 
 -- whatever the stream is that the lines are written to, and whatever lifetimes its type names
 module _ (P : RattleType) (L : Laws P) (G : Ghosts P.Denot) (d : Dict) where
-  abbrev Same : (T : Ended) (Learnt : Tells T) (stop : (κs : Lfts T.signature.lifetimes) → Res T.signature κs → Stop) → Type 0
-  Same T Learnt stop =
-      (κs : Lfts T.signature.lifetimes) (a : Args T.signature κs) (r s : Res T.signature κs) (u v : Lasts T κs a)
-      → Learnt κs a r (at_exit T κs a u) → Learnt κs a s (at_exit T κs a v) → is_written (stop κs r) ≡ true → is_written (stop κs s) ≡ true
-      → (r ≡ s) × (u ≡ v)
-
-  pub pass_same : Same (pass_contract.ended P G d) (pass.Reads.Learnt P L G d) (λ κs r. r.stop)
+  pub pass_same : SameWhere (pass_contract.ended P G d) (λ κs r. is_written r.stop ≡ true) (pass.Reads.Learnt P L G d)
   pass_same κs a r s u v p q e f =
       let same = passes_once p q e f in (
         λ i. record { run = (same.after i).run; calls = same.calls i; stop = same.stop i },
         λ i. (tt, (tt, ((same.after i).buffer, (tt, tt)))),
       )
 
-  pub hand_same : Same (hand_contract.ended P G d) (hand.Reads.Learnt P L G d) (λ κs r. r.stop)
+  pub hand_same : SameWhere (hand_contract.ended P G d) (λ κs r. is_written r.stop ≡ true) (hand.Reads.Learnt P L G d)
   hand_same κs a r s u v p q e f =
       let same = handing_once p q e f in (
         λ i. record { run = (same.after i).run; calls = same.calls i; stop = same.stop i },

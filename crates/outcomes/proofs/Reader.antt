@@ -13,6 +13,7 @@ use Rattle.reader.specs.contracts.moved as moved
 use Rattle.reader.proofs.shown_at as shown_at
 use Rattle.reader.specs.contracts.shown_at as shown_at_contract
 use Rattle.outcomes.specs.Once.{Tells, Once, OnceSeen, Says}
+use Rattle.outcomes.proofs.Seen.{slice_whole}
 
 pub next_cycle_once : Once next_contract.ended next.Reads.Asked next.Reads.Learnt
 next_cycle_once κs a = (tt, λ r s u v p q. (p ∙ sym q, refl))
@@ -22,10 +23,7 @@ shown_at_once κs a = (tt, λ r s u v p q. (p ∙ sym q, refl))
 
 -- memory, start and bytes are all that a slice is
 pub shown_at_whole_once : Once shown_at_contract.ended shown_at.Reads.Asked shown_at.Reads.Learnt
-shown_at_whole_once κs a = (
-  tt,
-  λ r s u v p q. (λ i. let e = (p ∙ sym q) i in record { ref_ptr = (e.memory, e.start); now = e.bytes }, refl),
-)
+shown_at_whole_once κs a = (tt, λ r s u v p q. (slice_whole r s (p ∙ sym q), refl))
 
 -- ---- the three over the struct
 
@@ -48,10 +46,7 @@ pub shown_once : OnceSeen shown.ended (λ κs. slice_of) (λ κs a. Unit {0}) sh
 shown_once κs a = (tt, λ r s u v p q. (p ∙ sym q, refl))
 
 pub shown_whole_once : Once shown.ended (λ κs a. Unit {0}) shown_tells
-shown_whole_once κs a = (
-  tt,
-  λ r s u v p q. (λ i. let e = (p ∙ sym q) i in record { ref_ptr = (e.memory, e.start); now = e.bytes }, refl),
-)
+shown_whole_once κs a = (tt, λ r s u v p q. (slice_whole r s (p ∙ sym q), refl))
 
 abbrev moved_tells : Tells moved.ended
 moved_tells κs a r u = (r.block ≡ a.0.block) × (r.cycle ≡ following_cycle a.0.block.now a.0.cycle)

@@ -23,7 +23,7 @@ use Rattle.trace.specs.contracts.place.Place.start as start_contract
 use Rattle.trace.proofs.is_good as good
 use Rattle.trace.specs.contracts.is_good as good_contract
 use Rattle.outcomes.specs.Once.{Once, OnceSeen}
-use Rattle.outcomes.proofs.Seen.{seen_once}
+use Rattle.outcomes.proofs.Seen.{seen_once, slice_whole}
 
 -- the answer that stands for an outcome
 abbrev found_of : Option Read → ℕ → ℕ → Found
@@ -53,10 +53,7 @@ cycle_part_once κs a = (tt, λ r s u v p q. (p ∙ sym q, refl))
 
 -- .. and all that it is,
 pub cycle_part_whole_once : Once part_contract.ended part.Reads.Asked part.Reads.Learnt
-cycle_part_whole_once κs a = (
-  tt,
-  λ r s u v p q. (λ i. let e = (p ∙ sym q) i in record { ref_ptr = (e.memory, e.start); now = e.bytes }, refl),
-)
+cycle_part_whole_once κs a = (tt, λ r s u v p q. (slice_whole r s (p ∙ sym q), refl))
 
 -- since a slice that is only read has no name under which the proofs follow it. With the older kit it had one, which was free: any other
 -- did as well.

@@ -49,6 +49,12 @@ module _ (T : Ended) where
       × ((r s : Result κs) (u v : Lasts T κs a) → Learnt κs a r (at_exit T κs a u) → Learnt κs a s (at_exit T κs a v)
       → fine κs r → fine κs s → (r ≡ s) × (u ≡ v))
 
+  -- the same, whatever is asked of a caller
+  abbrev pub SameWhere : (fine : (κs : Lifetimes) → Result κs → Type 0) → Tells → Type 0
+  SameWhere fine Learnt =
+      (κs : Lifetimes) (a : Input κs) (r s : Result κs) (u v : Lasts T κs a)
+      → Learnt κs a r (at_exit T κs a u) → Learnt κs a s (at_exit T κs a v) → fine κs r → fine κs s → (r ≡ s) × (u ≡ v)
+
   -- Of a function that the borrow checker does not cover Rattle drew no `Reads` with the older kit: that its written clauses ask for
   -- nothing and tell just this.
   abbrev pub Says : (M : Type 1) → ((𝓤 : Ura M) → (𝓛 : Logic 𝓤) → (Memory → SProp 𝓤) → (Routine → Fun 𝓤) → Clauses 𝓤 T) → Tells → Type 2

@@ -6,7 +6,8 @@ ghost use Rattle.state.specs.Fresh.{past_wide};
 ghost use Rattle.state.specs.Sound.{is_vc_free, is_unbound, front_is_for};
 ghost use Rattle.store.specs.Store.{first_slot};
 ghost use Rattle.state.specs.Views.{places, queue_at};
-ghost use Rattle.rules.specs.Allocation.{asks, lowest_free_vc, granted, Grant, bind_to, held_by, Vcs as BoundVcs, bindings, requester_of, wide_moved};
+ghost use Rattle.rules.specs.Allocation.{asks, lowest_free_vc, granted, Grant, bind_to, held_by, Vcs as BoundVcs, bindings, requester_of};
+ghost use Rattle.rules.specs.Allocation.{wide_moved};
 ghost use Rattle.router.specs.Grants.{grant_in, grant_at, inputs_bound, outputs_held};
 ghost use Rattle.router.specs.Picks.{below};
 

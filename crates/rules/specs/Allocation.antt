@@ -26,7 +26,8 @@ use Rattle.rules.specs.Ports.{over_ports}
 -- Phase 5. "An unbound one whose front flit is H or S asks at its destination", here output o; "requester number i·V+v" is its place.
 unfoldable pub asks : List InputVc → List ℕ → ℕ → ℕ → Bool
 asks inputs store o x =
-    is_unbound (get_or inputs x (fresh_input 0)).binding && front_is_for o (queue_at store (first_slot x) (get_or inputs x (fresh_input 0)).queued)
+    is_unbound (get_or inputs x (fresh_input 0)).binding
+    && front_is_for o (queue_at store (first_slot x) (get_or inputs x (fresh_input 0)).queued)
 
 -- "the lowest-numbered free VC" of output o, "if some VC of that output is free"
 unfoldable pub lowest_free_vc : Config → List OutputVc → ℕ → Option ℕ

@@ -1,7 +1,8 @@
 -- "Sound states" (01): "A state handed in is sound when ..", clause by clause, in the document's order. Each clause is a test that
 -- computes, over the parts of a router that it reads; `Sound` says that all of them pass.
 -- Assumes nothing.
-use Rattle.std.specs.Prelude.{◌≡◌, Bool, true, false, cond, not, ◌&&◌, ◌||◌, List, [], ◌∷◌, ◌++◌, ℕ, ◌+◌, ◌*◌, ◌^◌, eqb, leb, ltb, length, get_or}
+use Rattle.std.specs.Prelude.{◌≡◌, Bool, true, false, cond, not, ◌&&◌, ◌||◌, List, [], ◌∷◌, ◌++◌, ℕ, ◌+◌, ◌*◌, ◌^◌, eqb, leb, ltb, length}
+use Rattle.std.specs.Prelude.{get_or}
 use Rattle.std.specs.Bool.{xor, beq}
 use Rattle.std.proofs.Math.Option.{Option, some, none}
 use Rattle.base.specs.declared.config.Config.{Config}
@@ -171,7 +172,8 @@ channels_unused c inputs outputs =
 -- "an empty slot is zero": those behind each queue, and all of a channel that is not in use
 unfoldable pub slots_empty : List InputVc → List ℕ → Bool
 slots_empty inputs store =
-    every most_channels (λ (x : ℕ). every 16 (λ (k : ℕ). ltb k (get_or inputs x (fresh_input 0)).queued || eqb (get_or store (slot x k) 0) 0))
+    every most_channels
+    (λ (x : ℕ). every 16 (λ (k : ℕ). ltb k (get_or inputs x (fresh_input 0)).queued || eqb (get_or store (slot x k) 0) 0))
 
 -- "Places not in use" of the lines: those of ports from P on, and those past the delay
 unfoldable pub line_unused : ℕ → ℕ → List ℕ → Bool

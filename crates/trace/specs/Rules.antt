@@ -33,7 +33,8 @@ has_wrong_number p block = not (eqb (number_of block) p.number)
 
 -- "byte 1 cycles held (1..7, only in kind 2, else 0)"
 unfoldable pub has_wrong_count : List ℕ → Bool
-has_wrong_count block = cond (eqb (kind_of block) cycles) (not (leb 1 (held_of block) && leb (held_of block) most_held)) (not (eqb (held_of block) 0))
+has_wrong_count block =
+    cond (eqb (kind_of block) cycles) (not (leb 1 (held_of block) && leb (held_of block) most_held)) (not (eqb (held_of block) 0))
 
 -- "6..7 zero"; "Bytes without a use are zero."
 unfoldable pub has_wrong_unused : List ℕ → Bool
@@ -55,7 +56,8 @@ bytes_follow block = ltb 0 (length block)
 -- "block kind, number, count, unused byte, place in the file, or end total wrong", before the end block
 unfoldable pub form_wrong : Place → ℕ → List ℕ → Bool
 form_wrong p c block =
-    has_wrong_kind block || (has_wrong_number p block || (has_wrong_count block || (has_wrong_unused block || (has_wrong_order p block || has_wrong_total c block))))
+    has_wrong_kind block || (has_wrong_number p block || (has_wrong_count block
+    || (has_wrong_unused block || (has_wrong_order p block || has_wrong_total c block))))
 
 -- 8: before the end block the above, after it any byte
 unfoldable pub block_wrong : Place → ℕ → List ℕ → Bool

@@ -1,7 +1,8 @@
 // 8: "block kind, number, count, unused byte, place in the file, or end total wrong", in a block before the end block.
 ghost use Rattle.std.specs.Prelude.{false, ◌≡◌, ◌≤◌, length};
 ghost use Rattle.trace.specs.Blocks.{end_of_body};
-ghost use Rattle.trace.specs.Rules.{has_wrong_kind, has_wrong_number, has_wrong_count, has_wrong_unused, has_wrong_order, has_wrong_total, form_wrong};
+ghost use Rattle.trace.specs.Rules.{has_wrong_kind, has_wrong_number, has_wrong_count, has_wrong_unused, has_wrong_order};
+ghost use Rattle.trace.specs.Rules.{has_wrong_total, form_wrong};
 
 use crate::{Place, bytes};
 

@@ -56,7 +56,8 @@ loop-inside-preserved c = (
 )
 
 pub returns : goal.returns
-returns c = search_none _ _ c.loop-inside.inside c.loop-inside.invariant.1 c.loop-inside-test.false ∙ whole (goal.at.returns c).After-struct_known-3-1
+returns c = search_none _ _ c.loop-inside.inside c.loop-inside.invariant.1 c.loop-inside-test.false ∙ whole
+    (goal.at.returns c).After-struct_known-3-1
 
 pub overflow_sub-before : goal.overflow_sub-before
 overflow_sub-before c =

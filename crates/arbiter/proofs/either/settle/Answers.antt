@@ -30,7 +30,8 @@ pub returns-then-code-eq-ROUND_ROBIN : goal.returns-then-code-eq-ROUND_ROBIN
 returns-then-code-eq-ROUND_ROBIN c =
     let a = c.args in
     ap (λ (p : ℕ). arbiter_of p a.rows.now) c.next.ensures
-    ∙ moved_turn a.places a.code a.n a.w (arbiter_of a.pointer a.rows.now) (ok (goal.at.returns-then-code-eq-ROUND_ROBIN c).Else-not-is_usable)
+    ∙ moved_turn a.places a.code a.n a.w (arbiter_of a.pointer a.rows.now) (ok
+    (goal.at.returns-then-code-eq-ROUND_ROBIN c).Else-not-is_usable)
     c.if-n-w.false c.if-code-eq-ROUND_ROBIN.true
 
 pub defeat-requires : goal.defeat-requires

@@ -26,7 +26,8 @@ returns-then-rows-i c =
     let a = c.args in
     test_fails a.n a.rows.now (entry c.by_rank-at.result) c.by_rank-at.ensures.inside c.by_rank-at.ensures.ranked c.loop-rank.rank
     c.loop-rank-test.true
-    (λ link. c.if-rows-i.true (here_link a.n a.rows.now (entry c.by_rank-at.result) c.loop-rank.lower c.loop-rank.rank c.loop-rank.invariant link).0)
+    (λ link. c.if-rows-i.true (here_link a.n a.rows.now (entry c.by_rank-at.result) c.loop-rank.lower c.loop-rank.rank
+    c.loop-rank.invariant link).0)
 
 pub returns-then-lower-own-ne0 : goal.returns-then-lower-own-ne0
 returns-then-lower-own-ne0 c =
@@ -42,11 +43,13 @@ loop-rank-preserved c =
     rw c.only-own.ensures
     (passed_more a.n a.rows.now (entry c.by_rank-at.result) c.loop-rank.lower c.loop-rank.rank c.loop-rank-test.true
     c.loop-rank.invariant
-    (link_here a.n a.rows.now (entry c.by_rank-at.result) c.loop-rank.lower c.loop-rank.rank c.loop-rank.invariant c.if-rows-i.false (rw c.only-own.ensures at c.if-lower-own-ne0.false)))
+    (link_here a.n a.rows.now (entry c.by_rank-at.result) c.loop-rank.lower c.loop-rank.rank c.loop-rank.invariant c.if-rows-i.false
+    (rw c.only-own.ensures at c.if-lower-own-ne0.false)))
 
 pub returns : goal.returns
 returns c =
     let a = c.args in
     rw c.all.ensures
-    (test_passed a.n a.rows.now (entry c.by_rank-at.result) c.by_rank-at.ensures.inside c.by_rank-at.ensures.ranked c.loop-rank.lower c.loop-rank.rank
+    (test_passed a.n a.rows.now (entry c.by_rank-at.result) c.by_rank-at.ensures.inside c.by_rank-at.ensures.ranked c.loop-rank.lower
+    c.loop-rank.rank
     c.loop-rank-test.false c.loop-rank.invariant)

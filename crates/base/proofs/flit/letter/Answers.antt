@@ -10,7 +10,11 @@ returns-then-kind-eq-HEAD c = rw (eq-eqb c.before.args.kind 1 c.if-kind-eq-HEAD.
 
 pub returns-then-kind-eq-BODY : goal.returns-then-kind-eq-BODY
 unfolding letter_of
-returns-then-kind-eq-BODY c = rw (ne_eqb c.before.before.args.kind 1 c.before.if-kind-eq-HEAD.false, eq-eqb c.before.before.args.kind 2 c.if-kind-eq-BODY.true)
+returns-then-kind-eq-BODY c = rw (
+  ne_eqb c.before.before.args.kind 1 c.before.if-kind-eq-HEAD.false,
+  eq-eqb c.before.before.args.kind 2
+      c.if-kind-eq-BODY.true,
+)
 
 pub returns-then-kind-eq-TAIL : goal.returns-then-kind-eq-TAIL
 unfolding letter_of

@@ -11,7 +11,8 @@ pub loop-i-preserved : goal.loop-i-preserved
 loop-i-preserved c =
     let a = c.args.bytes.now in (
       search rules,
-      grown_all 0 a (length a) c.loop-i.i (omega arith) (omega arith) c.both-zero.result c.loop-i.zero _ c.both-zero.ensures c.loop-i.invariant.1
+      grown_all 0 a (length a) c.loop-i.i (omega arith) (omega arith) c.both-zero.result c.loop-i.zero _ c.both-zero.ensures
+          c.loop-i.invariant.1
           (numbers (get_or a c.loop-i.i 0) 0),
     )
 

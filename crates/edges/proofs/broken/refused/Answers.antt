@@ -1,7 +1,8 @@
 -- `edges::broken::refused` meets its contract: each is not sound.
 -- Assumes nothing.
 use mathlib.Core.Path.{ap, ◌∙◌}
-use Rattle.state.specs.Sound.{sound, the_configuration, the_cycles, the_wire, the_home, the_wire_rest, the_home_rest, the_credits, the_queues}
+use Rattle.state.specs.Sound.{sound, the_configuration, the_cycles, the_wire, the_home, the_wire_rest, the_home_rest, the_credits}
+use Rattle.state.specs.Sound.{the_queues}
 use Rattle.state.specs.Sound.{the_output_credits, the_channels, the_slots, the_names, the_packets, the_arbiters, the_other_arbiters}
 use Rattle.edges.proofs.Unsound.{unsound}
 use Rattle.edges.proofs.broken.refused.Goals as goal

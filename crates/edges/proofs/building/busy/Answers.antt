@@ -8,7 +8,8 @@ use Rattle.state.specs.declared.InputVc.{InputVc}
 use Rattle.state.specs.declared.OutputVc.{OutputVc}
 use Rattle.state.specs.declared.Router.{Router}
 use Rattle.state.specs.Setters.{set_binding, set_holder}
-use Rattle.state.proofs.SoundStates.{with_input, with_output, with_slot, with_wire_place, with_home_place, unbound, bound, held, head, single}
+use Rattle.state.proofs.SoundStates.{with_input, with_output, with_slot, with_wire_place, with_home_place, unbound, bound, held, head}
+use Rattle.state.proofs.SoundStates.{single}
 use Rattle.state.proofs.SoundStates.{body, on}
 use Rattle.edges.specs.States.{busy, busy_from}
 use Rattle.edges.proofs.building.busy.Goals as goal

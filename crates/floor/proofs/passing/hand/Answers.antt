@@ -54,13 +54,24 @@ returns-then-not-holds_blocks g c =
 pub returns-then-bytes-buf : goal.returns-then-bytes-buf
 returns-then-bytes-buf g c =
     hands _ _ _ c.if-buf-bytes.false
-    (fills _ _ _ (even g (goal.at.returns-then-bytes-buf g c).Else-not-holds_blocks) (are g (goal.at.returns-then-bytes-buf g c).Else-not-holds_blocks) (long g (goal.at.returns-then-bytes-buf g c).Else-not-holds_blocks ∙ c.if-bytes-buf.true) (passed g (goal.at.returns-then-bytes-buf g c).After-pass-passed))
+    (fills _ _ _ (even g (goal.at.returns-then-bytes-buf g c).Else-not-holds_blocks) (are g
+    (goal.at.returns-then-bytes-buf g c).Else-not-holds_blocks) (long g (goal.at.returns-then-bytes-buf g c).Else-not-holds_blocks
+    ∙ c.if-bytes-buf.true) (passed g (goal.at.returns-then-bytes-buf g c).After-pass-passed))
 
 pub finish-requires : goal.finish-requires
 finish-requires g c =
-    omega (arith, passes_few (piece g (goal.at.finish-requires g c).Else-not-holds_blocks) _ _ _ _ (passed g (goal.at.finish-requires g c).After-pass-passed), long g (goal.at.finish-requires g c).Else-not-holds_blocks, c.if-buf-bytes.false, short g (goal.at.finish-requires g c).Start)
+    omega (
+      arith,
+      passes_few (piece g (goal.at.finish-requires g c).Else-not-holds_blocks) _ _ _ _ (passed g
+          (goal.at.finish-requires g c).After-pass-passed),
+      long g (goal.at.finish-requires g c).Else-not-holds_blocks,
+      c.if-buf-bytes.false,
+      short g (goal.at.finish-requires g c).Start,
+    )
 
 pub returns : goal.returns
 returns g c =
     hands _ _ _ c.if-buf-bytes.false
-    (last _ _ _ _ _ _ (even g (goal.at.returns g c).Else-not-holds_blocks) (are g (goal.at.returns g c).Else-not-holds_blocks) (omega (arith, long g (goal.at.returns g c).Else-not-holds_blocks, c.if-buf-bytes.false, c.if-bytes-buf.false)) (passed g (goal.at.returns g c).After-pass-passed) c.finish.ensures)
+    (last _ _ _ _ _ _ (even g (goal.at.returns g c).Else-not-holds_blocks) (are g (goal.at.returns g c).Else-not-holds_blocks) (omega
+    (arith, long g (goal.at.returns g c).Else-not-holds_blocks, c.if-buf-bytes.false, c.if-bytes-buf.false)) (passed g
+    (goal.at.returns g c).After-pass-passed) c.finish.ensures)

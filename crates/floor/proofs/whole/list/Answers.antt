@@ -52,19 +52,22 @@ returns-then-filled g c = c.loop-left.invariant.2 [] _ _ (unread _)
 pub returns-then-not-is_whole : goal.returns-then-not-is_whole
 returns-then-not-is_whole g c =
     c.loop-left.invariant.2 (piece g (goal.at.returns-then-not-is_whole g c).After-hand-passed ∷ []) _ _
-    (stopped _ _ _ _ _ (sym c.is_whole.ensures ∙ c.if-not-is_whole.true) (handed g (goal.at.returns-then-not-is_whole g c).After-hand-passed))
+    (stopped _ _ _ _ _ (sym c.is_whole.ensures ∙ c.if-not-is_whole.true) (handed g
+    (goal.at.returns-then-not-is_whole g c).After-hand-passed))
 
 pub returns-then-run : goal.returns-then-run
 returns-then-run g c =
     c.loop-left.invariant.2 (piece g (goal.at.returns-then-run g c).After-hand-passed ∷ []) _ _
-    (over _ _ _ _ _ (whole g (goal.at.returns-then-run g c).Else-not-is_whole) c.if-run.true (handed g (goal.at.returns-then-run g c).After-hand-passed))
+    (over _ _ _ _ _ (whole g (goal.at.returns-then-run g c).Else-not-is_whole) c.if-run.true (handed g
+    (goal.at.returns-then-run g c).After-hand-passed))
 
 pub loop-left-preserved : goal.loop-left-preserved
 loop-left-preserved g c = (
   kept g (goal.at.loop-left-preserved g c).After-fill-filled,
   (search rules),
   (λ pieces r e p. c.loop-left.invariant.2 (piece g (goal.at.loop-left-preserved g c).After-hand-passed ∷ pieces) r e
-      (goes _ _ _ _ _ pieces r e (whole g (goal.at.loop-left-preserved g c).Else-not-is_whole) c.if-run.false (handed g (goal.at.loop-left-preserved g c).After-hand-passed) p)),
+      (goes _ _ _ _ _ pieces r e (whole g (goal.at.loop-left-preserved g c).Else-not-is_whole) c.if-run.false (handed g
+      (goal.at.loop-left-preserved g c).After-hand-passed) p)),
 )
 
 pub returns : goal.returns

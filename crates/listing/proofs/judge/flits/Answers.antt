@@ -17,7 +17,8 @@ pub loop-i-preserved-in_default : goal.loop-i-preserved-in_default
 unfolding printable
 loop-i-preserved-in_default c =
     let a = c.args in
-    let here : printable (flit_line a.cycle a.reply c.loop-i.i) ≡ true = ap printable (no_flit a.cycle a.reply c.loop-i.i c.in_default.is) in
+    let here : printable (flit_line a.cycle a.reply c.loop-i.i) ≡ true = ap printable
+    (no_flit a.cycle a.reply c.loop-i.i c.in_default.is) in
     (omega arith, printable_more (flit_line a.cycle a.reply) c.loop-i.i c.loop-i.invariant.1 here)
 
 pub returns-then-not-flit : goal.returns-then-not-flit

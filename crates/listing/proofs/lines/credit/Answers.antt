@@ -80,7 +80,8 @@ laid : (c : After-slice_known-2-1) → Laid c.args.out.now
     (c.start-q.result + 5)
 laid c =
     laid_as (laid_more c.start-q.ensures.0 (laid_stores c.start-q.new.out c.start-q.result 32 (bytes c)))
-    (credit_bytes c.args.cycle c.args.input c.args.vc (bounds (goal.at.After-slice_known-2-1 c).Start).1 (bounds (goal.at.After-slice_known-2-1 c).Start).2)
+    (credit_bytes c.args.cycle c.args.input c.args.vc (bounds (goal.at.After-slice_known-2-1 c).Start).1 (bounds
+    (goal.at.After-slice_known-2-1 c).Start).2)
 
 pub shape_of-out : goal.shape_of-out
 shape_of-out c = laid_length (laid c)

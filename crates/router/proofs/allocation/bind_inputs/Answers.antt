@@ -25,7 +25,8 @@ loop-next-preserved-then-given-eq0 c =
     let a = c.args in (
       more c.args.config.ports c.loop-next.next c.loop-next-test.true,
       over_again c.loop-next.next (input_turn a.made)
-          a.before c.loop-next.inputs c.loop-next.inputs c.loop-next.invariant.1 (input_none (record_at a.made c.loop-next.next) c.loop-next.next c.loop-next.inputs
+          a.before c.loop-next.inputs c.loop-next.inputs c.loop-next.invariant.1 (input_none
+          (record_at a.made c.loop-next.next) c.loop-next.next c.loop-next.inputs
           c.if-given-eq0.true),
     )
 
@@ -37,11 +38,13 @@ pub loop-next-preserved-then-x-ge-CHANNEL_PLACES : goal.loop-next-preserved-then
 loop-next-preserved-then-x-ge-CHANNEL_PLACES c =
     let a = c.args in
     let g = record_at a.made c.loop-next.next in
-    let long : length c.loop-next.inputs ≡ 32 = ap length c.loop-next.invariant.1 ∙ inputs_long a.made a.before c.loop-next.next ∙ given (goal.at.loop-next-preserved-then-x-ge-CHANNEL_PLACES c).Start in
+    let long : length c.loop-next.inputs ≡ 32 = ap length c.loop-next.invariant.1 ∙ inputs_long a.made a.before c.loop-next.next ∙ given
+    (goal.at.loop-next-preserved-then-x-ge-CHANNEL_PLACES c).Start in
     let far : length c.loop-next.inputs ≤ g.requester - 1 = rw (long, sym c.wide-x.ensures.value) c.if-x-ge-CHANNEL_PLACES.true in (
       more c.args.config.ports c.loop-next.next c.loop-next-test.true,
       over_again c.loop-next.next (input_turn a.made)
-          a.before c.loop-next.inputs c.loop-next.inputs c.loop-next.invariant.1 (input_out g c.loop-next.next c.loop-next.inputs c.if-given-eq0.false far),
+          a.before c.loop-next.inputs c.loop-next.inputs c.loop-next.invariant.1
+          (input_out g c.loop-next.next c.loop-next.inputs c.if-given-eq0.false far),
     )
 
 pub loop-next-preserved : goal.loop-next-preserved
@@ -53,7 +56,8 @@ loop-next-preserved c =
     c.wide-x.ensures.value in (
       more c.args.config.ports c.loop-next.next c.loop-next-test.true,
       over_again c.loop-next.next (input_turn a.made)
-          a.before c.loop-next.inputs _ c.loop-next.invariant.1 (made ∙ input_some g c.loop-next.next c.loop-next.inputs c.if-given-eq0.false),
+          a.before c.loop-next.inputs _ c.loop-next.invariant.1 (made
+          ∙ input_some g c.loop-next.next c.loop-next.inputs c.if-given-eq0.false),
     )
 
 pub returns : goal.returns

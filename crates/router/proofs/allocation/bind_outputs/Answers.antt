@@ -43,7 +43,8 @@ loop-next-preserved-then-y-ge-CHANNEL_PLACES c =
     ∙ given (goal.at.loop-next-preserved-then-y-ge-CHANNEL_PLACES c).Start in
     let e : c.number-y.result ≡ channel_number a.config c.loop-next.next g.vc = c.number-y.ensures
     ∙ ap (channel_number a.config c.loop-next.next) c.wide.ensures.value in
-    let far : length c.loop-next.outputs ≤ channel_number a.config c.loop-next.next g.vc = rw (long, sym e) c.if-y-ge-CHANNEL_PLACES.true in (
+    let far : length c.loop-next.outputs ≤ channel_number a.config c.loop-next.next g.vc = rw
+    (long, sym e) c.if-y-ge-CHANNEL_PLACES.true in (
       more c.args.config.ports c.loop-next.next c.loop-next-test.true,
       over_again c.loop-next.next
           (output_turn a.config a.made) a.before c.loop-next.outputs c.loop-next.outputs c.loop-next.invariant.1
@@ -57,7 +58,8 @@ loop-next-preserved c =
     let e : c.number-y.result ≡ channel_number a.config c.loop-next.next g.vc = c.number-y.ensures
     ∙ ap (channel_number a.config c.loop-next.next) c.wide.ensures.value in
     let made = ap (λ (y : OutputVc). set c.loop-next.outputs c.number-y.result y) c.held.ensures
-    ∙ ap (λ (x : InVc). set c.loop-next.outputs c.number-y.result (held_by x.input x.vc (get_or c.loop-next.outputs c.number-y.result (fresh_output 0))))
+    ∙ ap (λ (x : InVc). set c.loop-next.outputs c.number-y.result (held_by x.input x.vc (get_or c.loop-next.outputs c.number-y.result
+    (fresh_output 0))))
     c.requester.ensures ∙ ap (λ (y : ℕ). set c.loop-next.outputs y
     (held_by ((g.requester - 1) / a.config.vcs) ((g.requester - 1) % a.config.vcs) (get_or c.loop-next.outputs y (fresh_output 0)))) e in (
       more c.args.config.ports c.loop-next.next c.loop-next-test.true,

@@ -28,7 +28,8 @@ unfolding asks
 returns-in_default c =
     let a = c.args in
     let winner = (choice 32 a.config.arbiter (a.config.ports * a.config.vcs) (bit a.set) (of_wide a.arbiter)) in
-    grant_nobody a.config.vcs c.free_vc-vc.result (lowest_free_vc a.config a.outputs a.o) c.free_vc-vc.ensures c.choose-pick.result winner c.choose-pick.ensures
+    grant_nobody a.config.vcs c.free_vc-vc.result (lowest_free_vc a.config a.outputs a.o) c.free_vc-vc.ensures c.choose-pick.result
+    winner c.choose-pick.ensures
     c.in_default.is
     c.if-config-vc.false
 
@@ -57,6 +58,7 @@ unfolding asks
 returns c =
     let a = c.args in
     let winner = (choice 32 a.config.arbiter (a.config.ports * a.config.vcs) (bit a.set) (of_wide a.arbiter)) in
-    grant_winner a.config.vcs c.free_vc-vc.result (lowest_free_vc a.config a.outputs a.o) c.free_vc-vc.ensures c.choose-pick.result winner c.in-Winner.x
+    grant_winner a.config.vcs c.free_vc-vc.result (lowest_free_vc a.config a.outputs a.o) c.free_vc-vc.ensures c.choose-pick.result
+    winner c.in-Winner.x
     c.choose-pick.ensures c.in-Winner.is
     c.if-config-vc.false

@@ -30,7 +30,8 @@ loop-next-preserved-then-given-eq0 c =
       more c.args.config.ports c.loop-next.next c.loop-next-test.true,
       over_again c.loop-next.next
           (arbiter_turn a.config (a.config.ports * a.config.vcs) a.made) a.before c.loop-next.vcs c.loop-next.vcs c.loop-next.invariant.1
-          (arbiter_none a.config.arbiter (a.config.ports * a.config.vcs) (record_at a.made c.loop-next.next) c.loop-next.next c.loop-next.vcs
+          (arbiter_none a.config.arbiter (a.config.ports * a.config.vcs)
+          (record_at a.made c.loop-next.next) c.loop-next.next c.loop-next.vcs
           c.if-given-eq0.true),
     )
 
@@ -40,7 +41,8 @@ loop-next-preserved c =
       more c.args.config.ports c.loop-next.next c.loop-next-test.true,
       over_again c.loop-next.next
           (arbiter_turn a.config (a.config.ports * a.config.vcs) a.made) a.before c.loop-next.vcs _ c.loop-next.invariant.1
-          (arbiter_some a.config.arbiter (a.config.ports * a.config.vcs) (record_at a.made c.loop-next.next) c.loop-next.next c.loop-next.vcs
+          (arbiter_some a.config.arbiter (a.config.ports * a.config.vcs)
+          (record_at a.made c.loop-next.next) c.loop-next.next c.loop-next.vcs
           c.moved.result c.if-given-eq0.false c.moved.ensures),
     )
 

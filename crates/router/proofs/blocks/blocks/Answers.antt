@@ -57,9 +57,9 @@ loop-left-preserved c =
     (piece_is part c.loop-left.from c.block_end-end.result c.block_end-end.ensures.after) in (
       c.block_end-end.ensures.inside,
       ap₂ (λ (used : ℕ) (v : Writing). going_on part (c.loop-left.left - 1)
-          (record { used = used; asks = 0; writing = v })) c.block_end-end.ensures.after f ∙ goes_more part c.loop-left.left (sofar (goal.at.loop-left-preserved c).At-loop-left)
-          c.loop-left-test.true c.if-run.false (roomy _ _ (not-true _
-          (sym c.has_room.ensures ∙ c.if-not-has_room.false)))
+          (record { used = used; asks = 0; writing = v })) c.block_end-end.ensures.after f ∙ goes_more part c.loop-left.left (sofar
+          (goal.at.loop-left-preserved c).At-loop-left)
+          c.loop-left-test.true c.if-run.false (roomy _ _ (not-true _ (sym c.has_room.ensures ∙ c.if-not-has_room.false)))
           ∙ c.loop-left.invariant.1,
       λ _. subst (λ (v : Writing). GoesOn v × (v.run.place.configured ≡ true)) (sym f)
           (block_goes_on (block_at part c.loop-left.from) (piece_bytes 512 c.loop-left.from part

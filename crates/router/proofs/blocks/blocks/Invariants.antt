@@ -11,7 +11,12 @@ abbrev pub invariant-loop-left : goal.invariant-loop-left
 invariant-loop-left l =
     (l.from ≤ length l.part)
     × (going_on l.part l.left (record { used = l.from; asks = 0; writing = writing_of l.config l.run l.store l.wire l.home l.out })
-    ≡ going_on l.part l.count (record { used = l.first; asks = 0; writing = writing_of l.config l.initial.run l.initial.store l.initial.wire l.initial.home l.initial.out }))
+    ≡ going_on l.part l.count (record {
+      used = l.first;
+      asks = 0;
+      writing = writing_of l.config l.initial.run l.initial.store
+          l.initial.wire l.initial.home l.initial.out;
+    }))
     × Ongoing (writing_of l.config l.run l.store l.wire l.home l.out) × (length l.out ≡ length l.initial.out)
 
 abbrev pub decreases-loop-left : goal.decreases-loop-left

@@ -33,21 +33,27 @@ legal : (c : Start) → Legal c.args.config
 legal c = sound_legal (given c) c.requires
 
 -- what the rules after 2 say
-says : (c : After-judge-verdict) (v : Verdict) → c.judge-verdict.result ≡ v → first_of (rest (given (goal.at.After-judge-verdict c).Start) (bytes (goal.at.After-judge-verdict c).Start)) ≡ v
+says : (c : After-judge-verdict) (v : Verdict) → c.judge-verdict.result ≡ v → first_of (rest (given (goal.at.After-judge-verdict c).Start)
+    (bytes (goal.at.After-judge-verdict c).Start)) ≡ v
 says c v e =
-    rest_gives (given (goal.at.After-judge-verdict c).Start) (bytes (goal.at.After-judge-verdict c).Start) c.pay_senders-paid.result c.pay_senders-paid.ensures
+    rest_gives (given (goal.at.After-judge-verdict c).Start) (bytes
+    (goal.at.After-judge-verdict c).Start) c.pay_senders-paid.result c.pay_senders-paid.ensures
     c.judge-verdict.result v c.judge-verdict.ensures e
 
 pub pay_senders-paid-requires : goal.pay_senders-paid-requires
-pay_senders-paid-requires c =
-    ((legal (goal.at.pay_senders-paid-requires c).Start).ports.1, credits_fit (given (goal.at.pay_senders-paid-requires c).Start) c.requires)
+pay_senders-paid-requires c = (
+  (legal (goal.at.pay_senders-paid-requires c).Start).ports.1,
+  credits_fit (given
+      (goal.at.pay_senders-paid-requires c).Start) c.requires,
+)
 
 pub judge-verdict-requires : goal.judge-verdict-requires
 judge-verdict-requires c = (legal (goal.at.judge-verdict-requires c).Start).ports.1
 
 pub returns-in-Refused : goal.returns-in-Refused
 returns-in-Refused c =
-    rw c.empty.ensures (refused_steps (given (goal.at.returns-in-Refused c).Start) (bytes (goal.at.returns-in-Refused c).Start) (passes (goal.at.returns-in-Refused c).Start) c.in-Refused.refusal
+    rw c.empty.ensures (refused_steps (given (goal.at.returns-in-Refused c).Start) (bytes (goal.at.returns-in-Refused c).Start) (passes
+    (goal.at.returns-in-Refused c).Start) c.in-Refused.refusal
     (says (goal.at.returns-in-Refused c).After-judge-verdict _ c.in-Refused.is))
 
 -- an accepted cycle
@@ -58,7 +64,8 @@ pub act-acted-requires : goal.act-acted-requires
 act-acted-requires c =
     let l = sound_lengths (given (goal.at.act-acted-requires c).Start) c.requires in (
       legal (goal.at.act-acted-requires c).Start,
-      accepted_long (given (goal.at.act-acted-requires c).Start) (bytes (goal.at.act-acted-requires c).Start) (taken (goal.at.act-acted-requires c).In_default),
+      accepted_long (given (goal.at.act-acted-requires c).Start) (bytes (goal.at.act-acted-requires c).Start) (taken
+          (goal.at.act-acted-requires c).In_default),
       rw c.pay_senders-paid.ensures
           (queues_fit (given (goal.at.act-acted-requires c).Start) c.requires),
       output_credits_fit-law (given (goal.at.act-acted-requires c).Start) c.requires,
@@ -69,12 +76,14 @@ act-acted-requires c =
 
 pub overflow_add-result : goal.overflow_add-result
 overflow_add-result c =
-    let l = accepted_early (given (goal.at.overflow_add-result c).Start) (bytes (goal.at.overflow_add-result c).Start) (taken (goal.at.overflow_add-result c).In_default) in
+    let l = accepted_early (given (goal.at.overflow_add-result c).Start) (bytes (goal.at.overflow_add-result c).Start) (taken
+    (goal.at.overflow_add-result c).In_default) in
     record { fits = omega arith }
 
 pub returns : goal.returns
 returns c =
-    accepted_steps (given (goal.at.returns c).Start) (bytes (goal.at.returns c).Start) (passes (goal.at.returns c).Start) (taken (goal.at.returns c).In_default) _ _
+    accepted_steps (given (goal.at.returns c).Start) (bytes (goal.at.returns c).Start) (passes (goal.at.returns c).Start) (taken
+    (goal.at.returns c).In_default) _ _
     (after_is (given (goal.at.returns c).Start) (bytes (goal.at.returns c).Start) c.pay_senders-paid.result c.pay_senders-paid.ensures _
     (c.act-acted.ensures.after c.args.cycle))
     (said_is (given (goal.at.returns c).Start) (bytes (goal.at.returns c).Start) c.pay_senders-paid.result c.pay_senders-paid.ensures _

@@ -21,7 +21,8 @@ returns-then-not-is_sound c =
 pub inner_step-done-requires : goal.inner_step-done-requires
 inner_step-done-requires c =
     let s = c.args.router in
-    parts_sound s c.unpack-before.result c.unpack-before.ensures (passed_sound s (tested (goal.at.inner_step-done-requires c).Else-not-is_sound))
+    parts_sound s c.unpack-before.result c.unpack-before.ensures (passed_sound s (tested
+    (goal.at.inner_step-done-requires c).Else-not-is_sound))
 
 pub returns : goal.returns
 returns c =

@@ -34,21 +34,25 @@ pub returns-in-Configuration : goal.returns-in-Configuration
 returns-in-Configuration c =
     let e = outcome (goal.at.returns-in-Configuration c).After-judge-answer _ c.in-Configuration.is in
     built_router (given (goal.at.returns-in-Configuration c).Start) c.judge-answer.result.place c.fresh-built.result _ c.fresh-built.ensures
-    (configuration_first (bytes (goal.at.returns-in-Configuration c).Start) (given (goal.at.returns-in-Configuration c).Start) _ _ e).1 ∙ taken_configuration (bytes (goal.at.returns-in-Configuration c).Start) (given (goal.at.returns-in-Configuration c).Start) _ _ e
+    (configuration_first (bytes (goal.at.returns-in-Configuration c).Start) (given (goal.at.returns-in-Configuration c).Start) _ _ e).1
+    ∙ taken_configuration (bytes (goal.at.returns-in-Configuration c).Start) (given (goal.at.returns-in-Configuration c).Start) _ _ e
 
 pub returns-in-Cycles : goal.returns-in-Cycles
 returns-in-Cycles c =
-    absurd (true≢false (sym (others_follow (bytes (goal.at.returns-in-Cycles c).Start) (given (goal.at.returns-in-Cycles c).Start) (some_cycles _) _ (λ q. omega (arith, q))
+    absurd (true≢false (sym (others_follow (bytes (goal.at.returns-in-Cycles c).Start) (given (goal.at.returns-in-Cycles c).Start)
+    (some_cycles _) _ (λ q. omega (arith, q))
     (outcome (goal.at.returns-in-Cycles c).After-judge-answer _ c.in-Cycles.is)) ∙ c.requires.0))
 
 pub returns-in-End : goal.returns-in-End
 returns-in-End c =
-    absurd (true≢false (sym (others_follow (bytes (goal.at.returns-in-End c).Start) (given (goal.at.returns-in-End c).Start) the_end _ (λ q. omega (arith, q))
+    absurd (true≢false (sym (others_follow (bytes (goal.at.returns-in-End c).Start) (given (goal.at.returns-in-End c).Start) the_end _
+    (λ q. omega (arith, q))
     (outcome (goal.at.returns-in-End c).After-judge-answer _ c.in-End.is)) ∙ c.requires.0))
 
 pub returns-in-Done : goal.returns-in-Done
 returns-in-Done c =
-    absurd (true≢false (sym (others_follow (bytes (goal.at.returns-in-Done c).Start) (given (goal.at.returns-in-Done c).Start) no_more _ (λ q. omega (arith, q))
+    absurd (true≢false (sym (others_follow (bytes (goal.at.returns-in-Done c).Start) (given (goal.at.returns-in-Done c).Start) no_more _
+    (λ q. omega (arith, q))
     (outcome (goal.at.returns-in-Done c).After-judge-answer _ c.in-Done.is)) ∙ c.requires.0))
 
 pub overflow_add-result : goal.overflow_add-result
@@ -61,4 +65,5 @@ pub returns-in-Refused : goal.returns-in-Refused
 returns-in-Refused c =
     first_refused (given (goal.at.returns-in-Refused c).Start) _ _ c.requires.2 c.write_refusal.result _ c.size-bytes.result
     c.write_refusal.ensures c.size-bytes.ensures
-    ∙ taken_refused (bytes (goal.at.returns-in-Refused c).Start) (given (goal.at.returns-in-Refused c).Start) _ _ _ (outcome (goal.at.returns-in-Refused c).After-judge-answer _ c.in-Refused.is)
+    ∙ taken_refused (bytes (goal.at.returns-in-Refused c).Start) (given (goal.at.returns-in-Refused c).Start) _ _ _ (outcome
+    (goal.at.returns-in-Refused c).After-judge-answer _ c.in-Refused.is)

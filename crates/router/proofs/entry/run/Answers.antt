@@ -76,7 +76,8 @@ go-requires-then-place c = (
 pub returns-then-place : goal.returns-then-place
 returns-then-place c =
     c.go-then-place.ensures ∙ run_goes c.args.run c.args.part.now c.args.buf.now c.args.at
-    (sound (goal.at.returns-then-place c).Else-not-has_room) (room (goal.at.returns-then-place c).Else-not-has_room) _ c.blocks_in-count.ensures
+    (sound (goal.at.returns-then-place c).Else-not-has_room) (room
+    (goal.at.returns-then-place c).Else-not-has_room) _ c.blocks_in-count.ensures
 
 -- the run as it is handed in, and that it is before the configuration block
 abbrev handed : Start → Writing
@@ -91,7 +92,8 @@ none_yet c =
 pub returns-then-not-has_room-2 : goal.returns-then-not-has_room-2
 returns-then-not-has_room-2 c =
     ap (beside (goal.at.returns-then-not-has_room-2 c).Start) c.unmoved-then-not-has_room-2.ensures
-    ∙ run_asks c.args.run c.args.part.now c.args.buf.now c.args.at (sound (goal.at.returns-then-not-has_room-2 c).Else-not-has_room) (room (goal.at.returns-then-not-has_room-2 c).Else-not-has_room)
+    ∙ run_asks c.args.run c.args.part.now c.args.buf.now c.args.at (sound (goal.at.returns-then-not-has_room-2 c).Else-not-has_room) (room
+    (goal.at.returns-then-not-has_room-2 c).Else-not-has_room)
     c.if-run.false (full _ _
     (not-false _ (sym c.has_room-2.ensures ∙ c.if-not-has_room-2.true)))
 
@@ -100,8 +102,13 @@ block_room : (c : Else-not-has_room-2) → lacks_block_room c.args.buf.now
 block_room c = roomy _ _ (not-true _ (sym c.has_room-2.ensures ∙ c.if-not-has_room-2.false))
 
 pub begin-begun-requires : goal.begin-begun-requires
-begin-begun-requires c =
-    (c.if-place.false, c.if-run.false, (none_yet (goal.at.begin-begun-requires c).Else-place).0, inside (goal.at.begin-begun-requires c).Else-not-has_room)
+begin-begun-requires c = (
+  c.if-place.false,
+  c.if-run.false,
+  (none_yet (goal.at.begin-begun-requires c).Else-place).0,
+  inside
+      (goal.at.begin-begun-requires c).Else-not-has_room,
+)
 
 pub overflow_sub-count : goal.overflow_sub-count
 overflow_sub-count c =
@@ -112,7 +119,8 @@ go-requires-2 c =
     let part = c.args.part.now in
     let f = c.begin-begun.ensures ∙ ap (λ (block : List ℕ). block_taken block (handed (goal.at.go-requires-2 c).Start))
     (piece_is part 0 c.block_end-end.result c.block_end-end.ensures.after) in (
-      subst Ongoing (sym f) (begun_ongoing (block_at part 0) (handed (goal.at.go-requires-2 c).Start) c.if-place.false (none_yet (goal.at.go-requires-2 c).Else-place).1
+      subst Ongoing (sym f) (begun_ongoing (block_at part 0) (handed (goal.at.go-requires-2 c).Start) c.if-place.false (none_yet
+          (goal.at.go-requires-2 c).Else-place).1
           (inside (goal.at.go-requires-2 c).Else-not-has_room)),
       c.block_end-end.ensures.inside,
       subst (λ (w : Writing). c.args.at ≤ w.at) (sym f)
@@ -126,9 +134,11 @@ returns c =
     (piece_is part 0 c.block_end-end.result c.block_end-end.ensures.after) in
     c.go-2.ensures ∙ ap₂ (λ (used : ℕ) (w : Writing). answered c.args.at
     (going_on part (c.blocks_in-count.result - 1) (record { used = used; asks = 0; writing = w }))) c.block_end-end.ensures.after f
-    ∙ ap (answered c.args.at) (goes_more part c.blocks_in-count.result (begins (handed (goal.at.returns c).Start)) (omega (arith, c.blocks_in-count.ensures))
+    ∙ ap (answered c.args.at) (goes_more part c.blocks_in-count.result (begins (handed (goal.at.returns c).Start)) (omega
+    (arith, c.blocks_in-count.ensures))
     c.if-run.false (block_room (goal.at.returns c).Else-not-has_room-2)) ∙ run_goes c.args.run part c.args.buf.now c.args.at
-    (sound (goal.at.returns c).Else-not-has_room) (room (goal.at.returns c).Else-not-has_room) c.blocks_in-count.result c.blocks_in-count.ensures
+    (sound (goal.at.returns c).Else-not-has_room) (room (goal.at.returns c).Else-not-has_room) c.blocks_in-count.result
+    c.blocks_in-count.ensures
 
 pub slice_bounds-begin-count : goal.slice_bounds-begin-count
 slice_bounds-begin-count c =

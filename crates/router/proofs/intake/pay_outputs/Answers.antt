@@ -66,11 +66,13 @@ loop-o-preserved-then-y-ge-CHANNEL_PLACES c =
     let a = c.args in
     let long : length c.loop-o.outputs ≡ 32 = ap length c.loop-o.invariant.1 ∙ outputs_long a.config a.part.now a.before c.loop-o.o
     ∙ given (goal.at.loop-o-preserved-then-y-ge-CHANNEL_PLACES c).Start in
-    let far : length c.loop-o.outputs ≤ channel_number a.config c.loop-o.o (c.wide-credit.result - 1) = rw (long, sym c.number-y.ensures) c.if-y-ge-CHANNEL_PLACES.true in (
+    let far : length c.loop-o.outputs ≤ channel_number a.config c.loop-o.o (c.wide-credit.result - 1) = rw
+    (long, sym c.number-y.ensures) c.if-y-ge-CHANNEL_PLACES.true in (
       more c.args.config.ports c.loop-o.o c.loop-o-test.true,
       over_again c.loop-o.o
           (output_turn a.config a.part.now) a.before c.loop-o.outputs c.loop-o.outputs c.loop-o.invariant.1
-          (output_out a.config a.part.now c.loop-o.outputs c.loop-o.o c.wide-credit.result (c.wide-credit.ensures.value ∙ c.credit_of.ensures)
+          (output_out a.config a.part.now c.loop-o.outputs c.loop-o.o c.wide-credit.result (c.wide-credit.ensures.value
+          ∙ c.credit_of.ensures)
           c.if-credit-eq0.false far),
     )
 

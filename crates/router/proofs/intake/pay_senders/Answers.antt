@@ -71,7 +71,8 @@ loop-i-preserved-then-x-ge-CHANNEL_PLACES c =
     let a = c.args in
     let long : length c.loop-i.inputs ≡ 32 = ap length c.loop-i.invariant.1 ∙ senders_long a.config a.home.now a.before c.loop-i.i
     ∙ given (goal.at.loop-i-preserved-then-x-ge-CHANNEL_PLACES c).Start in
-    let far : length c.loop-i.inputs ≤ channel_number a.config c.loop-i.i (c.wide-place.result - 1) = rw (long, sym c.number-x.ensures) c.if-x-ge-CHANNEL_PLACES.true in (
+    let far : length c.loop-i.inputs ≤ channel_number a.config c.loop-i.i (c.wide-place.result - 1) = rw
+    (long, sym c.number-x.ensures) c.if-x-ge-CHANNEL_PLACES.true in (
       more c.args.config.ports c.loop-i.i c.loop-i-test.true,
       over_again c.loop-i.i
           (sender_turn a.config a.home.now) a.before c.loop-i.inputs c.loop-i.inputs c.loop-i.invariant.1

@@ -151,4 +151,5 @@ unfolding offers
 returns c =
     let a = c.args in
     let e : c.loop-next.next ≡ a.config.ports = omega arith in
-    c.loop-next.invariant.1 ∙ ap (λ (n : ℕ). over_ports n (taken_at a.config a.part.now) (record { inputs = a.before; wire = a.wire.now })) e
+    c.loop-next.invariant.1 ∙ ap (λ (n : ℕ). over_ports n (taken_at a.config a.part.now)
+    (record { inputs = a.before; wire = a.wire.now })) e

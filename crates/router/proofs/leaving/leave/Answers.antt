@@ -43,7 +43,8 @@ turn c = leave_turn c.args.config c.args.rows c.args.picks
 -- the invariant after one more turn
 again : (c : At-loop-next) {u : Leaving} → u ≡ turn (goal.at.At-loop-next c).Start (sofar c) c.loop-next.next
     → u ≡ over_ports (c.loop-next.next + 1) (turn (goal.at.At-loop-next c).Start) (first (goal.at.At-loop-next c).Start)
-again c e = over_again c.loop-next.next (turn (goal.at.At-loop-next c).Start) (first (goal.at.At-loop-next c).Start) (sofar c) _ c.loop-next.invariant.1 e
+again c e = over_again c.loop-next.next (turn (goal.at.At-loop-next c).Start) (first (goal.at.At-loop-next c).Start)
+    (sofar c) _ c.loop-next.invariant.1 e
 
 -- both arrays keep their lengths
 longs : (c : At-loop-next) → (length c.loop-next.inputs ≡ 32) × (length c.loop-next.outputs ≡ 32)
@@ -51,8 +52,11 @@ longs c =
     let a = c.args in
     let given : length a.before ≡ 32 = search (rules, length_any) in
     let far : length a.earlier ≡ 32 = search (rules, length_any) in
-    let k = leaving_long a.config a.rows a.picks (first (goal.at.At-loop-next c).Start) 32 32 c.loop-next.next given far in
-    (ap (λ (t : Leaving). length t.inputs) c.loop-next.invariant.1 ∙ k.0, ap (λ (t : Leaving). length t.outputs) c.loop-next.invariant.1 ∙ k.1)
+    let k = leaving_long a.config a.rows a.picks (first (goal.at.At-loop-next c).Start) 32 32 c.loop-next.next given far in (
+      ap (λ (t : Leaving). length t.inputs) c.loop-next.invariant.1 ∙ k.0,
+      ap (λ (t : Leaving). length t.outputs) c.loop-next.invariant.1
+          ∙ k.1,
+    )
 
 -- the turn is one of the ports'
 turning : (c : In-loop-next) → (c.loop-next.next < c.args.config.ports)
@@ -99,7 +103,8 @@ loop-next-smaller-then-x-ge-CHANNEL_PLACES c =
 pub loop-next-preserved-then-x-ge-CHANNEL_PLACES : goal.loop-next-preserved-then-x-ge-CHANNEL_PLACES
 loop-next-preserved-then-x-ge-CHANNEL_PLACES c =
     let a = c.args in
-    let far : length c.loop-next.inputs ≤ c.winning-x.result = rw (longs (goal.at.loop-next-preserved-then-x-ge-CHANNEL_PLACES c).At-loop-next).0 c.if-x-ge-CHANNEL_PLACES.true in (
+    let far : length c.loop-next.inputs ≤ c.winning-x.result = rw (longs
+    (goal.at.loop-next-preserved-then-x-ge-CHANNEL_PLACES c).At-loop-next).0 c.if-x-ge-CHANNEL_PLACES.true in (
       more c.args.config.ports c.loop-next.next (turning (goal.at.loop-next-preserved-then-x-ge-CHANNEL_PLACES c).In-loop-next).0,
       again (goal.at.loop-next-preserved-then-x-ge-CHANNEL_PLACES c).At-loop-next
           (stays a.config a.rows a.picks c.loop-next.next c.winning-x.result c.winning-x.ensures
@@ -122,7 +127,8 @@ loop-next-preserved-in_default c =
     let w = (winner (goal.at.loop-next-preserved-in_default c).Else-x-ge-CHANNEL_PLACES).1 in (
       more c.args.config.ports c.loop-next.next (turning (goal.at.loop-next-preserved-in_default c).In-loop-next).0,
       again (goal.at.loop-next-preserved-in_default c).At-loop-next
-          (not_bound a.config a.rows a.picks (sofar (goal.at.loop-next-preserved-in_default c).At-loop-next) c.loop-next.next _ _ _ w.row refl w.pick refl w.on
+          (not_bound a.config a.rows a.picks (sofar (goal.at.loop-next-preserved-in_default c).At-loop-next) c.loop-next.next _ _ _ w.row
+          refl w.pick refl w.on
           c.in_default.is),
     )
 
@@ -169,10 +175,12 @@ pub loop-next-preserved-then-y-ge-CHANNEL_PLACES : goal.loop-next-preserved-then
 loop-next-preserved-then-y-ge-CHANNEL_PLACES c =
     let a = c.args in
     let w = (winner (goal.at.loop-next-preserved-then-y-ge-CHANNEL_PLACES c).Else-x-ge-CHANNEL_PLACES).1 in
-    let far : length c.loop-next.outputs ≤ c.number-y.result = rw (longs (goal.at.loop-next-preserved-then-y-ge-CHANNEL_PLACES c).At-loop-next).1 c.if-y-ge-CHANNEL_PLACES.true in (
+    let far : length c.loop-next.outputs ≤ c.number-y.result = rw (longs
+    (goal.at.loop-next-preserved-then-y-ge-CHANNEL_PLACES c).At-loop-next).1 c.if-y-ge-CHANNEL_PLACES.true in (
       more c.args.config.ports c.loop-next.next (turning (goal.at.loop-next-preserved-then-y-ge-CHANNEL_PLACES c).In-loop-next).0,
       again (goal.at.loop-next-preserved-then-y-ge-CHANNEL_PLACES c).At-loop-next
-          (leaves_past a.config a.rows a.picks (sofar (goal.at.loop-next-preserved-then-y-ge-CHANNEL_PLACES c).At-loop-next) c.loop-next.next _ _ _ w.row refl w.pick refl w.on _
+          (leaves_past a.config a.rows a.picks (sofar (goal.at.loop-next-preserved-then-y-ge-CHANNEL_PLACES c).At-loop-next)
+          c.loop-next.next _ _ _ w.row refl w.pick refl w.on _
           c.in-Bound.is c.ends_packet-last.ensures c.after_leaving.ensures
           c.let_go.ensures.0 c.let_go.ensures.1 c.let_go.ensures.2
           c.wide.ensures.value c.number-y.ensures far),
@@ -203,7 +211,8 @@ loop-next-preserved c =
     let w = (winner (goal.at.loop-next-preserved c).Else-x-ge-CHANNEL_PLACES).1 in (
       more c.args.config.ports c.loop-next.next (turning (goal.at.loop-next-preserved c).In-loop-next).0,
       again (goal.at.loop-next-preserved c).At-loop-next
-          (leaves_now a.config a.rows a.picks (sofar (goal.at.loop-next-preserved c).At-loop-next) c.loop-next.next _ _ _ w.row refl w.pick refl w.on _
+          (leaves_now a.config a.rows a.picks (sofar (goal.at.loop-next-preserved c).At-loop-next) c.loop-next.next _ _ _ w.row refl
+          w.pick refl w.on _
           c.in-Bound.is c.ends_packet-last.ensures c.after_leaving.ensures
           c.let_go.ensures.0 c.let_go.ensures.1 c.let_go.ensures.2 c.wide.ensures.value
           c.number-y.ensures c.after_taking.ensures),

@@ -9,7 +9,14 @@ use Rattle.router.proofs.leaving.leave.Given as goal
 
 abbrev pub invariant-loop-next : goal.invariant-loop-next
 invariant-loop-next l =
-    (l.next ≤ l.config.ports) × (◌≡◌ {A = Leaving} (record { inputs = l.inputs; outputs = l.outputs; store = l.store; home = l.home; left = l.left })
+    (l.next ≤ l.config.ports) × (◌≡◌ {A = Leaving} (record {
+      inputs = l.inputs;
+      outputs = l.outputs;
+      store = l.store;
+      home = l.home;
+      left
+          = l.left;
+    })
     (over_ports l.next (leave_turn l.config l.rows l.picks) (record
     { inputs = l.initial.inputs; outputs = l.initial.outputs; store = l.initial.store; home = l.initial.home; left = l.initial.left })))
 

@@ -37,8 +37,14 @@ overflow_cast-result-4 c = omega (arith, c.shared_slice_known-4-1.given (8 * c.a
 
 pub overflow_add-result-7 : goal.overflow_add-result-7
 overflow_add-result-7 c =
-    let at = 8 * c.args.i in omega
-    (arith, c.shared_slice_known-4-1.given (at + 4), c.shared_slice_known-4-1.given (at + 5), c.shared_slice_known-4-1.given (at + 6), c.shared_slice_known-4-1.given (at + 7))
+    let at = 8 * c.args.i in omega (
+      arith,
+      c.shared_slice_known-4-1.given (at + 4),
+      c.shared_slice_known-4-1.given (at + 5),
+      c.shared_slice_known-4-1.given
+          (at + 6),
+      c.shared_slice_known-4-1.given (at + 7),
+    )
 
 pub returns : goal.returns
 returns c = payload_is _ _

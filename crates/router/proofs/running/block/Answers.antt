@@ -27,7 +27,8 @@ outcome c f e = ap (λ (g : Found). meaning g c.judge-answer.result.place) (sym 
 
 pub cycles-requires : goal.cycles-requires
 cycles-requires c =
-    let h = cycles_held (bytes (goal.at.cycles-requires c).Start) (given (goal.at.cycles-requires c).Start) _ _ (outcome (goal.at.cycles-requires c).After-judge-answer _ c.in-Cycles.is) in
+    let h = cycles_held (bytes (goal.at.cycles-requires c).Start) (given (goal.at.cycles-requires c).Start) _ _ (outcome
+    (goal.at.cycles-requires c).After-judge-answer _ c.in-Cycles.is) in
     (record { sound = c.requires.1.sound; few = c.requires.1.few; room = c.requires.1.room }, h.whole, h.most, h.held)
 
 pub finish-requires : goal.finish-requires
@@ -38,7 +39,8 @@ refuse-requires c = c.requires.1.room
 
 pub returns-in-Configuration : goal.returns-in-Configuration
 returns-in-Configuration c =
-    absurd (true≢false (sym c.requires.0 ∙ (configuration_first (bytes (goal.at.returns-in-Configuration c).Start) (given (goal.at.returns-in-Configuration c).Start) _ _
+    absurd (true≢false (sym c.requires.0 ∙ (configuration_first (bytes (goal.at.returns-in-Configuration c).Start) (given
+    (goal.at.returns-in-Configuration c).Start) _ _
     (outcome (goal.at.returns-in-Configuration c).After-judge-answer _ c.in-Configuration.is)).0))
 
 pub returns-in-Cycles : goal.returns-in-Cycles
@@ -48,14 +50,17 @@ returns-in-Cycles c =
 
 pub returns-in-End : goal.returns-in-End
 returns-in-End c =
-    taken_end (bytes (goal.at.returns-in-End c).Start) (given (goal.at.returns-in-End c).Start) _ (outcome (goal.at.returns-in-End c).After-judge-answer _ c.in-End.is)
+    taken_end (bytes (goal.at.returns-in-End c).Start) (given (goal.at.returns-in-End c).Start) _ (outcome
+    (goal.at.returns-in-End c).After-judge-answer _ c.in-End.is)
 
 pub returns-in-Done : goal.returns-in-Done
 returns-in-Done c =
     c.finish.ensures c.args.config c.args.store.now c.args.wire.now c.args.home.now
-    ∙ taken_over (bytes (goal.at.returns-in-Done c).Start) (given (goal.at.returns-in-Done c).Start) _ (outcome (goal.at.returns-in-Done c).After-judge-answer _ c.in-Done.is)
+    ∙ taken_over (bytes (goal.at.returns-in-Done c).Start) (given (goal.at.returns-in-Done c).Start) _ (outcome
+    (goal.at.returns-in-Done c).After-judge-answer _ c.in-Done.is)
 
 pub returns-in-Refused : goal.returns-in-Refused
 returns-in-Refused c =
     c.refuse.ensures c.args.config c.args.store.now c.args.wire.now c.args.home.now
-    ∙ taken_refused (bytes (goal.at.returns-in-Refused c).Start) (given (goal.at.returns-in-Refused c).Start) _ _ _ (outcome (goal.at.returns-in-Refused c).After-judge-answer _ c.in-Refused.is)
+    ∙ taken_refused (bytes (goal.at.returns-in-Refused c).Start) (given (goal.at.returns-in-Refused c).Start) _ _ _ (outcome
+    (goal.at.returns-in-Refused c).After-judge-answer _ c.in-Refused.is)

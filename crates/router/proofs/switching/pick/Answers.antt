@@ -16,7 +16,8 @@ returns-in_default c = nobody_named c.choose-pick.result _ c.in_default.is c.cho
 low : (c : In-Winner) → c.in-Winner.w < 8
 low c =
     let a = c.args in
-    winner_low 8 a.code a.n (asks (record { set = a.set })) (of_narrow a.arbiter) c.choose-pick.result c.in-Winner.w c.in-Winner.is c.choose-pick.ensures
+    winner_low 8 a.code a.n (asks (record { set = a.set })) (of_narrow a.arbiter) c.choose-pick.result c.in-Winner.w c.in-Winner.is
+    c.choose-pick.ensures
 
 pub overflow_add-result : goal.overflow_add-result
 overflow_add-result c = let l = low c in record { fits = omega arith }

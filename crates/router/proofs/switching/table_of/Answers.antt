@@ -19,7 +19,8 @@ loop-next-preserved-then-pick-eq0 c =
     let a = c.args in (
       more a.config.ports c.loop-next.next c.loop-next-test.true,
       rows_same a.config a.inputs a.picks c.loop-next.table c.loop-next.next 8
-          c.loop-next.invariant.1 (no_pick a.config a.inputs c.loop-next.next (get_or a.picks c.loop-next.next 0) c.if-pick-eq0.true) (omega arith),
+          c.loop-next.invariant.1 (no_pick a.config a.inputs c.loop-next.next (get_or a.picks c.loop-next.next 0) c.if-pick-eq0.true)
+          (omega arith),
     )
 
 -- it picked a VC that there is not
@@ -30,7 +31,8 @@ loop-next-preserved-then-x-ge-CHANNEL_PLACES c =
     let far : length a.inputs ≤ c.number-x.result = rw long c.if-x-ge-CHANNEL_PLACES.true in (
       more a.config.ports c.loop-next.next c.loop-next-test.true,
       rows_same a.config a.inputs a.picks c.loop-next.table c.loop-next.next 8 c.loop-next.invariant.1
-          (past_the_end a.config a.inputs c.loop-next.next (get_or a.picks c.loop-next.next 0) c.if-pick-eq0.false c.wide.result c.wide.ensures.value
+          (past_the_end a.config a.inputs c.loop-next.next (get_or a.picks c.loop-next.next 0) c.if-pick-eq0.false c.wide.result
+          c.wide.ensures.value
           c.number-x.result c.number-x.ensures far) (omega arith),
     )
 
@@ -40,7 +42,8 @@ loop-next-preserved-then-o-ge-PORT_PLACES c =
     let a = c.args in (
       more a.config.ports c.loop-next.next c.loop-next-test.true,
       rows_same a.config a.inputs a.picks c.loop-next.table c.loop-next.next c.output_of-o.result
-          c.loop-next.invariant.1 (as_bound a.config a.inputs c.loop-next.next (get_or a.picks c.loop-next.next 0) c.if-pick-eq0.false c.wide.result c.wide.ensures.value
+          c.loop-next.invariant.1 (as_bound a.config a.inputs c.loop-next.next
+          (get_or a.picks c.loop-next.next 0) c.if-pick-eq0.false c.wide.result c.wide.ensures.value
           c.number-x.result c.number-x.ensures c.output_of-o.result c.output_of-o.ensures) c.if-o-ge-PORT_PLACES.true,
     )
 
@@ -50,7 +53,8 @@ loop-next-preserved c =
     let low : c.loop-next.next < 8 = let p = c.requires in omega arith in (
       more a.config.ports c.loop-next.next c.loop-next-test.true,
       rows_with a.config a.inputs a.picks c.loop-next.table c.loop-next.next c.output_of-o.result
-          c.loop-next.invariant.1 (as_bound a.config a.inputs c.loop-next.next (get_or a.picks c.loop-next.next 0) c.if-pick-eq0.false c.wide.result c.wide.ensures.value
+          c.loop-next.invariant.1 (as_bound a.config a.inputs c.loop-next.next
+          (get_or a.picks c.loop-next.next 0) c.if-pick-eq0.false c.wide.result c.wide.ensures.value
           c.number-x.result c.number-x.ensures c.output_of-o.result c.output_of-o.ensures) low c.if-o-ge-PORT_PLACES.false,
     )
 

@@ -43,8 +43,7 @@ loop-i-preserved c = (
       c.args.vcs j past_wide) (get_or
       c.args.inputs j past_narrow) (get_or
       c.args.outputs j past_narrow))
-      c.loop-i.invariant.2 (sym c.are_sound_of.ensures ∙ not-false
-      c.are_sound_of.result c.if-not-are_sound_of.false-raw),
+      c.loop-i.invariant.2 (sym c.are_sound_of.ensures ∙ c.if-not-are_sound_of.false),
 )
 
 pub returns : goal.returns

@@ -31,8 +31,7 @@ returns-then-not-are_none c =
     c.args.outputs
     c.loop-i.i
     c.loop-i.invariant.0
-    ∙ (sym c.are_none.ensures ∙ not-true c.are_none.result
-    c.if-not-are_none.true-raw))
+    ∙ (sym c.are_none.ensures ∙ c.if-not-are_none.true))
 
 pub loop-i-preserved : goal.loop-i-preserved
 loop-i-preserved c = (
@@ -49,8 +48,7 @@ loop-i-preserved c = (
       c.args.inputs
       c.args.outputs
       c.loop-i.i
-      c.loop-i.invariant.0 ∙ (sym c.are_none.ensures ∙ not-false
-      c.are_none.result c.if-not-are_none.false-raw)),
+      c.loop-i.invariant.0 ∙ (sym c.are_none.ensures ∙ c.if-not-are_none.false)),
 )
 
 pub returns : goal.returns

@@ -13,7 +13,8 @@ use Rattle.state.specs.Sound.{wire_legal, home_legal, line_unused, arbiters_unus
 use Rattle.state.proofs.Blank.{bounded_none, not_blank, wire_blank, home_blank, last_blank, rooms_are}
 use Rattle.state.proofs.Exact.{shape_is, length_any}
 use Rattle.state.proofs.blankness.is_blank.Goals as goal
-use Rattle.state.proofs.blankness.is_blank.Goals.{After-are_unused, After-are_unused-2, After-is_home_sound, After-is_wire_sound, After-none-none, Start}
+use Rattle.state.proofs.blankness.is_blank.Goals.{After-are_unused, After-are_unused-2, After-is_home_sound, After-is_wire_sound}
+use Rattle.state.proofs.blankness.is_blank.Goals.{After-none-none, Start}
 
 -- the arrays of a struct that is handed in are as long as they are declared
 inputs_long : (c : Start) → length c.args.router.inputs ≡ 32
@@ -115,7 +116,8 @@ returns c =
     (sym (home-said (goal.at.returns c).After-is_home_sound) ∙ c.if-not-is_home_sound.false)
     (sym (arbiters-said (goal.at.returns c).After-are_unused) ∙ c.if-not-are_unused.false)
     (sym (channels-said (goal.at.returns c).After-are_unused-2) ∙ c.if-not-are_unused-2.false)
-    (shape_is s (inputs_long (goal.at.returns c).Start) (outputs-long (goal.at.returns c).Start) (store_long (goal.at.returns c).Start) (wire-long (goal.at.returns c).Start) (home-long (goal.at.returns c).Start))
+    (shape_is s (inputs_long (goal.at.returns c).Start) (outputs-long (goal.at.returns c).Start) (store_long (goal.at.returns c).Start)
+    (wire-long (goal.at.returns c).Start) (home-long (goal.at.returns c).Start))
     (rooms_are s.arbiters (vcs-long (goal.at.returns c).Start) (ins-long (goal.at.returns c).Start) (outs-long (goal.at.returns c).Start))
 
 pub is_wire_sound-requires : goal.is_wire_sound-requires

@@ -20,5 +20,4 @@ pub returns : goal.returns
 returns c =
     c.is_output_named.ensures ∙ names_are c.args.config c.args.i c.args.v c.args.input
     c.args.output c.args.holder c.args.binding c.if-config-output.false
-    (sym c.is_input_named.ensures ∙ not-false c.is_input_named.result
-    c.if-not-is_input_named.false-raw)
+    (sym c.is_input_named.ensures ∙ c.if-not-is_input_named.false)

@@ -34,8 +34,7 @@ loop-x-preserved c = (
       c.args.inputs y (fresh_input 0)).queued
       c.args.store.now))
       c.loop-x.invariant.1 (sym c.are_empty_behind.ensures
-      ∙ not-false c.are_empty_behind.result
-      c.if-not-are_empty_behind.false-raw),
+      ∙ c.if-not-are_empty_behind.false),
 )
 
 pub returns : goal.returns

@@ -26,8 +26,7 @@ returns-then-not-is_port_sound c =
     c.args.config.vcs (channel_sound c.args.config
     c.args.inputs c.args.outputs
     c.args.store.now c.args.wire.now
-    c.args.home.now i)) (search rules) (sym c.is_port_sound.ensures ∙ not-true
-    c.is_port_sound.result c.if-not-is_port_sound.true-raw)
+    c.args.home.now i)) (search rules) (sym c.is_port_sound.ensures ∙ c.if-not-is_port_sound.true)
 
 pub loop-i-preserved : goal.loop-i-preserved
 loop-i-preserved c = (

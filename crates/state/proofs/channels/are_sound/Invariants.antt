@@ -9,7 +9,8 @@ use Rattle.state.proofs.channels.are_sound.Given as goal
 
 abbrev pub invariant-loop-i : goal.invariant-loop-i
 invariant-loop-i l =
-    (l.i ≤ l.config.ports) × (every l.i (λ (j : ℕ). every l.config.vcs (channel_sound l.config l.inputs l.outputs l.store l.wire l.home j)) ≡ true)
+    (l.i ≤ l.config.ports) × (every l.i (λ (j : ℕ). every l.config.vcs
+    (channel_sound l.config l.inputs l.outputs l.store l.wire l.home j)) ≡ true)
 
 abbrev pub decreases-loop-i : goal.decreases-loop-i
 decreases-loop-i l = l.config.ports - l.i

@@ -41,8 +41,7 @@ returns-then-not-is_output_unused c =
     every_fails 32 c.loop-x.x (unused_from (c.args.config.ports * c.args.config.vcs) c.args.inputs
     c.args.outputs) (search rules) (unused_is (c.args.config.ports * c.args.config.vcs) c.args.inputs
     c.args.outputs c.loop-x.x true false c.loop-x.invariant.0
-    (sym c.is_input_unused.ensures ∙ not-false c.is_input_unused.result
-    c.if-not-is_input_unused.false-raw) (sym c.is_output_unused.ensures
+    (sym c.is_input_unused.ensures ∙ c.if-not-is_input_unused.false) (sym c.is_output_unused.ensures
     ∙ c.if-not-is_output_unused.true))
 
 pub loop-x-preserved : goal.loop-x-preserved

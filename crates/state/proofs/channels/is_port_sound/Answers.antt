@@ -94,8 +94,7 @@ returns-then-not-is_input_sound c =
     (sym (names_pass-law c.args.config c.args.inputs c.args.outputs c.args.i c.loop-v.v
     c.bound_place-y.result c.held_place-z.result c.are_names_sound.result
     c.requires.0 c.bound_place-y.ensures.0 c.held_place-z.ensures.0
-    c.are_names_sound.ensures) ∙ not-false c.are_names_sound.result
-    c.if-not-are_names_sound.false-raw)) ∙ sym c.is_input_sound.ensures
+    c.are_names_sound.ensures) ∙ c.if-not-are_names_sound.false)) ∙ sym c.is_input_sound.ensures
     ∙ c.if-not-is_input_sound.true)
 
 pub loop-v-preserved : goal.loop-v-preserved
@@ -109,8 +108,7 @@ loop-v-preserved c =
           (sym (names_pass-law c.args.config c.args.inputs c.args.outputs c.args.i c.loop-v.v
           c.bound_place-y.result c.held_place-z.result c.are_names_sound.result
           c.requires.0 c.bound_place-y.ensures.0 c.held_place-z.ensures.0
-          c.are_names_sound.ensures) ∙ not-false c.are_names_sound.result
-          c.if-not-are_names_sound.false-raw)) ∙ sym c.is_input_sound.ensures
+          c.are_names_sound.ensures) ∙ c.if-not-are_names_sound.false)) ∙ sym c.is_input_sound.ensures
           ∙ c.if-not-is_input_sound.false),
     )
 

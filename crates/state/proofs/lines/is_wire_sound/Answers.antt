@@ -22,8 +22,7 @@ returns-then-not-is_wire_place c =
     (line_sound c.args.config.forward
     c.args.config.ports
     (wire_place_legal c.args.config)
-    c.args.wire.now) (search rules) (sym c.is_wire_place.ensures ∙ not-true
-    c.is_wire_place.result c.if-not-is_wire_place.true-raw)
+    c.args.wire.now) (search rules) (sym c.is_wire_place.ensures ∙ c.if-not-is_wire_place.true)
     ∙ line_is c.args.config.forward
     c.args.config.ports
     (wire_place_legal c.args.config) c.args.wire.now
@@ -37,8 +36,7 @@ loop-m-preserved c = (
       (wire_place_legal c.args.config)
       c.args.wire.now)
       c.loop-m.invariant.1 (sym c.is_wire_place.ensures
-      ∙ not-false c.is_wire_place.result
-      c.if-not-is_wire_place.false-raw),
+      ∙ c.if-not-is_wire_place.false),
 )
 
 pub returns : goal.returns

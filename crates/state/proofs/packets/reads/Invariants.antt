@@ -18,7 +18,8 @@ decreases-loop-k l = l.queued - l.k
 
 abbrev pub invariant-loop-j : goal.invariant-loop-j
 invariant-loop-j l =
-    (l.j ≤ l.forward) × ReadingWire l.forward l.wire l.i l.v (reading l.start (queue_at l.store l.base l.queued ++ wire_flits l.forward l.wire l.i l.v)) l.inside l.j
+    (l.j ≤ l.forward) × ReadingWire l.forward l.wire l.i l.v (reading l.start
+    (queue_at l.store l.base l.queued ++ wire_flits l.forward l.wire l.i l.v)) l.inside l.j
 
 abbrev pub decreases-loop-j : goal.decreases-loop-j
 decreases-loop-j l = l.forward - l.j

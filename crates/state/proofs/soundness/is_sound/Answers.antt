@@ -119,5 +119,6 @@ returns c =
     (sym c.are_sound.ensures ∙ c.if-not-are_sound.false)
     (sym c.are_unused.ensures ∙ c.if-not-are_unused.false)
     (sym c.are_unused-2.ensures ∙ c.if-not-are_unused-2.false)
-    (sym c.are_slots_empty.ensures ∙ not-false c.are_slots_empty.result
-    c.if-not-are_slots_empty.false-raw) (shape_is s (inputs_long (goal.at.returns c).Start) (outputs-long (goal.at.returns c).Start) (store_long (goal.at.returns c).Start) (wire-long (goal.at.returns c).Start) (home-long (goal.at.returns c).Start)))
+    (sym c.are_slots_empty.ensures ∙ c.if-not-are_slots_empty.false) (shape_is s (inputs_long (goal.at.returns c).Start) (outputs-long
+    (goal.at.returns c).Start) (store_long (goal.at.returns c).Start) (wire-long (goal.at.returns c).Start) (home-long
+    (goal.at.returns c).Start)))
