@@ -3,7 +3,8 @@
 use mathlib.Core.Path.{◌≡◌, refl, sym, ap, subst, ◌∙◌}
 use mathlib.Core.Logic.{◌⊎◌, inl, inr}
 use mathlib.Core.Bool.{Bool, true, false, cond, beq, ◌&&◌, ◌||◌, true≢false, false≢true}
-use mathlib.Core.Option.{some, none, some-injective, none-ne-some, some-ne-none}
+use Rattle.std.specs.Prelude.{Some, None}
+use Rattle.std.proofs.lemmas.Option.{same_Some, none-some}
 use Prim.Native.Nat.{ℕ, zero, suc, ◌+◌, ◌-◌, ◌/◌, ◌%◌, ◌^◌, ◌≤◌, ◌<◌}
 use native.Mathlib.Nat.{le_refl, not-suc-le-zero, pow-suc}
 use native.Mathlib.Omega.{arith}
@@ -114,17 +115,17 @@ first_later test k i w q f =
     go j h g true e = ap test (sym (eqb-true i j e)) ∙ q
     go j h g false e = f.before j (lt_of_le-ne h (eqb-false i j e)) g
 
-pub first_found : (test : ℕ → Bool) (k i w : ℕ) → first_from test k i ≡ some w → First test k i w
+pub first_found : (test : ℕ → Bool) (k i w : ℕ) → first_from test k i ≡ Some w → First test k i w
 unfolding first_from
-first_found test zero i w e = absurd (none-ne-some w e)
+first_found test zero i w e = absurd (none-some w e)
 first_found test (suc k) i w e = go (test i) refl e (λ q. first_found test k (suc i) w q)
   where
-    go : (b : Bool) → test i ≡ b → cond b (some i) (first_from test k (suc i)) ≡ some w
-        → (first_from test k (suc i) ≡ some w → First test k (suc i) w) → First test (suc k) i w
-    go true q f rest = subst (First test (suc k) i) (some-injective i w f) (first_here test k i q)
+    go : (b : Bool) → test i ≡ b → cond b (Some i) (first_from test k (suc i)) ≡ Some w
+        → (first_from test k (suc i) ≡ Some w → First test k (suc i) w) → First test (suc k) i w
+    go true q f rest = subst (First test (suc k) i) (same_Some i w f) (first_here test k i q)
     go false q f rest = first_later test k i w q (rest f)
 
-pub first_at : (test : ℕ → Bool) (k i w : ℕ) → First test k i w → first_from test k i ≡ some w
+pub first_at : (test : ℕ → Bool) (k i w : ℕ) → First test k i w → first_from test k i ≡ Some w
 unfolding first_from
 first_at test zero i w f = absurd (let p = f.from in let q = f.below in omega arith)
 first_at test (suc k) i w f = go (test i) refl (first_at test k (suc i) w)
@@ -132,9 +133,9 @@ first_at test (suc k) i w f = go (test i) refl (first_at test k (suc i) w)
     later : test i ≡ false → i < w
     later q = lt_of_le-ne f.from (λ e. true≢false (sym f.passes ∙ ap test (sym e) ∙ q))
 
-    go : (b : Bool) → test i ≡ b → (First test k (suc i) w → first_from test k (suc i) ≡ some w)
-        → cond b (some i) (first_from test k (suc i)) ≡ some w
-    go true q rest = ap some (reached (eqb i w) refl)
+    go : (b : Bool) → test i ≡ b → (First test k (suc i) w → first_from test k (suc i) ≡ Some w)
+        → cond b (Some i) (first_from test k (suc i)) ≡ Some w
+    go true q rest = ap Some (reached (eqb i w) refl)
       where
         reached : (b : Bool) → eqb i w ≡ b → i ≡ w
         reached true e = eqb-true i w e
@@ -147,21 +148,21 @@ first_at test (suc k) i w f = go (test i) refl (first_at test k (suc i) w)
           before = λ j h g. f.before j (omega arith) g;
         })
 
-pub first_none : (test : ℕ → Bool) (k i : ℕ) → ((j : ℕ) → i ≤ j → j < i + k → test j ≡ false) → first_from test k i ≡ none
+pub first_none : (test : ℕ → Bool) (k i : ℕ) → ((j : ℕ) → i ≤ j → j < i + k → test j ≡ false) → first_from test k i ≡ None
 unfolding first_from
 first_none test zero i f = refl
 first_none test (suc k) i f =
-    ap (λ (b : Bool). cond b (some i) (first_from test k (suc i))) (f i (le_refl i) (omega arith))
+    ap (λ (b : Bool). cond b (Some i) (first_from test k (suc i))) (f i (le_refl i) (omega arith))
     ∙ first_none test k (suc i) (λ j h g. f j (omega arith) (omega arith))
 
-pub first_missing : (test : ℕ → Bool) (k i : ℕ) → first_from test k i ≡ none → (j : ℕ) → i ≤ j → j < i + k → test j ≡ false
+pub first_missing : (test : ℕ → Bool) (k i : ℕ) → first_from test k i ≡ None → (j : ℕ) → i ≤ j → j < i + k → test j ≡ false
 unfolding first_from
 first_missing test zero i e j h g = absurd (omega arith)
 first_missing test (suc k) i e j h g = go (test i) refl e (λ q. first_missing test k (suc i) q j)
   where
-    go : (b : Bool) → test i ≡ b → cond b (some i) (first_from test k (suc i)) ≡ none
-        → (first_from test k (suc i) ≡ none → suc i ≤ j → j < suc i + k → test j ≡ false) → test j ≡ false
-    go true q f rest = absurd (some-ne-none i f)
+    go : (b : Bool) → test i ≡ b → cond b (Some i) (first_from test k (suc i)) ≡ None
+        → (first_from test k (suc i) ≡ None → suc i ≤ j → j < suc i + k → test j ≡ false) → test j ≡ false
+    go true q f rest = absurd (none-some i (sym f))
     go false q f rest = at (eqb i j) refl
       where
         at : (b : Bool) → eqb i j ≡ b → test j ≡ false
@@ -172,8 +173,8 @@ pub first_ext : (f g : ℕ → Bool) (k i : ℕ) → ((j : ℕ) → i ≤ j → 
 unfolding first_from
 first_ext f g zero i same = refl
 first_ext f g (suc k) i same =
-    ap (λ (b : Bool). cond b (some i) (first_from f k (suc i))) (same i (le_refl i) (omega arith))
-    ∙ ap (cond (g i) (some i)) (first_ext f g k (suc i) (λ j h l. same j (omega arith) (omega arith)))
+    ap (λ (b : Bool). cond b (Some i) (first_from f k (suc i))) (same i (le_refl i) (omega arith))
+    ∙ ap (cond (g i) (Some i)) (first_ext f g k (suc i) (λ j h l. same j (omega arith) (omega arith)))
 
 -- `trailing_zeros` of a word that is not 0: its first bit
 pub trailing_first : (k x : ℕ) → x < 2 ^ k → 0 < x → First (bit x) k 0 (count_trailing_zeros k x)

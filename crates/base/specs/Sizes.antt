@@ -1,11 +1,10 @@
 -- "Sizes" (01): the configuration, its fields with their bounds, and the largest sizes there are.
 -- Assumes nothing.
 use Rattle.std.specs.Prelude.{Bool, cond, ◌&&◌, List, [], ◌∷◌, ℕ, suc, ◌≤◌, leb}
-use Rattle.std.proofs.Math.Option.{Option, some, none}
+use Rattle.std.specs.Prelude.{Option, Some, None, Ok}
 use Rattle.base.specs.Numbers as numbers
 use Rattle.base.specs.declared.config.Config.{Config}
-use Rattle.base.specs.declared.config.Judged.{Judged}
-use Rattle.base.specs.declared.config.Judged.TheVariants.{Legal, Illegal}
+use Rattle.base.specs.Refusal.{Verdict, refusing}
 
 -- "Ports P 1..8. VCs per port V 1..4."
 abbrev pub most_ports : ℕ
@@ -68,27 +67,14 @@ in_range f = leb f.least f.value && leb f.value f.most
 
 -- the number of the first field out of its range, where they are counted from k
 unfoldable pub first_illegal : ℕ → List Field → Option ℕ
-first_illegal k [] = none
-first_illegal k (f ∷ fs) = cond (in_range f) (first_illegal (suc k) fs) (some k)
+first_illegal k [] = None
+first_illegal k (f ∷ fs) = cond (in_range f) (first_illegal (suc k) fs) (Some k)
 
 -- "configuration value out of range; the first such field, 1..7"
 unfoldable pub illegal_field : Config → Option ℕ
 illegal_field c = first_illegal 1 (fields_of c)
 
--- the field that an answer names: none where the configuration is legal
-abbrev pub field_of : Judged → Option ℕ
-field_of Legal = none
-field_of (Illegal k) = some k
-
--- What a judgement gives back: 0, or 1 with the field.
-pub record ConfigOutcome : Type 0 where
-  pub number : ℕ
-  pub field : ℕ
-
-abbrev pub numbered : Option ℕ → ConfigOutcome
-numbered none = record { number = numbers.done; field = 0 }
-numbered (some k) = record { number = numbers.configuration_wrong; field = k }
-
--- the number and the field that an answer stands for
-abbrev pub config_outcome : Judged → ConfigOutcome
-config_outcome j = numbered (field_of j)
+-- the verdict on a configuration: 0, "done", or 1 with the field
+abbrev pub judged : Option ℕ → Verdict
+judged None = Ok tt
+judged (Some k) = refusing numbers.configuration_wrong k

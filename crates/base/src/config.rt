@@ -1,11 +1,14 @@
 // The configuration, and the one test that it is legal.
-ghost use Rattle.std.specs.Prelude.{◌≡◌};
-ghost use Rattle.base.specs.Sizes.{no_config, field, in_range, illegal_field, numbered, config_outcome};
+ghost use Rattle.std.specs.Prelude.{◌≡◌, [], ◌∷◌};
+ghost use Rattle.base.specs.Sizes.{no_config, illegal_field, first_illegal, judged};
+ghost use Rattle.base.specs.Sizes.{field as numbered};
 
 use crate::bounds::{PORTS, VCS};
+use crate::numbers::CONFIGURATION_WRONG;
+use crate::refusal::Refusal;
 
 // "Ports P", "VCs per port V", "Input depth D", "Downstream depth E", "Forward delay F", "credit delay B", "Arbiter code".
-#[derive(Clone, Copy)]
+#[derive(Clone, Copy, PartialEq, Eq)]
 pub struct Config {
     pub ports: u8,
     pub vcs: u8,
@@ -16,21 +19,18 @@ pub struct Config {
     pub arbiter: u8,
 }
 
-// Legal, or "the first such field, 1..7" that is out of its range.
-#[derive(Clone, Copy)]
-pub enum Judged {
-    Legal,
-    Illegal(u8),
-}
-
-// Whether a value is in its range.
-fn within(value: u8, least: u8, most: u8) -> bool
-    ensures { result ≡ in_range (field value least most) }
+// Refuses the k-th field where its value is out of its range.
+#[tactic(auto, unfolding(crate::specs::Sizes::first_illegal, crate::specs::Sizes::in_range))]
+fn field(k: u8, value: u8, least: u8, most: u8) -> Result<(), Refusal>
+    ensures { result ≡ judged (first_illegal k (numbered value least most ∷ [])) }
 {
-    if value < least {
-        return false;
+    if value < least || most < value {
+        return Err(Refusal {
+            number: CONFIGURATION_WRONG,
+            place: k,
+        });
     }
-    value <= most
+    Ok(())
 }
 
 impl Config {
@@ -49,31 +49,17 @@ impl Config {
         }
     }
 
-    // 0, or 1 with the first field, counted from 1, that is out of its range.
-    pub fn judged(self) -> Judged
-        ensures { config_outcome result ≡ numbered (illegal_field self) }
+    // Refused with 1 and the first field, counted from 1, that is out of its range.
+    #[tactic(auto, unfolding(crate::specs::Sizes::first_illegal, crate::specs::Sizes::illegal_field))]
+    pub fn judged(self) -> Result<(), Refusal>
+        ensures { result ≡ judged (illegal_field self) }
     {
-        if !within(self.ports, 1, PORTS) {
-            return Judged::Illegal(1);
-        }
-        if !within(self.vcs, 1, VCS) {
-            return Judged::Illegal(2);
-        }
-        if !within(self.depth, 1, 16) {
-            return Judged::Illegal(3);
-        }
-        if !within(self.downstream, 1, 16) {
-            return Judged::Illegal(4);
-        }
-        if !within(self.forward, 1, 8) {
-            return Judged::Illegal(5);
-        }
-        if !within(self.back, 1, 8) {
-            return Judged::Illegal(6);
-        }
-        if !within(self.arbiter, 1, 2) {
-            return Judged::Illegal(7);
-        }
-        Judged::Legal
+        field(1, self.ports, 1, PORTS)?;
+        field(2, self.vcs, 1, VCS)?;
+        field(3, self.depth, 1, 16)?;
+        field(4, self.downstream, 1, 16)?;
+        field(5, self.forward, 1, 8)?;
+        field(6, self.back, 1, 8)?;
+        field(7, self.arbiter, 1, 2)
     }
 }

@@ -12,13 +12,14 @@ pub const TAIL: u8 = 3;
 
 pub const SINGLE: u8 = 4;
 
-#[derive(Clone, Copy)]
+#[derive(Clone, Copy, PartialEq, Eq)]
 pub struct Flit {
     pub word: u64,
 }
 
 impl Flit {
     // The flit of a row: its kind, the port that it names (0 on B and T) and its payload.
+    #[tactic(auto, unfolding(crate::specs::Flit::flit_of))]
     pub fn new(kind: u8, destination: u8, payload: u32) -> Self
         ensures { result ≡ flit_of kind destination payload }
     {
@@ -30,6 +31,7 @@ impl Flit {
     }
 
     // 0 in an empty slot.
+    #[tactic(auto, unfolding(crate::specs::Flit::kind_of))]
     pub fn kind(self) -> u8
         ensures { result ≡ kind_of self }
     {
@@ -37,6 +39,7 @@ impl Flit {
     }
 
     // The output port that a head or a single names.
+    #[tactic(auto, unfolding(crate::specs::Flit::destination_of))]
     pub fn destination(self) -> u8
         ensures { result ≡ destination_of self }
     {
@@ -44,6 +47,7 @@ impl Flit {
     }
 
     // The payload, which the router only carries.
+    #[tactic(auto, unfolding(crate::specs::Flit::payload_of))]
     pub fn payload(self) -> u32
         ensures { result ≡ payload_of self }
     {
@@ -52,34 +56,31 @@ impl Flit {
 }
 
 // Whether a packet starts with a flit of this kind: H or S.
+#[tactic(auto, unfolding(crate::specs::Flit::starts_kind))]
 pub fn starts(kind: u8) -> bool
     ensures { result ≡ starts_kind kind }
 {
-    kind == HEAD || kind == SINGLE
+    matches!(kind, HEAD | SINGLE)
 }
 
 // Whether a packet ends with a flit of this kind: T or S.
+#[tactic(auto, unfolding(crate::specs::Flit::ends_kind))]
 pub fn ends(kind: u8) -> bool
     ensures { result ≡ ends_kind kind }
 {
-    kind == TAIL || kind == SINGLE
+    matches!(kind, TAIL | SINGLE)
 }
 
 // The letter of a kind in the list; 0 for a number that is no kind.
+#[tactic(auto, unfolding(crate::specs::Flit::letter_of))]
 pub fn letter(kind: u8) -> u8
     ensures { result ≡ letter_of kind }
 {
-    if kind == HEAD {
-        return b'H';
+    match kind {
+        HEAD => b'H',
+        BODY => b'B',
+        TAIL => b'T',
+        SINGLE => b'S',
+        _ => 0,
     }
-    if kind == BODY {
-        return b'B';
-    }
-    if kind == TAIL {
-        return b'T';
-    }
-    if kind == SINGLE {
-        return b'S';
-    }
-    0
 }

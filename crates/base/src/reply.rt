@@ -2,20 +2,8 @@
 ghost use Rattle.std.specs.Prelude.{◌≡◌};
 ghost use Rattle.base.specs.Reply.{empty_reply};
 
-// The VC whose credit reached the sender of an input.
-#[derive(Clone, Copy)]
-pub enum Reached {
-    Nothing,
-    Vc(u8),
-}
-
-#[derive(Clone, Copy)]
-pub struct Sender {
-    pub reached: Reached,
-}
-
 // A flit that left: on which VC of its output, from which input and VC, of which kind, with which payload.
-#[derive(Clone, Copy)]
+#[derive(Clone, Copy, PartialEq, Eq)]
 pub struct Departure {
     pub out_vc: u8,
     pub input: u8,
@@ -24,22 +12,11 @@ pub struct Departure {
     pub payload: u32,
 }
 
-// What left by an output.
-#[derive(Clone, Copy)]
-pub enum Left {
-    Nothing,
-    Flit(Departure),
-}
-
-#[derive(Clone, Copy)]
-pub struct Output {
-    pub left: Left,
-}
-
-#[derive(Clone, Copy)]
+// For each input the VC whose credit reached its sender, for each output the flit that left.
+#[derive(Clone, Copy, PartialEq, Eq)]
 pub struct Reply {
-    pub senders: [Sender; 8],
-    pub outputs: [Output; 8],
+    pub senders: [Option<u8>; 8],
+    pub outputs: [Option<Departure>; 8],
 }
 
 impl Reply {
@@ -48,12 +25,8 @@ impl Reply {
         ensures { result ≡ empty_reply }
     {
         Reply {
-            senders: [Sender {
-                reached: Reached::Nothing,
-            }; 8],
-            outputs: [Output {
-                left: Left::Nothing,
-            }; 8],
+            senders: [None; 8],
+            outputs: [None; 8],
         }
     }
 }

@@ -1,7 +1,0 @@
--- `base::Config::none` meets its contract. Written out, so that a wrong program is refused at the fact.
--- Assumes nothing.
-use mathlib.Core.Path.{refl}
-use Rattle.base.proofs.config.Config.none.Goals as goal
-
-pub returns : goal.returns
-returns c = refl
