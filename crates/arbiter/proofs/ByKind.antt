@@ -4,7 +4,7 @@ use mathlib.Core.Path.{◌≡◌, refl, sym, ap, ap₂, ◌∙◌}
 use mathlib.Core.Logic.{◌⊎◌, inl, inr}
 use mathlib.Core.Bool.{Bool, true, false, cond, not, ◌&&◌, ◌||◌, and-true, and-false, or-true}
 use mathlib.Core.List.{List}
-use mathlib.Core.Option.{none}
+use Rattle.std.specs.Prelude.{None}
 use Prim.Native.Nat.{ℕ, ◌-◌, ◌%◌, ◌^◌, ◌≤◌, ◌<◌}
 use native.Mathlib.Nat.{mod-lt}
 use native.Mathlib.Omega.{arith}
@@ -18,7 +18,8 @@ use Rattle.base.proofs.Bits.{bit_mod}
 use Rattle.base.proofs.Search.{both, every_ext, first_ext}
 use Rattle.arbiter.specs.RoundRobin.{next_in_turn, pointer_after}
 use Rattle.arbiter.specs.Matrix.{beats, beats_every_other, champion, defeated, fresh_rows, total_order, within, blank_from}
-use Rattle.arbiter.specs.Arbiter.{Arbiter, known, usable, choice, moved, fresh, sound, arbiter_of}
+use Rattle.arbiter.specs.declared.Arbiter.{Arbiter}
+use Rattle.arbiter.specs.Arbiter.{known, usable, choice, moved, fresh, sound, arbiter_of}
 
 -- ---- what is given
 
@@ -32,7 +33,11 @@ unfolding known
 known_is places code n e =
     let p = both (eqb code 1 || eqb code 2) (leb 1 n && leb n places) e in
     let q = both (leb 1 n) (leb n places) p.1 in
-    record { some = leb-true 1 n q.0; room = leb-true n places q.1; kind = go (eqb code 1) refl p.0 }
+    record {
+      some = leb-true 1 n q.0;
+      room = leb-true n places q.1;
+      kind = go (eqb code 1) refl p.0;
+    }
   where
     go : (b : Bool) → eqb code 1 ≡ b → (b || eqb code 2) ≡ true → (code ≡ 1) ⊎ (code ≡ 2)
     go true f r = inl (eqb-true code 1 f)
@@ -40,7 +45,8 @@ known_is places code n e =
 
 pub known_holds : (places code n : ℕ) → Known places code n → known places code n ≡ true
 unfolding known
-known_holds places code n k = ap₂ ◌&&◌ (go k.kind) (ap₂ ◌&&◌ (le-leb 1 n k.some) (le-leb n places k.room))
+known_holds places code n k =
+    ap₂ ◌&&◌ (go k.kind) (ap₂ ◌&&◌ (le-leb 1 n k.some) (le-leb n places k.room))
   where
     go : (code ≡ 1) ⊎ (code ≡ 2) → (eqb code 1 || eqb code 2) ≡ true
     go (inl e) = rw (eq-eqb code 1 e)
@@ -60,6 +66,10 @@ unfolding usable
 usable_is places code n pointer e =
     let p = both (known places code n) (not (eqb code 1) || ltb pointer n) e in
     (p.0, λ one. ltb-true pointer n (ap (λ (b : Bool). not b || ltb pointer n) (sym (eq-eqb code 1 one)) ∙ p.1))
+
+-- so the width is some, and fits the room
+pub usable_fits : (places code n pointer : ℕ) → usable places code n pointer ≡ true → (1 ≤ n) × (n ≤ places)
+usable_fits places code n pointer e = let k = known_is places code n (usable_is places code n pointer e).0 in (k.some, k.room)
 
 pub usable_holds : (places code n pointer : ℕ) → Known places code n → (code ≡ 1 → pointer < n) → usable places code n pointer ≡ true
 unfolding usable
@@ -91,14 +101,14 @@ masked_lt n word = mod-lt word (pow_pos n)
 -- ---- the choice
 
 -- requests that agree below the width give the same choice
-pub choice_same : (places code n : ℕ) (f g : ℕ → Bool) (a : Arbiter) → ((i : ℕ) → i < n → f i ≡ g i)
+pub choice_same : (places code n : ℕ) (f g : ℕ → Bool) (a : Arbiter places) → ((i : ℕ) → i < n → f i ≡ g i)
     → choice places code n f a ≡ choice places code n g a
 unfolding choice
 choice_same places code n f g a same = go (usable places code n a.pointer) refl
   where
     go : (b : Bool) → usable places code n a.pointer ≡ b
-        → cond b (cond (eqb code 1) (next_in_turn n f a.pointer) (champion n f a.rows)) none
-        ≡ cond b (cond (eqb code 1) (next_in_turn n g a.pointer) (champion n g a.rows)) none
+        → cond b (cond (eqb code 1) (next_in_turn n f a.pointer) (champion n f a.rows)) None
+        ≡ cond b (cond (eqb code 1) (next_in_turn n g a.pointer) (champion n g a.rows)) None
     go true e = kind (eqb code 1) refl
       where
         kind : (d : Bool) → eqb code 1 ≡ d
@@ -109,8 +119,8 @@ choice_same places code n f g a same = go (usable places code n a.pointer) refl
         kind false q = champion_ext n f g a.rows same
     go false e = refl
 
-module _ (places code n word : ℕ) (a : Arbiter) where
-  pub choice_unusable : usable places code n a.pointer ≡ false → none ≡ choice places code n (bit word) a
+module _ (places code n word : ℕ) (a : Arbiter places) where
+  pub choice_unusable : usable places code n a.pointer ≡ false → None ≡ choice places code n (bit word) a
   unfolding choice
   choice_unusable e = rw e
 
@@ -129,7 +139,7 @@ module _ (places code n word : ℕ) (a : Arbiter) where
 
 -- ---- the move
 
-module _ (places code n w : ℕ) (a : Arbiter) where
+module _ (places code n w : ℕ) (a : Arbiter places) where
   pub moved_unusable : usable places code n a.pointer ≡ false → a ≡ moved places code n w a
   unfolding moved
   moved_unusable e = rw e
@@ -139,12 +149,12 @@ module _ (places code n w : ℕ) (a : Arbiter) where
   moved_nobody h = rw (le-ltb w n h, and-false (usable places code n a.pointer))
 
   pub moved_turn : usable places code n a.pointer ≡ true → w < n → code ≡ 1
-      → ◌≡◌ {A = Arbiter} (arbiter_of (pointer_after n w) a.rows) (moved places code n w a)
+      → ◌≡◌ {A = Arbiter places} (arbiter_of (pointer_after n w) a.rows) (moved places code n w a)
   unfolding moved
   moved_turn e h k = rw (e, lt-ltb w n h, eq-eqb code 1 k)
 
   pub moved_defeat : usable places code n a.pointer ≡ true → w < n → (code ≡ 1 → ⊥)
-      → ◌≡◌ {A = Arbiter} (arbiter_of a.pointer (defeated n w a.rows)) (moved places code n w a)
+      → ◌≡◌ {A = Arbiter places} (arbiter_of a.pointer (defeated n w a.rows)) (moved places code n w a)
   unfolding moved
   moved_defeat e h k = rw (e, lt-ltb w n h, ne_eqb code 1 k)
 
@@ -165,13 +175,13 @@ module _ (places code n : ℕ) where
 
   -- the rows are all that is to be made
   pub fresh_is : (rows : List ℕ) → rows ≡ (fresh places code n).rows
-      → ◌≡◌ {A = Arbiter} (arbiter_of 0 rows) (fresh places code n)
+      → ◌≡◌ {A = Arbiter places} (arbiter_of 0 rows) (fresh places code n)
   unfolding fresh
   fresh_is rows e = ap (λ (l : List ℕ). arbiter_of 0 l) e
 
 -- ---- sound
 
-module _ (places code n : ℕ) (a : Arbiter) where
+module _ (places code n : ℕ) (a : Arbiter places) where
   pub sound_unknown : known places code n ≡ false → false ≡ sound places code n a
   unfolding sound
   sound_unknown e = rw e

@@ -3,7 +3,7 @@
 use mathlib.Core.Path.{◌≡◌, refl, sym, ap, ap₂, ◌∙◌}
 use mathlib.Core.Bool.{Bool, true, false, not, ◌&&◌, ◌||◌, and-true, and-false, or-true, or-false}
 use mathlib.Core.List.{List}
-use mathlib.Core.Option.{some, none}
+use Rattle.std.specs.Prelude.{Some, None}
 use Prim.Native.Nat.{ℕ, ◌-◌, ◌^◌, ◌≤◌, ◌<◌}
 use native.Mathlib.Nat.{lt_of_lt_of_le, lt_of_le_of_lt}
 use native.Mathlib.Omega.{arith}
@@ -81,7 +81,7 @@ module _ (n asking : ℕ) (rows : List ℕ) (left : ℕ) (w : n ≤ 32) (h : ask
     asks : bit asking (count_trailing_zeros 32 left) ≡ true
     asks = t.among (count_trailing_zeros 32 left) trying_first.passes
 
-    pub trying_wins : covered asking rows (count_trailing_zeros 32 left) ≡ asking → some (count_trailing_zeros 32 left) ≡ champion n (bit asking) rows
+    pub trying_wins : covered asking rows (count_trailing_zeros 32 left) ≡ asking → Some (count_trailing_zeros 32 left) ≡ champion n (bit asking) rows
     trying_wins e =
         sym (first_at (λ (j : ℕ). bit left j && beats_every_other n (bit asking) rows j) n 0 (count_trailing_zeros 32 left)
         (record {
@@ -118,7 +118,7 @@ module _ (n asking : ℕ) (rows : List ℕ) (left : ℕ) (w : n ≤ 32) (h : ask
             ap (λ (b : Bool). b && beats_every_other n (bit asking) rows j)
             (bit_take left i j trying_first.passes ∙ ap (λ (b : Bool). bit left j && not b) e ∙ and-true (bit left j))
 
-pub trying_none : (n asking : ℕ) (rows : List ℕ) (left : ℕ) → Trying n asking rows left → left ≡ 0 → none ≡ champion n (bit asking) rows
+pub trying_none : (n asking : ℕ) (rows : List ℕ) (left : ℕ) → Trying n asking rows left → left ≡ 0 → None ≡ champion n (bit asking) rows
 trying_none n asking rows left t e =
     sym (first_none (λ (j : ℕ). bit left j && beats_every_other n (bit asking) rows j) n 0
     (λ j l g. ap (λ (b : Bool). b && beats_every_other n (bit asking) rows j) (ap (λ (x : ℕ). bit x j) e ∙ bit_zero j))) ∙ t.rest

@@ -19,7 +19,7 @@ use Rattle.base.proofs.Count.{count, count_ext, count_lt, count_more, count_all,
 use Rattle.base.proofs.Search.{neither}
 use Rattle.arbiter.specs.Matrix.{beats}
 use Rattle.arbiter.proofs.Ranks.{rank_of}
-use Rattle.arbiter.proofs.Top.{Top, None, top}
+use Rattle.arbiter.proofs.Top.{Top, NoneOf, top}
 use Rattle.arbiter.proofs.TotalOrder.{Order}
 
 -- the word of the requesters of the first r ranks
@@ -160,7 +160,7 @@ module _ (n : ℕ) (rows : List ℕ) (at : ℕ → ℕ) (o : Order n rows) (narr
       S : ℕ → Bool
       S = bit (ranks_below at r)
 
-      go : None (λ (x : ℕ). not (S x)) n ⊎ ((m : ℕ) × Top beaten_by (λ (x : ℕ). not (S x)) n m) → Link rows at r × Lowest (suc r)
+      go : NoneOf (λ (x : ℕ). not (S x)) n ⊎ ((m : ℕ) × Top beaten_by (λ (x : ℕ). not (S x)) n m) → Link rows at r × Lowest (suc r)
       go (inl none) = absurd (let e = sym low.many ∙ count_all S n (λ i l. not-false (S i) (none i l)) in omega arith)
       go (inr (m, q)) = (
         record { row = ap (λ (i : ℕ). get_or rows i 0) named ∙ row; new = ap S named ∙ not-true (S m) q.passes },

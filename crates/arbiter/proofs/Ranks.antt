@@ -3,8 +3,7 @@
 use mathlib.Core.Path.{◌≡◌, refl, sym, ap, subst, ◌∙◌}
 use mathlib.Core.Bool.{Bool, true, false}
 use mathlib.Core.List.{List}
-use Prim.Native.Nat.{ℕ, ◌+◌, ◌%◌, ◌≤◌, ◌<◌}
-use native.Mathlib.Nat.{mod-eq_of_lt}
+use Prim.Native.Nat.{ℕ, ◌+◌, ◌≤◌, ◌<◌}
 use native.Mathlib.Omega.{arith}
 use lib.Arith.{lt_of_le-ne}
 use lib.Count.{ones}
@@ -29,10 +28,10 @@ ranked_none n rows h =
 
 -- one row more
 pub ranked_more : (n : ℕ) (rows at : List ℕ) (i : ℕ) → n ≤ 32 → i < n → rank_of rows i < 33 → Ranked n rows at i
-    → Ranked n rows (set at (rank_of rows i) (i % 256)) (i + 1)
+    → Ranked n rows (set at (rank_of rows i) i) (i + 1)
 ranked_more n rows at i w h r t =
     record {
-      room = length-set at (rank_of rows i) (i % 256) ∙ t.room;
+      room = length-set at (rank_of rows i) i ∙ t.room;
       inside = λ k. inside k (eqb k (rank_of rows i)) refl;
       same = λ k l. same k l (eqb (rank_of rows k) (rank_of rows i)) refl (eqb k i) refl;
     }
@@ -40,24 +39,21 @@ ranked_more n rows at i w h r t =
     fits : rank_of rows i < length at
     fits = let e = t.room in omega arith
 
-    small : i % 256 ≡ i
-    small = mod-eq_of_lt (omega arith)
+    here : get_or (set at (rank_of rows i) i) (rank_of rows i) 0 ≡ i
+    here = get_or-set_same at (rank_of rows i) i 0 fits
 
-    here : get_or (set at (rank_of rows i) (i % 256)) (rank_of rows i) 0 ≡ i
-    here = get_or-set_same at (rank_of rows i) (i % 256) 0 fits ∙ small
-
-    inside : (k : ℕ) (b : Bool) → eqb k (rank_of rows i) ≡ b → get_or (set at (rank_of rows i) (i % 256)) k 0 < n
+    inside : (k : ℕ) (b : Bool) → eqb k (rank_of rows i) ≡ b → get_or (set at (rank_of rows i) i) k 0 < n
     inside k true e =
-        subst (λ (x : ℕ). x < n) (sym (ap (λ (m : ℕ). get_or (set at (rank_of rows i) (i % 256)) m 0) (eqb-true k (rank_of rows i) e) ∙ here)) h
+        subst (λ (x : ℕ). x < n) (sym (ap (λ (m : ℕ). get_or (set at (rank_of rows i) i) m 0) (eqb-true k (rank_of rows i) e) ∙ here)) h
     inside k false e =
-        subst (λ (x : ℕ). x < n) (sym (get_or-set_other at (rank_of rows i) k (i % 256) 0 (eqb-false k (rank_of rows i) e))) (t.inside k)
+        subst (λ (x : ℕ). x < n) (sym (get_or-set_other at (rank_of rows i) k i 0 (eqb-false k (rank_of rows i) e))) (t.inside k)
 
     same : (k : ℕ) → k < i + 1 → (b : Bool) → eqb (rank_of rows k) (rank_of rows i) ≡ b → (d : Bool) → eqb k i ≡ d
-        → rank_of rows (get_or (set at (rank_of rows i) (i % 256)) (rank_of rows k) 0) ≡ rank_of rows k
+        → rank_of rows (get_or (set at (rank_of rows i) i) (rank_of rows k) 0) ≡ rank_of rows k
     same k l true e d f =
         let q : rank_of rows k ≡ rank_of rows i = eqb-true (rank_of rows k) (rank_of rows i) e in
-        ap (rank_of rows) (ap (λ (m : ℕ). get_or (set at (rank_of rows i) (i % 256)) m 0) q ∙ here) ∙ sym q
+        ap (rank_of rows) (ap (λ (m : ℕ). get_or (set at (rank_of rows i) i) m 0) q ∙ here) ∙ sym q
     same k l false e true f = absurd (eqb-false (rank_of rows k) (rank_of rows i) e (ap (rank_of rows) (eqb-true k i f)))
     same k l false e false f =
-        ap (rank_of rows) (get_or-set_other at (rank_of rows i) (rank_of rows k) (i % 256) 0 (eqb-false (rank_of rows k) (rank_of rows i) e))
+        ap (rank_of rows) (get_or-set_other at (rank_of rows i) (rank_of rows k) i 0 (eqb-false (rank_of rows k) (rank_of rows i) e))
         ∙ t.same k (lt_of_le-ne (omega arith) (eqb-false k i f))

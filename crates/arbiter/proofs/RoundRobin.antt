@@ -2,7 +2,7 @@
 -- Assumes nothing.
 use mathlib.Core.Path.{◌≡◌, sym, ap, subst, ◌∙◌}
 use mathlib.Core.Bool.{true, false}
-use mathlib.Core.Option.{some, none}
+use Rattle.std.specs.Prelude.{Some, None}
 use Prim.Native.Nat.{ℕ, ◌+◌, ◌-◌, ◌/◌, ◌%◌, ◌^◌, ◌≤◌, ◌<◌}
 use native.Mathlib.Nat.{lt_of_le_of_lt, lt_of_lt_of_le, mod_self, mod-lt, mod-eq_of_lt, one-mul, div-lt_iff_lt-mul}
 use native.Mathlib.Omega.{arith}
@@ -37,7 +37,7 @@ module _ (n asking p : ℕ) (w : n ≤ 32) (q : p < n) (h : asking < 2 ^ n) wher
         before = λ j l g. shifted_bit asking p j l ∙ f.before (j - p) (omega arith) (omega arith);
       }
 
-  pub turn_after : 0 < asking / 2 ^ p → some (p + count_trailing_zeros 32 (asking / 2 ^ p)) ≡ next_in_turn n (bit asking) p
+  pub turn_after : 0 < asking / 2 ^ p → Some (p + count_trailing_zeros 32 (asking / 2 ^ p)) ≡ next_in_turn n (bit asking) p
   unfolding next_in_turn or_else
   turn_after Some-after = rw (first_at (bit asking) (n - p) p (p + count_trailing_zeros 32 (asking / 2 ^ p)) (found_after Some-after))
 
@@ -45,7 +45,7 @@ module _ (n asking p : ℕ) (w : n ≤ 32) (q : p < n) (h : asking < 2 ^ n) wher
   none_after e j l = shifted_bit asking p j l ∙ ap (λ (x : ℕ). bit x (j - p)) e ∙ bit_zero (j - p)
 
   -- somebody asks, but only before the pointer
-  pub turn_before : asking / 2 ^ p ≡ 0 → 0 < asking → some (count_trailing_zeros 32 asking) ≡ next_in_turn n (bit asking) p
+  pub turn_before : asking / 2 ^ p ≡ 0 → 0 < asking → Some (count_trailing_zeros 32 asking) ≡ next_in_turn n (bit asking) p
   unfolding next_in_turn or_else
   turn_before e some-before =
       let f = trailing_first 32 asking fits some-before in
@@ -56,7 +56,7 @@ module _ (n asking p : ℕ) (w : n ≤ 32) (q : p < n) (h : asking < 2 ^ n) wher
       (sym (first_at (bit asking) p 0 t (record { from = omega arith; below = omega arith; passes = f.passes; before = f.before })))
 
   -- nobody asks
-  pub turn_nobody : asking ≡ 0 → none ≡ next_in_turn n (bit asking) p
+  pub turn_nobody : asking ≡ 0 → None ≡ next_in_turn n (bit asking) p
   unfolding next_in_turn or_else
   turn_nobody e =
       let off : (j : ℕ) → bit asking j ≡ false = λ j. ap (λ (x : ℕ). bit x j) e ∙ bit_zero j in

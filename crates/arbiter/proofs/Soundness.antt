@@ -4,7 +4,7 @@ use mathlib.Core.Path.{◌≡◌, refl, sym, ap, ap₂, subst, ◌∙◌}
 use mathlib.Core.Logic.{◌⊎◌, inl, inr, ◌↔◌}
 use mathlib.Core.Bool.{Bool, true, false, cond, not, ◌&&◌, ◌||◌, true≢false, or-true, or-false}
 use mathlib.Core.List.{List}
-use mathlib.Core.Option.{Option, some, none}
+use Rattle.std.specs.Prelude.{Option, Some, None}
 use Prim.Native.Nat.{ℕ, ◌^◌, ◌≤◌, ◌<◌}
 use native.Mathlib.Nat.{le_refl}
 use native.Mathlib.Omega.{arith}
@@ -15,7 +15,8 @@ use borrow.Author.Tests.{eqb-true, eqb-false, eq-eqb, ne_eqb, ltb-true, ltb-fals
 use Rattle.base.proofs.Search.{both}
 use Rattle.base.proofs.Zeros.{blank_at, all_blank}
 use Rattle.arbiter.specs.Matrix.{beats, defeated, fresh_rows, total_order, within, blank_from}
-use Rattle.arbiter.specs.Arbiter.{Arbiter, known, usable, moved, after, fresh, sound}
+use Rattle.arbiter.specs.declared.Arbiter.{Arbiter}
+use Rattle.arbiter.specs.Arbiter.{known, usable, moved, after, fresh, sound}
 use Rattle.arbiter.proofs.ByKind.{Known, known_is, known_holds, usable_holds, fresh_turn, fresh_order, sound_turn, sound_order}
 use Rattle.arbiter.proofs.ByKind.{moved_nobody, moved_turn, moved_defeat}
 use Rattle.arbiter.proofs.OrderTest.{within_at, all_within}
@@ -25,7 +26,7 @@ use Rattle.arbiter.proofs.Rows.{defeated_within, length_defeated}
 use Rattle.arbiter.proofs.TotalOrder.{Order, order_of, order_holds}
 
 -- a sound arbiter, clause by clause
-pub record Sound (places code n : ℕ) (a : Arbiter) : Type 0 where
+pub record Sound (places code n : ℕ) (a : Arbiter places) : Type 0 where
   pub given : Known places code n
   pub long : length a.rows ≡ places
   pub pointer_below : code ≡ 1 → a.pointer < n
@@ -38,7 +39,7 @@ pub record Sound (places code n : ℕ) (a : Arbiter) : Type 0 where
 one_not_two : (code : ℕ) → code ≡ 1 → code ≡ 2 → ⊥
 one_not_two code p q = omega arith
 
-pub sound_is : (places code n : ℕ) (a : Arbiter) → sound places code n a ≡ true → Sound places code n a
+pub sound_is : (places code n : ℕ) (a : Arbiter places) → sound places code n a ≡ true → Sound places code n a
 unfolding sound blank_from
 sound_is places code n a e = go (known_is places code n q.0).kind
   where
@@ -89,7 +90,7 @@ sound_is places code n a e = go (known_is places code n q.0).kind
           beyond_width = λ _ i h g. blank_at n places a.rows u.1 i h g;
         }
 
-pub sound_holds : (places code n : ℕ) (a : Arbiter) → Sound places code n a → sound places code n a ≡ true
+pub sound_holds : (places code n : ℕ) (a : Arbiter places) → Sound places code n a → sound places code n a ≡ true
 unfolding blank_from
 sound_holds places code n a s = go s.given.kind
   where
@@ -106,7 +107,7 @@ sound_holds places code n a s = go s.given.kind
         ∙ ap₂ ◌&&◌ (order_holds n a.rows (s.order k)) (all_within n a.rows (s.within_width k))
 
 -- the definition's test passes exactly on sound arbiters
-pub sound_exact : (places code n : ℕ) (a : Arbiter) → sound places code n a ≡ true ↔ Sound places code n a
+pub sound_exact : (places code n : ℕ) (a : Arbiter places) → sound places code n a ≡ true ↔ Sound places code n a
 sound_exact places code n a = (sound_is places code n a, sound_holds places code n a)
 
 -- "fresh, a lower number beats a higher" is a total order
@@ -243,7 +244,7 @@ module _ (n w : ℕ) (rows : List ℕ) (long : n ≤ length rows) (low : w < n) 
               ∙ o.transitive i j k h g l (sym (others_keep i j h d e) ∙ p) (sym (others_keep j k g e f) ∙ q)
 
 -- "each accepted cycle leaves a sound state", for one move of an arbiter
-pub moved_sound : (places code n w : ℕ) (a : Arbiter) → Sound places code n a → Sound places code n (moved places code n w a)
+pub moved_sound : (places code n w : ℕ) (a : Arbiter places) → Sound places code n a → Sound places code n (moved places code n w a)
 moved_sound places code n w a s = go (ltb w n) refl s.given.kind
   where
     room : n ≤ length a.rows
@@ -283,7 +284,7 @@ moved_sound places code n w a s = go (ltb w n) refl s.given.kind
         })
 
 -- and so does a call whose pick is kept, or that has none
-pub after_sound : (places code n : ℕ) (o : Option ℕ) (a : Arbiter) → Sound places code n a → Sound places code n (after places code n o a)
+pub after_sound : (places code n : ℕ) (o : Option ℕ) (a : Arbiter places) → Sound places code n a → Sound places code n (after places code n o a)
 unfolding after
-after_sound places code n none a s = s
-after_sound places code n (some w) a s = moved_sound places code n w a s
+after_sound places code n None a s = s
+after_sound places code n (Some w) a s = moved_sound places code n w a s

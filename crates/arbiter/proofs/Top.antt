@@ -16,21 +16,21 @@ pub record Top (before : ℕ → ℕ → Bool) (test : ℕ → Bool) (k m : ℕ)
   pub passes : test m ≡ true
   pub others : (x : ℕ) → x < k → test x ≡ true → (x ≡ m → ⊥) → before m x ≡ true
 
-abbrev pub None : (ℕ → Bool) → ℕ → Type 0
-None test k = (x : ℕ) → x < k → test x ≡ false
+abbrev pub NoneOf : (ℕ → Bool) → ℕ → Type 0
+NoneOf test k = (x : ℕ) → x < k → test x ≡ false
 
 module _ (n : ℕ) (before : ℕ → ℕ → Bool)
     (total : (i j : ℕ) → i < n → j < n → (i ≡ j → ⊥) → (before i j ≡ true) ⊎ (before j i ≡ true))
     (transitive : (i j k : ℕ) → i < n → j < n → k < n → before i j ≡ true → before j k ≡ true → before i k ≡ true) where
-  pub top : (test : ℕ → Bool) (k : ℕ) → k ≤ n → None test k ⊎ ((m : ℕ) × Top before test k m)
+  pub top : (test : ℕ → Bool) (k : ℕ) → k ≤ n → NoneOf test k ⊎ ((m : ℕ) × Top before test k m)
   top test zero h = inl (λ x l. absurd (omega arith))
   top test (suc k) h = go (test k) refl (top test k (omega arith))
     where
       under : (x : ℕ) → x < suc k → (x ≡ k → ⊥) → x < k
       under x l d = lt_of_le-ne (omega arith) d
 
-      go : (b : Bool) → test k ≡ b → None test k ⊎ ((m : ℕ) × Top before test k m)
-          → None test (suc k) ⊎ ((m : ℕ) × Top before test (suc k) m)
+      go : (b : Bool) → test k ≡ b → NoneOf test k ⊎ ((m : ℕ) × Top before test k m)
+          → NoneOf test (suc k) ⊎ ((m : ℕ) × Top before test (suc k) m)
       go false e (inl none) = inl (λ x l. last x l (eqb x k) refl)
         where
           last : (x : ℕ) → x < suc k → (b : Bool) → eqb x k ≡ b → test x ≡ false
@@ -49,7 +49,7 @@ module _ (n : ℕ) (before : ℕ → ℕ → Bool)
           inr (k, record { below = le_refl (suc k); passes = e; others = λ x g t d. absurd (true≢false (sym t ∙ none x (under x g d))) })
       go true e (inr (m, q)) = by_order (total k m h (let l = q.below in omega arith) (λ same. let l = q.below in omega arith))
         where
-          by_order : (before k m ≡ true) ⊎ (before m k ≡ true) → None test (suc k) ⊎ ((m : ℕ) × Top before test (suc k) m)
+          by_order : (before k m ≡ true) ⊎ (before m k ≡ true) → NoneOf test (suc k) ⊎ ((m : ℕ) × Top before test (suc k) m)
           by_order (inl b) =
               inr (k, record { below = le_refl (suc k); passes = e; others = λ x g t d. past x (under x g d) t (eqb x m) refl })
             where

@@ -2,7 +2,7 @@
 -- winner+1 modulo n." (01)
 -- Assumes nothing.
 use Rattle.std.specs.Prelude.{Bool, ℕ, ◌+◌, ◌-◌, ◌%◌}
-use Rattle.std.proofs.Math.Option.{Option}
+use Rattle.std.specs.Prelude.{Option}
 use Rattle.base.specs.Search.{first_from, or_else}
 
 -- "the first requester at or after it, cyclically": from the pointer up to n, else from 0 up to the pointer

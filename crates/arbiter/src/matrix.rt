@@ -1,26 +1,25 @@
 // Matrix: the champion among those that ask, and its fall behind all others.
 ghost use Rattle.std.specs.Prelude.{◌≡◌, ◌^◌, ◌<◌, ◌≤◌, length};
 ghost use Rattle.base.specs.Bits.{bit};
-ghost use Rattle.arbiter.specs.Requests.{winner_of};
 ghost use Rattle.arbiter.specs.Matrix.{champion, defeated, fresh_rows};
 
-use crate::{Pick, asking};
+use crate::asking;
 
 // The first of `asking` whose row and own bit cover all of `asking`. Only set bits are tried.
-pub(crate) fn choose(n: u32, asking: u32, rows: &[u32]) -> Pick
+pub(crate) fn choose(n: u32, asking: u32, rows: &[u32]) -> Option<u32>
     requires { (n ≤ 32) × (n ≤ length rows.now) × (asking < 2 ^ n) }
-    ensures { winner_of result ≡ champion n (bit asking) rows.now }
+    ensures { result ≡ champion n (bit asking) rows.now }
 {
     let mut left = asking;
     while left != 0 {
         let i = u32::trailing_zeros(left);
         let own = asking::only(i);
         if (asking & rows[i as usize]) | own == asking {
-            return Pick::Winner(i);
+            return Some(i);
         }
         left = left - own;
     }
-    Pick::Nobody
+    None
 }
 
 // After w has won, each of the n beats it and it beats nobody.
@@ -29,11 +28,8 @@ pub(crate) fn defeat(n: u32, w: u32, rows: &mut [u32])
     ensures { rows.new ≡ defeated n w rows.old }
 {
     let own = asking::only(w);
-    let end = n as usize;
-    let mut j: usize = 0;
-    while j < end {
-        rows[j] = rows[j] | own;
-        j += 1;
+    for j in 0..n as usize {
+        rows[j] |= own;
     }
     rows[w as usize] = 0;
 }
@@ -43,10 +39,7 @@ pub(crate) fn order(n: u32, rows: &mut [u32])
     requires { (n ≤ 32) × (length rows.old ≤ 32) }
     ensures { rows.new ≡ fresh_rows (length rows.old) n }
 {
-    let mut i: usize = 0;
-    while i < rows.len() {
-        let row = asking::above(i as u32, n);
-        rows[i] = row;
-        i += 1;
+    for (i, row) in rows.iter_mut().enumerate() {
+        *row = asking::above(i as u32, n);
     }
 }

@@ -13,11 +13,8 @@ fn by_rank(n: u32, rows: &[u32]) -> [u8; 33]
         → ones (get_or rows.now (get_or result (ones (get_or rows.now i 0)) 0) 0) ≡ ones (get_or rows.now i 0) }
 {
     let mut at = [0u8; 33];
-    let mut i: u32 = 0;
-    while i < n {
-        let rank = u32::count_ones(rows[i as usize]);
-        at[rank as usize] = (i % 256) as u8;
-        i += 1;
+    for i in 0..n {
+        at[rows[i as usize].count_ones() as usize] = i as u8;
     }
     at
 }
@@ -29,8 +26,7 @@ pub(crate) fn is_total(n: u32, rows: &[u32]) -> bool
 {
     let at = by_rank(n, rows);
     let mut lower: u32 = 0;
-    let mut rank: u32 = 0;
-    while rank < n {
+    for rank in 0..n {
         let i = at[rank as usize] as u32;
         let own = asking::only(i);
         if rows[i as usize] != lower {
@@ -39,8 +35,7 @@ pub(crate) fn is_total(n: u32, rows: &[u32]) -> bool
         if lower & own != 0 {
             return false;
         }
-        lower = lower | own;
-        rank += 1;
+        lower |= own;
     }
     lower == asking::all(n)
 }

@@ -1,24 +1,21 @@
 // Round robin: the next in turn from the pointer on.
 ghost use Rattle.std.specs.Prelude.{◌≡◌, ◌^◌, ◌<◌, ◌≤◌};
 ghost use Rattle.base.specs.Bits.{bit};
-ghost use Rattle.arbiter.specs.Requests.{winner_of};
 ghost use Rattle.arbiter.specs.RoundRobin.{next_in_turn, pointer_after};
 
-use crate::Pick;
-
 // The first bit of `asking` at or after the pointer, else its first.
-pub(crate) fn choose(n: u32, asking: u32, pointer: u32) -> Pick
+pub(crate) fn choose(n: u32, asking: u32, pointer: u32) -> Option<u32>
     requires { (n ≤ 32) × (pointer < n) × (asking < 2 ^ n) }
-    ensures { winner_of result ≡ next_in_turn n (bit asking) pointer }
+    ensures { result ≡ next_in_turn n (bit asking) pointer }
 {
     let after = asking >> pointer;
     if after != 0 {
-        return Pick::Winner(pointer + u32::trailing_zeros(after));
+        return Some(pointer + u32::trailing_zeros(after));
     }
     if asking != 0 {
-        return Pick::Winner(u32::trailing_zeros(asking));
+        return Some(u32::trailing_zeros(asking));
     }
-    Pick::Nobody
+    None
 }
 
 // The pointer after w has won.

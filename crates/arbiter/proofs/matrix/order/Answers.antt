@@ -1,30 +1,25 @@
 -- `arbiter::matrix::order` meets its contract: the rows passed are the list of the fresh ones.
 -- Assumes nothing.
-use Prim.Native.Nat.{ℕ}
-use mathlib.Core.Path.{◌≡◌, refl, sym, ap, ◌∙◌}
-use native.Mathlib.Omega.{arith}
-use lib.ListN.{length, take, length-set}
-use lib.Seq.{take-length}
-use borrow.Author.Rules.{rules}
+use Rattle.std.proofs.Common.{◌≡◌, ℕ, ◌<◌, length, take, refl, sym, ap, ◌∙◌, arith}
+use Rattle.std.proofs.Math.Seq.{take-length}
 use Rattle.arbiter.specs.Matrix.{list_of, fresh_row, fresh_rows}
 use Rattle.arbiter.proofs.Rows.{filled_more}
 use Rattle.arbiter.proofs.matrix.order.Goals as goal
 
 pub loop-i-init : goal.loop-i-init
 unfolding list_of
-loop-i-init c = (search rules, refl, refl)
+loop-i-init c = refl
 
 pub loop-i-preserved : goal.loop-i-preserved
-loop-i-preserved c = (
-  search rules,
-  simp length-set c.loop-i.invariant.1,
-  filled_more (fresh_row c.args.n) c.loop-i.rows c.loop-i.i
-      c.above-row.result c.loop-i-test.true c.loop-i.invariant.2 c.above-row.ensures,
-)
+loop-i-preserved c =
+    let l = c.loop-i in
+    let h : l.i < length l.rows = let long = l.auto.rows in let t = c.loop-i-test.true in omega arith in
+    filled_more (fresh_row c.args.n) l.rows l.i c.above.result h l.invariant c.above.ensures
 
 pub returns : goal.returns
 unfolding fresh_rows
 returns c =
-    let end : c.loop-i.i ≡ length c.args.rows.now = omega arith in
-    sym (take-length c.loop-i.rows) ∙ ap (λ (k : ℕ). take k c.loop-i.rows) (c.loop-i.invariant.1 ∙ sym end) ∙ c.loop-i.invariant.2
+    let l = c.loop-i in
+    let end : l.i ≡ length c.args.rows.now = let t = c.loop-i-test.false in let e = l.auto.i-end in omega arith in
+    sym (take-length l.rows) ∙ ap (λ (k : ℕ). take k l.rows) (l.auto.rows ∙ sym end) ∙ l.invariant
     ∙ ap (list_of (fresh_row c.args.n)) end

@@ -1,11 +1,7 @@
 -- `arbiter::order::by_rank` meets its contract: each store keeps what the table says of the rows passed.
 -- Assumes nothing.
-use Prim.Native.Nat.{◌≤◌, ◌-◌}
 use Rattle.arbiter.proofs.Ranks.{Ranked}
 use Rattle.arbiter.proofs.order.by_rank.Given as goal
 
 abbrev pub invariant-loop-i : goal.invariant-loop-i
-invariant-loop-i l = (l.i ≤ l.n) × Ranked l.n l.rows l.at l.i
-
-abbrev pub decreases-loop-i : goal.decreases-loop-i
-decreases-loop-i l = l.n - l.i
+invariant-loop-i l = Ranked l.n l.rows l.at l.i
