@@ -3,7 +3,7 @@
 use mathlib.Core.Path.{◌≡◌, refl}
 use mathlib.Core.Logic.Dec
 use mathlib.Core.Bool.{Bool, true, false, cond}
-use mathlib.Core.Option.{Option, none, some}
+use Rattle.std.specs.Prelude.{Option, None, Some}
 use mathlib.Core.List.{List, [], ◌∷◌}
 use Prim.Native.Nat.{ℕ}
 use native.Mathlib.Decide.{dec_lt}
@@ -27,13 +27,13 @@ not_otherwise (no a) f = absurd (f a)
 module _ {Flit : Type 0} (i v : ℕ) where
   -- What is offered on an input VC is nothing, or the flit that its port brings for it.
   pub offered_cases : (e : Event Flit) (P : List Flit → Type 0) → P []
-      → ((b : Brought Flit) → e.offer i ≡ some b → b.vc ≡ v → P (b.flit ∷ [])) →
+      → ((b : Brought Flit) → e.offer i ≡ Some b → b.vc ≡ v → P (b.flit ∷ [])) →
       P (offered e i v)
   offered_cases e P none-offered one-offered = go (e.offer i) refl
     where
       go : (o : Option (Brought Flit)) → e.offer i ≡ o → P (on_vc v o)
-      go none q = none-offered
-      go (some b) q = test (eqb b.vc v) refl
+      go None q = none-offered
+      go (Some b) q = test (eqb b.vc v) refl
         where
           test : (t : Bool) → eqb b.vc v ≡ t → P (cond t (b.flit ∷ []) [])
           test true t = one-offered b q (eqb-true b.vc v t)
@@ -45,8 +45,8 @@ module _ {Flit : Type 0} (i v : ℕ) where
 
   -- What leaves from an input VC is nothing, or the front of its queue by what it is bound to.
   pub leaving_cases : (P : List (Departure Flit) → Type 0) (l : Bool) (b : Option OutVc) (q : List Flit) → P [] →
-      ((a : OutVc) (f : Flit) → l ≡ true → b ≡ some a → P (gone a f ∷ [])) → P (leaving i v l b q)
+      ((a : OutVc) (f : Flit) → l ≡ true → b ≡ Some a → P (gone a f ∷ [])) → P (leaving i v l b q)
   leaving_cases P false b q none_left one_left = none_left
-  leaving_cases P true none q none_left one_left = none_left
-  leaving_cases P true (some b) [] none_left one_left = none_left
-  leaving_cases P true (some b) (f ∷ q) none_left one_left = one_left b f refl refl
+  leaving_cases P true None q none_left one_left = none_left
+  leaving_cases P true (Some b) [] none_left one_left = none_left
+  leaving_cases P true (Some b) (f ∷ q) none_left one_left = one_left b f refl refl

@@ -3,7 +3,8 @@
 use mathlib.Core.Path.{◌≡◌, refl, sym, ap, ◌∙◌}
 use mathlib.Core.Logic.{◌≢◌}
 use mathlib.Core.Bool.{Bool, true, false, cond, ◌&&◌, false≢true}
-use mathlib.Core.Option.{Option, none, some, some-injective}
+use Rattle.std.specs.Prelude.{Option, None, Some}
+use Rattle.std.proofs.lemmas.Option.{same_Some}
 use mathlib.Core.List.{List, [], ◌∷◌, map, nil≢cons}
 use Prim.Native.Nat.{ℕ, ◌<◌}
 use native.Mathlib.Decide.{ℕ_discrete}
@@ -65,12 +66,12 @@ module _ (i v : ℕ) where
 
     -- the offer of input j
     offers_other : (j : ℕ) (b : Option (Brought Flit)) → j ≢ i → keep offered_to (offers_at j b) ≡ []
-    offers_other j none ne = refl
-    offers_other j (some b) ne = rw (same_other j b.vc i v (λ q. ne q.0))
+    offers_other j None ne = refl
+    offers_other j (Some b) ne = rw (same_other j b.vc i v (λ q. ne q.0))
 
     offers_own : (b : Option (Brought Flit)) → map (λ (o : Offer Flit). o.flit) (keep offered_to (offers_at i b)) ≡ on_vc v b
-    offers_own none = refl
-    offers_own (some b) = rw (eqb_same i) (go (eqb b.vc v))
+    offers_own None = refl
+    offers_own (Some b) = rw (eqb_same i) (go (eqb b.vc v))
       where
         go : (t : Bool) → map (λ (o : Offer Flit). o.flit) (cond t (record { input = i; vc = b.vc; flit = b.flit } ∷ []) [])
             ≡ cond t (b.flit ∷ []) []
@@ -86,39 +87,39 @@ module _ (i v : ℕ) where
     leaving_own l b q = leaving_cases i v (λ ds. keep comes_from ds ≡ ds) l b q refl (λ a f x y. rw (same_own i v))
 
     -- the same, read by its output VC
-    leaving_by : (j u : ℕ) (l : Bool) (b : Option OutVc) (q : List Flit) → b ≡ some (record { output = i; vc = v }) →
+    leaving_by : (j u : ℕ) (l : Bool) (b : Option OutVc) (q : List Flit) → b ≡ Some (record { output = i; vc = v }) →
         keep goes_by (leaving j u l b q) ≡ leaving j u l b q
     leaving_by j u l b q e =
         leaving_cases j u (λ ds. keep goes_by ds ≡ ds) l b q refl
-        (λ a f x y. rw (some-injective a (record { output = i; vc = v }) (sym y ∙ e), same_own i v))
+        (λ a f x y. rw (same_Some a (record { output = i; vc = v }) (sym y ∙ e), same_own i v))
 
-    leaving_past : (j u : ℕ) (l : Bool) (b : Option OutVc) (q : List Flit) → b ≢ some (record { output = i; vc = v })
+    leaving_past : (j u : ℕ) (l : Bool) (b : Option OutVc) (q : List Flit) → b ≢ Some (record { output = i; vc = v })
         → keep goes_by (leaving j u l b q) ≡ []
     leaving_past j u l b q ne = leaving_cases j u (λ ds. keep goes_by ds ≡ []) l b q refl
-        (λ a f x y. rw (same_other a.output a.vc i v (λ e. ne (y ∙ ap {B = Option OutVc} some (out_vc_path a i v e.0 e.1)))))
+        (λ a f x y. rw (same_other a.output a.vc i v (λ e. ne (y ∙ ap {B = Option OutVc} Some (out_vc_path a i v e.0 e.1)))))
 
     leaving_found : (j u : ℕ) (l : Bool) (b : Option OutVc) (q : List Flit) (d : Departure Flit) (ds : List (Departure Flit)) →
-        keep goes_by (leaving j u l b q) ≡ d ∷ ds → (l ≡ true) × (b ≡ some (record { output = i; vc = v }))
+        keep goes_by (leaving j u l b q) ≡ d ∷ ds → (l ≡ true) × (b ≡ Some (record { output = i; vc = v }))
     leaving_found j u l b q d ds =
-        leaving_cases j u (λ x. keep goes_by x ≡ d ∷ ds → (l ≡ true) × (b ≡ some (record { output = i; vc = v }))) l b q
+        leaving_cases j u (λ x. keep goes_by x ≡ d ∷ ds → (l ≡ true) × (b ≡ Some (record { output = i; vc = v }))) l b q
         (λ e. absurd (nil≢cons e))
         (λ a f x y. go a f x y (same a.output a.vc i v) refl)
       where
-        go : (a : OutVc) (f : Flit) → l ≡ true → b ≡ some a → (t : Bool) → same a.output a.vc i v ≡ t
+        go : (a : OutVc) (f : Flit) → l ≡ true → b ≡ Some a → (t : Bool) → same a.output a.vc i v ≡ t
             → cond t (gone j u a f ∷ []) [] ≡ d ∷ ds →
-            (l ≡ true) × (b ≡ some (record { output = i; vc = v }))
+            (l ≡ true) × (b ≡ Some (record { output = i; vc = v }))
         go a f x y true t e = let r = same_true a.output a.vc i v t in
-            (x, y ∙ ap {B = Option OutVc} some (out_vc_path a i v r.0 r.1))
+            (x, y ∙ ap {B = Option OutVc} Some (out_vc_path a i v r.0 r.1))
         go a f x y false t e = absurd (nil≢cons e)
 
   -- the credit of output j
   credits_other : (j : ℕ) (w : Option ℕ) → j ≢ i → keep comes_back_to (credits_at j w) ≡ []
-  credits_other j none ne = refl
-  credits_other j (some w) ne = rw (same_other j w i v (λ q. ne q.0))
+  credits_other j None ne = refl
+  credits_other j (Some w) ne = rw (same_other j w i v (λ q. ne q.0))
 
   credits_own : (w : Option ℕ) → length (keep comes_back_to (credits_at i w)) ≡ credit_for v w
-  credits_own none = refl
-  credits_own (some w) = rw (eqb_same i) (go (eqb w v))
+  credits_own None = refl
+  credits_own (Some w) = rw (eqb_same i) (go (eqb w v))
     where
       go : (t : Bool) → length {A = OutVc} (cond t (record { output = i; vc = w } ∷ []) []) ≡ cond t 1 0
       go true = refl
@@ -133,7 +134,7 @@ module _ (i v : ℕ) where
 
 module _ {Flit : Type 0} (c : Config) (s : Router Flit) (e : Event Flit) (k : Choice) where
   -- The offers of the entry on an input VC are what the step takes on it, if no port beyond the last brings one.
-  pub entry_offers : ((i : ℕ) (b : Brought Flit) → e.offer i ≡ some b → i < c.ports) → (i v : ℕ) →
+  pub entry_offers : ((i : ℕ) (b : Brought Flit) → e.offer i ≡ Some b → i < c.ports) → (i v : ℕ) →
       map (λ (o : Offer Flit). o.flit) (offers_on i v (entry c s e k)) ≡ offered e i v
   entry_offers inside i v =
       ap (map (λ (o : Offer Flit). o.flit))
@@ -141,19 +142,19 @@ module _ {Flit : Type 0} (c : Config) (s : Router Flit) (e : Event Flit) (k : Ch
       (λ out. none_beyond out (e.offer i) refl)) ∙ offers_own i v (e.offer i)
     where
       none_beyond : ¬ (i < c.ports) → (b : Option (Brought Flit)) → e.offer i ≡ b → keep (offered_to i v) (offers_at i b) ≡ []
-      none_beyond out none q = refl
-      none_beyond out (some b) q = absurd (out (inside i b q))
+      none_beyond out None q = refl
+      none_beyond out (Some b) q = absurd (out (inside i b q))
 
   -- The credits of the entry for an output VC are what the step adds to it, if no port beyond the last brings one.
-  pub entry_credits : ((o w : ℕ) → e.credit o ≡ some w → o < c.ports) → (o w : ℕ) → length (credits_for o w (entry c s e k))
+  pub entry_credits : ((o w : ℕ) → e.credit o ≡ Some w → o < c.ports) → (o w : ℕ) → length (credits_for o w (entry c s e k))
       ≡ credit_for w (e.credit o)
   entry_credits inside o w =
       ap length (keep_one (comes_back_to o w) c.ports (λ j. credits_at j (e.credit j)) o (λ j ne. credits_other o w j (e.credit j) ne)
       (λ out. none_beyond out (e.credit o) refl)) ∙ credits_own o w (e.credit o)
     where
       none_beyond : ¬ (o < c.ports) → (b : Option ℕ) → e.credit o ≡ b → keep (comes_back_to o w) (credits_at o b) ≡ []
-      none_beyond out none q = refl
-      none_beyond out (some b) q = absurd (out (inside o b q))
+      none_beyond out None q = refl
+      none_beyond out (Some b) q = absurd (out (inside o b q))
 
   -- what is beyond the ports and VCs does not leave, so that the entry misses no departure
   abbrev pub LeavesInside : Type 0
@@ -177,8 +178,8 @@ module _ {Flit : Type 0} (c : Config) (s : Router Flit) (e : Event Flit) (k : Ch
       own = leaving_own i v (k.leaves i v) (bound_now s k i v) (queue_now (s.channel i v))
 
   -- The departures of the entry on an output VC are what leaves from the one input VC that is bound to it ..
-  pub entry_on : LeavesInside → (i v : ℕ) (b : OutVc) → bound_now s k i v ≡ some b
-      → ((j u : ℕ) → bound_now s k j u ≡ some b → (j ≡ i) × (u ≡ v)) →
+  pub entry_on : LeavesInside → (i v : ℕ) (b : OutVc) → bound_now s k i v ≡ Some b
+      → ((j u : ℕ) → bound_now s k j u ≡ Some b → (j ≡ i) × (u ≡ v)) →
       departures_on b.output b.vc (entry c s e k) ≡ departure s k i v
   entry_on inside i v b q alone =
       keep_grid_one (goes_by b.output b.vc) c.ports c.vcs (departure s k) i v
@@ -192,7 +193,7 @@ module _ {Flit : Type 0} (c : Config) (s : Router Flit) (e : Event Flit) (k : Ch
   -- .. and whatever left on an output VC left from an input VC that is bound to it.
   pub entry_source : (b : OutVc) (d : Departure Flit) (ds : List (Departure Flit)) → departures_on b.output b.vc (entry c s e k)
       ≡ d ∷ ds →
-      (i : ℕ) × (v : ℕ) × (k.leaves i v ≡ true) × (bound_now s k i v ≡ some b)
+      (i : ℕ) × (v : ℕ) × (k.leaves i v ≡ true) × (bound_now s k i v ≡ Some b)
   entry_source b d ds q =
       let r = grid_found c.ports c.vcs (λ j u. keep (goes_by b.output b.vc) (departure s k j u)) d ds
       (sym (keep_grid (goes_by b.output b.vc) c.ports c.vcs (departure s k)) ∙ q) in

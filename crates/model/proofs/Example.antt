@@ -3,7 +3,7 @@
 -- ready flit stays.
 -- Assumes nothing.
 use mathlib.Core.Path.{◌≡◌, refl}
-use mathlib.Core.Option.{some}
+use Rattle.std.specs.Prelude.{Some}
 use mathlib.Core.List.{List, [], ◌∷◌, map}
 use Prim.Native.Nat.{ℕ}
 use lib.Dec.{lit≤}
@@ -55,7 +55,7 @@ abbrev pub numbers : Channel Flit → List ℕ
 numbers ch = stored config ch ∷ length (on_wire ch) ∷ length ch.queue ∷ going_home ch ∷ []
 
 -- After cycle 4 VC 0 of input 0 is bound, and its queue is empty: its tail is yet to come.
-pub bound_and_empty : ((router 5).bound 0 0 ≡ some (record { output = 1; vc = 0 })) × (((router 5).channel 0 0).queue ≡ [])
+pub bound_and_empty : ((router 5).bound 0 0 ≡ Some (record { output = 1; vc = 0 })) × (((router 5).channel 0 0).queue ≡ [])
 bound_and_empty = (refl, refl)
 
 -- The numbers of two channels after cycles 0, 1, .., 9: stored credits, on the wire, buffered, on the way home. They were worked out by

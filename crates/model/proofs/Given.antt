@@ -1,8 +1,9 @@
 -- Cycles given by value: lists of what is offered, of the credits that come back, of what is bound and of what leaves. What no list
 -- names does nothing.
 -- Assumes nothing.
-use mathlib.Core.Bool.{Bool, true, false, cond}
-use mathlib.Core.Option.{Option, none, some, map}
+use mathlib.Core.Bool.{Bool, cond}
+use Rattle.std.specs.Prelude.{Option, None, Some}
+use Rattle.std.specs.Prelude.{is_some, option_map}
 use mathlib.Core.List.{List, [], ◌∷◌}
 use Prim.Native.Nat.{ℕ}
 use lib.Dec.{eqb}
@@ -26,26 +27,22 @@ pub record Given (Flit : Type 0) : Type 0 where
 
 -- the first of a list that passes a test
 abbrev pub find : {A : Type 0} → (A → Bool) → List A → Option A
-find p [] = none
-find p (x ∷ xs) = cond (p x) (some x) (find p xs)
-
-abbrev pub is_some : {A : Type 0} → Option A → Bool
-is_some none = false
-is_some (some x) = true
+find p [] = None
+find p (x ∷ xs) = cond (p x) (Some x) (find p xs)
 
 module _ {Flit : Type 0} where
   abbrev pub event_of : Given Flit → Event Flit
   event_of g =
       record {
-        offer = λ i. map (λ (o : Offer Flit). record { vc = o.vc; flit = o.flit })
+        offer = λ i. option_map (λ (o : Offer Flit). record { vc = o.vc; flit = o.flit })
             (find (λ (o : Offer Flit). eqb o.input i) g.offers);
-        credit = λ o. map (λ (r : OutVc). r.vc) (find (λ (r : OutVc). eqb r.output o) g.credits);
+        credit = λ o. option_map (λ (r : OutVc). r.vc) (find (λ (r : OutVc). eqb r.output o) g.credits);
       }
 
   abbrev pub choice_of : Given Flit → Choice
   choice_of g =
       record {
-        grant = λ i v. map (λ (x : Bind). x.to) (find (λ (x : Bind). same x.input x.vc i v) g.binds);
+        grant = λ i v. option_map (λ (x : Bind). x.to) (find (λ (x : Bind). same x.input x.vc i v) g.binds);
         leaves = λ i v. is_some (find (λ (x : InVc). same x.input x.vc i v) g.leaves);
       }
 

@@ -2,7 +2,8 @@
 -- Assumes nothing.
 use mathlib.Core.Path.{◌≡◌, refl, sym, ap, ◌∙◌}
 use mathlib.Core.Bool.{Bool, true, false, cond, ◌&&◌}
-use mathlib.Core.Option.{Option, none, some, none-ne-some}
+use Rattle.std.specs.Prelude.{Option, None, Some}
+use Rattle.std.proofs.lemmas.Option.{none-some}
 use mathlib.Core.List.{List, [], ◌∷◌, ◌++◌, append_assoc, append-nil}
 use Prim.Native.Nat.{ℕ}
 use native.Mathlib.Omega.{arith}
@@ -41,7 +42,7 @@ module _ {Flit : Type 0} (look : Look Flit) (c : Config) where
     pub flow : (i v : ℕ) → Flow c (s.channel i v) h i v
     pub place : (i v : ℕ) → Place look i v (s.bound i v) (s.channel i v).queue (on_wire (s.channel i v)) (s.opened i v)
         (left_from i v h) (on_out_vc h)
-    pub alone : (i v j u : ℕ) (b : OutVc) → s.bound i v ≡ some b → s.bound j u ≡ some b → (i ≡ j) × (v ≡ u)
+    pub alone : (i v j u : ℕ) (b : OutVc) → s.bound i v ≡ Some b → s.bound j u ≡ Some b → (i ≡ j) × (v ≡ u)
     pub outputs : (b : OutVc) → Packets look FromOneSource (on_out_vc h b)
     pub idle : (b : OutVc) → Free s b → Whole look FromOneSource (on_out_vc h b)
     pub beyond : (i v : ℕ) → ¬ InRange c i v → accepted i v h ≡ []
@@ -52,13 +53,13 @@ module _ {Flit : Type 0} (look : Look Flit) (c : Config) where
         numbered = refl;
         flow = flow_fresh c;
         place = λ i v. record {
-          inside = none;
+          inside = None;
           goes = tt;
           reads = rw (empty i v) refl;
           left = nothing;
-          on_output = λ a e. absurd (none-ne-some a e);
+          on_output = λ a e. absurd (none-some a e);
         };
-        alone = λ i v j u b p q. absurd (none-ne-some b p);
+        alone = λ i v j u b p q. absurd (none-some b p);
         outputs = λ b. finished nothing;
         idle = λ b f. nothing;
         beyond = λ i v out. refl;
@@ -108,17 +109,17 @@ module _ {Flit : Type 0} (look : Look Flit) (c : Config) (delayed : Delayed c) (
   now_from i v = entry_from c s e k leaves_inside i v
 
   -- After phase 5 no two input VCs are bound to the same output VC.
-  pub alone_now : (i v j u : ℕ) (b : OutVc) → bound_now s k i v ≡ some b → bound_now s k j u ≡ some b → (i ≡ j) × (v ≡ u)
+  pub alone_now : (i v j u : ℕ) (b : OutVc) → bound_now s k i v ≡ Some b → bound_now s k j u ≡ Some b → (i ≡ j) × (v ≡ u)
   alone_now i v j u b p q = go (k.grant i v) refl (k.grant j u) refl p q
     where
-      go : (g : Option OutVc) → k.grant i v ≡ g → (f : Option OutVc) → k.grant j u ≡ f → granted g (s.bound i v) ≡ some b →
-          granted f (s.bound j u) ≡ some b → (i ≡ j) × (v ≡ u)
-      go none p none q m n = inv.alone i v j u b m n
-      go none p (some d) q m n = absurd (legal.binds_free j u d q i v (m ∙ sym n))
-      go (some a) p none q m n = absurd (legal.binds_free i v a p j u (n ∙ sym m))
-      go (some a) p (some d) q m n = legal.binds_once i v j u a d p q (cc)
+      go : (g : Option OutVc) → k.grant i v ≡ g → (f : Option OutVc) → k.grant j u ≡ f → granted g (s.bound i v) ≡ Some b →
+          granted f (s.bound j u) ≡ Some b → (i ≡ j) × (v ≡ u)
+      go None p None q m n = inv.alone i v j u b m n
+      go None p (Some d) q m n = absurd (legal.binds_free j u d q i v (m ∙ sym n))
+      go (Some a) p None q m n = absurd (legal.binds_free i v a p j u (n ∙ sym m))
+      go (Some a) p (Some d) q m n = legal.binds_once i v j u a d p q (cc)
 
-  pub now_on : (i v : ℕ) (b : OutVc) → bound_now s k i v ≡ some b → departures_on b.output b.vc now ≡ departure s k i v
+  pub now_on : (i v : ℕ) (b : OutVc) → bound_now s k i v ≡ Some b → departures_on b.output b.vc now ≡ departure s k i v
   now_on i v b q = entry_on c s e k leaves_inside i v b q (λ j u p. alone_now j u i v b p q)
 
   -- The kinds that a sender offers are in order.
@@ -157,8 +158,8 @@ module _ {Flit : Type 0} (look : Look Flit) (c : Config) (delayed : Delayed c) (
       go : (g : Option OutVc) → k.grant i v ≡ g →
           Place look i v (granted g (s.bound i v)) (queue_now (s.channel i v)) (on_wire (after.channel i v)) (after.opened i v)
           (left_from i v h) (on_out_vc h)
-      go none q = place_taken i v
-      go (some b) q = place_bind look i v b (rw (legal.binds_unbound i v b q) at (place_taken i v)) (legal.binds_front i v b q)
+      go None q = place_taken i v
+      go (Some b) q = place_bind look i v b (rw (legal.binds_unbound i v b q) at (place_taken i v)) (legal.binds_front i v b q)
           (inv.idle b (legal.binds_free i v b q))
 
   place_after : (i v : ℕ) → Place look i v (after.bound i v) (after.channel i v).queue (on_wire (after.channel i v)) (after.opened i v)
@@ -178,25 +179,25 @@ module _ {Flit : Type 0} (look : Look Flit) (c : Config) (delayed : Delayed c) (
       (rw (now_from i v) front.1))
 
   -- A binding after the cycle was there after phase 5, and one before the cycle still is.
-  pub bound_before : (i v : ℕ) (b : OutVc) → after.bound i v ≡ some b → bound_now s k i v ≡ some b
+  pub bound_before : (i v : ℕ) (b : OutVc) → after.bound i v ≡ Some b → bound_now s k i v ≡ Some b
   bound_before i v b = go (k.leaves i v && ends_packet look (queue_now (s.channel i v))) (bound_now s k i v)
     where
-      go : (t : Bool) (x : Option OutVc) → cond t none x ≡ some b → x ≡ some b
-      go true x q = absurd (none-ne-some b q)
+      go : (t : Bool) (x : Option OutVc) → cond t None x ≡ Some b → x ≡ Some b
+      go true x q = absurd (none-some b q)
       go false x q = q
 
-  pub bound_still : (i v : ℕ) (b : OutVc) → s.bound i v ≡ some b → bound_now s k i v ≡ some b
+  pub bound_still : (i v : ℕ) (b : OutVc) → s.bound i v ≡ Some b → bound_now s k i v ≡ Some b
   bound_still i v b p = go (k.grant i v) refl
     where
-      go : (g : Option OutVc) → k.grant i v ≡ g → granted g (s.bound i v) ≡ some b
-      go none q = p
-      go (some a) q = absurd (none-ne-some b (sym (legal.binds_unbound i v a q) ∙ p))
+      go : (g : Option OutVc) → k.grant i v ≡ g → granted g (s.bound i v) ≡ Some b
+      go None q = p
+      go (Some a) q = absurd (none-some b (sym (legal.binds_unbound i v a q) ∙ p))
 
   -- What is free after the cycle, and on which nothing left, was free before: only a flit that leaves unbinds.
   free_before : (b : OutVc) → departures_on b.output b.vc now ≡ [] → Free after b → Free s b
   free_before b none_left free i v p = go (k.leaves i v) refl
     where
-      bound : bound_now s k i v ≡ some b
+      bound : bound_now s k i v ≡ Some b
       bound = bound_still i v b p
 
       go : (l : Bool) → k.leaves i v ≡ l → ⊥

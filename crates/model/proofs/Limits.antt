@@ -3,7 +3,8 @@
 -- Assumes nothing.
 use mathlib.Core.Path.{◌≡◌, refl, sym, ap, ◌∙◌}
 use mathlib.Core.Bool.{Bool, true, false, cond, ◌&&◌}
-use mathlib.Core.Option.{Option, none, some, none-ne-some}
+use Rattle.std.specs.Prelude.{Option, None, Some}
+use Rattle.std.proofs.lemmas.Option.{none-some}
 use mathlib.Core.List.{List, [], ◌∷◌, ◌++◌}
 use Prim.Native.Nat.{ℕ, zero, suc, ◌≤◌, ◌<◌}
 use native.Mathlib.Omega.{arith}
@@ -42,10 +43,10 @@ module _ {Flit : Type 0} where
   -- what is kept of it left from an input VC that is to leave, by what that is bound to
   kept_left : (p : ℕ → ℕ → Bool) (i v : ℕ) (l : Bool) (b : Option OutVc) (q : List Flit) →
       0 < length (keep (λ (d : Departure Flit). p d.input d.output) (leaving i v l b q)) →
-      (l ≡ true) × (a : OutVc) × (b ≡ some a) × (p i a.output ≡ true)
+      (l ≡ true) × (a : OutVc) × (b ≡ Some a) × (p i a.output ≡ true)
   kept_left p i v l b q =
       leaving_cases i v (λ ds. 0 < length (keep (λ (d : Departure Flit). p d.input d.output) ds) →
-      (l ≡ true) × (a : OutVc) × (b ≡ some a) × (p i a.output ≡ true)) l b q (λ k. absurd (omega arith))
+      (l ≡ true) × (a : OutVc) × (b ≡ Some a) × (p i a.output ≡ true)) l b q (λ k. absurd (omega arith))
       (λ a f x y k. (x, a, y, go (p i a.output) a f k))
     where
       go : (t : Bool) (a : OutVc) (f : Flit) → 0 < length (cond t (gone i v a f ∷ []) []) → t ≡ true
@@ -56,7 +57,7 @@ module _ {Flit : Type 0} (look : Look Flit) (c : Config) where
   module _ (s : Router Flit) (e : Event Flit) (k : Choice) (legal : Legal look c s e k) where
     -- A test of input and output that two departures of the cycle pass only if they are one keeps at most one.
     kept_once : (p : ℕ → ℕ → Bool) →
-        ((i v j u : ℕ) (a b : OutVc) → k.leaves i v ≡ true → k.leaves j u ≡ true → bound_now s k i v ≡ some a → bound_now s k j u ≡ some b →
+        ((i v j u : ℕ) (a b : OutVc) → k.leaves i v ≡ true → k.leaves j u ≡ true → bound_now s k i v ≡ Some a → bound_now s k j u ≡ Some b →
         p i a.output ≡ true → p j b.output ≡ true → (i ≡ j) × (v ≡ u)) →
         length (keep (λ (d : Departure Flit). p d.input d.output) (entry c s e k).departures) ≤ 1
     kept_once p alone =
@@ -69,7 +70,7 @@ module _ {Flit : Type 0} (look : Look Flit) (c : Config) where
         test d = p d.input d.output
 
         Found : ℕ → ℕ → Type 0
-        Found i v = (k.leaves i v ≡ true) × (a : OutVc) × (bound_now s k i v ≡ some a) × (p i a.output ≡ true)
+        Found i v = (k.leaves i v ≡ true) × (a : OutVc) × (bound_now s k i v ≡ Some a) × (p i a.output ≡ true)
 
         found : (i v : ℕ) → 0 < length (keep test (departure s k i v)) → Found i v
         found i v x = kept_left p i v (k.leaves i v) (bound_now s k i v) (queue_now (s.channel i v)) x
@@ -78,17 +79,17 @@ module _ {Flit : Type 0} (look : Look Flit) (c : Config) where
         both {i} {v} {j} {u} x y = alone i v j u x.1 y.1 x.0 y.0 x.2 y.2 x.3 y.3
 
     -- "each output binds at most one per cycle"
-    pub binds_once-law : (i v j u : ℕ) (a b : OutVc) → s.bound i v ≡ none → s.bound j u ≡ none → bound_now s k i v ≡ some a
-        → bound_now s k j u ≡ some b →
+    pub binds_once-law : (i v j u : ℕ) (a b : OutVc) → s.bound i v ≡ None → s.bound j u ≡ None → bound_now s k i v ≡ Some a
+        → bound_now s k j u ≡ Some b →
         a.output ≡ b.output → (i ≡ j) × (v ≡ u)
     binds_once-law i v j u a b p q x y = legal.binds_once i v j u a b (just i v a p x) (just j u b q y)
       where
-        just : (i v : ℕ) (a : OutVc) → s.bound i v ≡ none → bound_now s k i v ≡ some a → k.grant i v ≡ some a
+        just : (i v : ℕ) (a : OutVc) → s.bound i v ≡ None → bound_now s k i v ≡ Some a → k.grant i v ≡ Some a
         just i v a p x = go (k.grant i v) x
           where
-            go : (g : Option OutVc) → granted g (s.bound i v) ≡ some a → g ≡ some a
-            go none x = absurd (none-ne-some a (sym p ∙ x))
-            go (some b) x = x
+            go : (g : Option OutVc) → granted g (s.bound i v) ≡ Some a → g ≡ Some a
+            go None x = absurd (none-some a (sym p ∙ x))
+            go (Some b) x = x
 
     -- at most one flit leaves each input and each output
     once_now : OncePerPort (entry c s e k)
@@ -112,20 +113,20 @@ module _ {Flit : Type 0} (look : Look Flit) (c : Config) where
     -- After phase 5 an output VC is held by at most one input VC: "T or S .. frees the output VC, usable from the next cycle".
     pub one_holder : {s : Router Flit} {h : History Flit} → Run look c s h → (e : Event Flit) (k : Choice) → Legal look c s e k
         → (i v j u : ℕ) (b : OutVc) →
-        bound_now s k i v ≡ some b → bound_now s k j u ≡ some b → (i ≡ j) × (v ≡ u)
+        bound_now s k i v ≡ Some b → bound_now s k j u ≡ Some b → (i ≡ j) × (v ≡ u)
     one_holder {s = s} {h = h} run e k legal = alone_now look c delayed s h (inv_run look c delayed run) e k legal
 
     -- A binding stays what it is until T or S leaves.
     pub stays_bound : {s : Router Flit} {h : History Flit} → Run look c s h → (e : Event Flit) (k : Choice) → Legal look c s e k
         → (i v : ℕ) (b : OutVc) →
-        s.bound i v ≡ some b → (step look c s e k).bound i v ≡ cond (k.leaves i v && ends_packet look (queue_now (s.channel i v))) none
-        (some b)
+        s.bound i v ≡ Some b → (step look c s e k).bound i v ≡ cond (k.leaves i v && ends_packet look (queue_now (s.channel i v))) None
+        (Some b)
     stays_bound {s = s} {h = h} run e k legal i v b p =
         ap (bound_after look (k.leaves i v) (queue_now (s.channel i v)))
         (bound_still look c delayed s h (inv_run look c delayed run) e k legal i v b p)
 
     -- The front flit of an unbound input VC is H or S, so that no B or T ever asks.
-    pub front_starts : {s : Router Flit} {h : History Flit} → Run look c s h → (i v : ℕ) (f : Flit) (q : List Flit) → s.bound i v ≡ none →
+    pub front_starts : {s : Router Flit} {h : History Flit} → Run look c s h → (i v : ℕ) (f : Flit) (q : List Flit) → s.bound i v ≡ None →
         queue_now (s.channel i v) ≡ f ∷ q → look.starts f ≡ true
     front_starts {s = s} {h = h} run i v f q unbound front =
         let place = (inv_run look c delayed run).place i v in
@@ -133,10 +134,10 @@ module _ {Flit : Type 0} (look : Look Flit) (c : Config) where
         (still_held (s.channel i v), front) at place.reads in
         rw (between (s.bound i v) place.inside unbound place.goes) at reads.0
       where
-        between : (b : Option OutVc) (d : Option (Departure Flit)) → b ≡ none → Goes look i v b d (s.channel i v).queue → is_open d ≡ false
-        between b none p g = refl
-        between none (some d) p g = absurd g
-        between (some b) (some d) p g = absurd (none-ne-some b (sym p))
+        between : (b : Option OutVc) (d : Option (Departure Flit)) → b ≡ None → Goes look i v b d (s.channel i v).queue → is_open d ≡ false
+        between b None p g = refl
+        between None (Some d) p g = absurd g
+        between (Some b) (Some d) p g = absurd (none-some b (sym p))
 
     module _ {s : Router Flit} {h : History Flit} (run : Run look c s h) (e : Event Flit) (k : Choice) (legal : Legal look c s e k) where
       names_now : NamesInRange c (entry c s e k)
@@ -155,8 +156,8 @@ module _ {Flit : Type 0} (look : Look Flit) (c : Config) where
         where
           offer : (i : ℕ) → i < c.ports → (b : Option (Brought Flit)) → e.offer i ≡ b →
               All (λ (o : Offer Flit). InRange c o.input o.vc) (offers_at i b)
-          offer i l none q = tt
-          offer i l (some b) q = ((l, legal.offer_vc i b q), tt)
+          offer i l None q = tt
+          offer i l (Some b) q = ((l, legal.offer_vc i b q), tt)
 
           source : (i v : ℕ) → i < c.ports → v < c.vcs → All (λ (d : Departure Flit). InRange c d.input d.vc) (departure s k i v)
           source i v l m = leaving_cases i v (All (λ (d : Departure Flit). InRange c d.input d.vc)) (k.leaves i v) (bound_now s k i v)
@@ -172,8 +173,8 @@ module _ {Flit : Type 0} (look : Look Flit) (c : Config) where
           home i v l m (suc n) = ((l, m), home i v l m n)
 
           credit : (o : ℕ) (w : Option ℕ) → e.credit o ≡ w → All (λ (r : OutVc). InRange c r.output r.vc) (credits_at o w)
-          credit o none q = tt
-          credit o (some w) q = (credit_in_range look c delayed run e k legal (output_credits-law look c delayed run) o w q, tt)
+          credit o None q = tt
+          credit o (Some w) q = (credit_in_range look c delayed run e k legal (output_credits-law look c delayed run) o w q, tt)
 
     pub names_in_range : {s : Router Flit} {h : History Flit} → Run look c s h → All (NamesInRange c) h
     names_in_range start = tt

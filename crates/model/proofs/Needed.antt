@@ -3,7 +3,7 @@
 -- Assumes nothing.
 use mathlib.Core.Path.{◌≡◌, refl}
 use mathlib.Core.Bool.{not}
-use mathlib.Core.Option.{none, some}
+use Rattle.std.specs.Prelude.{None, Some}
 use mathlib.Core.List.{List, [], ◌∷◌, ◌++◌, map}
 use Prim.Native.Nat.{ℕ, ◌+◌}
 use native.Mathlib.Omega.{arith}
@@ -72,7 +72,7 @@ head_inside = record { fine = tt; alone = refl; fine_again = tt; wrong = refl }
 
 -- kinds: a body with no packet open stands in front of an unbound input VC, for ever (front_starts).
 pub body_outside : Breaks 4 [] (cycle (offer 0 0 (body 7) ∷ []) [] [] []) (cycle [] [] [] [] ∷ [])
-    (λ s h. (s.bound 0 0 ≡ none) × ((s.channel 0 0).queue ≡ body 7 ∷ []))
+    (λ s h. (s.bound 0 0 ≡ None) × ((s.channel 0 0).queue ≡ body 7 ∷ []))
 body_outside = record { fine = tt; alone = refl; fine_again = tt; wrong = (refl, refl) }
 
 -- paid: a third flit where two slots are. The four numbers make three (demand 3).
@@ -83,7 +83,7 @@ not_paid = record { fine = tt; alone = refl; fine_again = tt; wrong = refl }
 -- binds_unbound: an input VC that is bound is bound to another output VC, though nothing left (stays_bound).
 pub bound_again : Breaks 6 (cycle (offer 0 0 (head 1 7) ∷ []) [] [] [] ∷ cycle [] [] (bind 0 0 1 0 ∷ []) [] ∷ [])
     (cycle [] [] (bind 0 0 1 1 ∷ []) []) []
-    (λ s h. (s.bound 0 0 ≡ some (record { output = 1; vc = 1 })) × (left_from 0 0 h ≡ []))
+    (λ s h. (s.bound 0 0 ≡ Some (record { output = 1; vc = 1 })) × (left_from 0 0 h ≡ []))
 bound_again = record { fine = tt; alone = refl; fine_again = tt; wrong = (refl, refl) }
 
 -- binds_front: an input VC is bound to output 1 with an empty queue. The flit that comes is for output 0 and leaves by 1 (demand 3).
@@ -106,7 +106,7 @@ in_use = record { fine = tt; alone = refl; fine_again = tt; wrong = refl }
 -- binds_free: an output VC is given out in the cycle in which a single of another input VC leaves on it (one_holder).
 pub freed_now : Breaks 8 (cycle (offer 0 0 (single 1 7) ∷ offer 1 0 (single 1 8) ∷ []) [] [] [] ∷ cycle [] [] (bind 0 0 1 0 ∷ []) [] ∷ [])
     (cycle [] [] (bind 1 0 1 0 ∷ []) (from 0 0 ∷ [])) []
-    (λ s h. (s.bound 1 0 ≡ some (record { output = 1; vc = 0 })) × (left_on 1 0 (after 2 1 h) ≡ left 1 0 0 0 (single 1 7) ∷ []))
+    (λ s h. (s.bound 1 0 ≡ Some (record { output = 1; vc = 0 })) × (left_on 1 0 (after 2 1 h) ≡ left 1 0 0 0 (single 1 7) ∷ []))
 freed_now = record { fine = tt; alone = refl; fine_again = tt; wrong = (refl, refl) }
 
 -- binds_vc: a flit leaves on VC 2 of 0 and 1 (demand 3).
@@ -124,7 +124,7 @@ same_output_vc = record { fine = tt; alone = refl; fine_again = tt; wrong = refl
 -- binds_once: one output binds two in one cycle, to two of its VCs (binds_once-law).
 pub same_output : Breaks 10 (cycle (offer 0 0 (single 1 7) ∷ offer 1 0 (single 1 7) ∷ []) [] [] [] ∷ [])
     (cycle [] [] (bind 0 0 1 0 ∷ bind 1 0 1 1 ∷ []) [])
-    [] (λ s h. (s.bound 0 0 ≡ some (record { output = 1; vc = 0 })) × (s.bound 1 0 ≡ some (record { output = 1; vc = 1 })))
+    [] (λ s h. (s.bound 0 0 ≡ Some (record { output = 1; vc = 0 })) × (s.bound 1 0 ≡ Some (record { output = 1; vc = 1 })))
 same_output = record { fine = tt; alone = refl; fine_again = tt; wrong = (refl, refl) }
 
 -- leaves_bound: a flit of an unbound input VC goes, and goes nowhere (demand 3).

@@ -2,7 +2,7 @@
 -- Assumes nothing.
 use mathlib.Core.Path.{◌≡◌, refl, ap, ◌∙◌}
 use mathlib.Core.Bool.{Bool, true, false, cond}
-use mathlib.Core.Option.{Option, none, some}
+use Rattle.std.specs.Prelude.{Option, None, Some}
 use mathlib.Core.List.{List, [], ◌∷◌}
 use Prim.Native.Nat.{ℕ, ◌+◌, ◌≤◌, ◌<◌}
 use native.Mathlib.Omega.{arith}
@@ -43,7 +43,7 @@ module _ {Flit : Type 0} (look : Look Flit) (c : Config) (delayed : Delayed c) w
             omega (arith, legal.leaves_credit r.0 r.1 b r.2 r.3)
 
     -- A credit comes back only for an output VC that something has left on, so only for one in range.
-    pub credit_in_range : ((o w : ℕ) → OutputCredits c s h o w) → (o w : ℕ) → e.credit o ≡ some w → InRange c o w
+    pub credit_in_range : ((o w : ℕ) → OutputCredits c s h o w) → (o w : ℕ) → e.credit o ≡ Some w → InRange c o w
     credit_in_range before o w q =
         not_otherwise (in_range? c o w) (λ out. omega (
           arith,
@@ -57,8 +57,8 @@ module _ {Flit : Type 0} (look : Look Flit) (c : Config) (delayed : Delayed c) w
     credit_fits o w fits = go (e.credit o) refl
       where
         go : (b : Option ℕ) → e.credit o ≡ b → s.out_credit o w + credit_for w b ≤ c.downstream
-        go none q = omega arith
-        go (some u) q = test (eqb u w) refl
+        go None q = omega arith
+        go (Some u) q = test (eqb u w) refl
           where
             test : (t : Bool) → eqb u w ≡ t → s.out_credit o w + cond t 1 0 ≤ c.downstream
             test true t = let room : s.out_credit o w < c.downstream = rw (eqb-true u w t) at (legal.room o u q) in omega arith

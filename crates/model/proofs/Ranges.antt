@@ -3,7 +3,8 @@
 use mathlib.Core.Path.{◌≡◌, refl, ap, ◌∙◌}
 use mathlib.Core.Logic.{◌≢◌}
 use mathlib.Core.Bool.{true}
-use mathlib.Core.Option.{Option, none, some, none-ne-some}
+use Rattle.std.specs.Prelude.{Option, None, Some}
+use Rattle.std.proofs.lemmas.Option.{none-some}
 use mathlib.Core.List.{List, [], ◌∷◌, ◌++◌, append_assoc}
 use Prim.Native.Nat.{ℕ, ◌<◌}
 use native.Mathlib.Omega.{arith}
@@ -38,7 +39,7 @@ module _ {Flit : Type 0} (look : Look Flit) (c : Config) (delayed : Delayed c) w
   -- Nothing beyond them is ever bound: there is no flit to ask for it.
   granted_inside : {s : Router Flit} {h : History Flit} → Run look c s h → (e : Event Flit) (k : Choice) → Legal look c s e k
       → (i v : ℕ) (b : OutVc) →
-      ¬ InRange c i v → s.bound i v ≢ some b → bound_now s k i v ≢ some b
+      ¬ InRange c i v → s.bound i v ≢ Some b → bound_now s k i v ≢ Some b
   granted_inside {s = s} {h = h} run e k legal i v b out before = go (k.grant i v) refl
     where
       inv : Inv look c s h
@@ -48,12 +49,12 @@ module _ {Flit : Type 0} (look : Look Flit) (c : Config) (delayed : Delayed c) w
       empty = let l = queue_now_le c delayed (s.channel i v) h i v (inv.flow i v) (entry c s e k) in
           omega (arith, ap length (inv.beyond i v out))
 
-      go : (g : Option OutVc) → k.grant i v ≡ g → granted g (s.bound i v) ≢ some b
-      go none q p = before p
-      go (some a) q p = asks_none look (queue_now (s.channel i v)) a.output empty (legal.binds_front i v a q)
+      go : (g : Option OutVc) → k.grant i v ≡ g → granted g (s.bound i v) ≢ Some b
+      go None q p = before p
+      go (Some a) q p = asks_none look (queue_now (s.channel i v)) a.output empty (legal.binds_front i v a q)
 
-  pub bound_inside : {s : Router Flit} {h : History Flit} → Run look c s h → (i v : ℕ) (b : OutVc) → ¬ InRange c i v → s.bound i v ≢ some b
-  bound_inside start i v b out p = none-ne-some b p
+  pub bound_inside : {s : Router Flit} {h : History Flit} → Run look c s h → (i v : ℕ) (b : OutVc) → ¬ InRange c i v → s.bound i v ≢ Some b
+  bound_inside start i v b out p = none-some b p
   bound_inside (accept {s = s} {h = h} run e k legal) i v b out p =
       granted_inside run e k legal i v b out (λ q. bound_inside run i v b out q)
       (bound_before look c delayed s h (inv_run look c delayed run) e k legal i v b p)
@@ -87,25 +88,25 @@ module _ {Flit : Type 0} (look : Look Flit) (c : Config) (delayed : Delayed c) w
   -- What an input VC is bound to is in range, before the cycle and after phase 5.
   bound_now_in_range : {s : Router Flit} {h : History Flit} → Run look c s h → (e : Event Flit) (k : Choice) → Legal look c s e k
       → (i v : ℕ) (b : OutVc) →
-      (s.bound i v ≡ some b → InRange c b.output b.vc) → bound_now s k i v ≡ some b → InRange c b.output b.vc
+      (s.bound i v ≡ Some b → InRange c b.output b.vc) → bound_now s k i v ≡ Some b → InRange c b.output b.vc
   bound_now_in_range {s = s} {h = h} run e k legal i v b before = go (k.grant i v) refl
     where
-      go : (g : Option OutVc) → k.grant i v ≡ g → granted g (s.bound i v) ≡ some b → InRange c b.output b.vc
-      go none q p = before p
-      go (some a) q p =
+      go : (g : Option OutVc) → k.grant i v ≡ g → granted g (s.bound i v) ≡ Some b → InRange c b.output b.vc
+      go None q p = before p
+      go (Some a) q p =
           let r = q ∙ p in
           (asks_port (queue_now (s.channel i v)) b.output (queue_routed run i v) (legal.binds_front i v b r), legal.binds_vc i v b r)
 
-  pub bound_in_range : {s : Router Flit} {h : History Flit} → Run look c s h → (i v : ℕ) (b : OutVc) → s.bound i v ≡ some b
+  pub bound_in_range : {s : Router Flit} {h : History Flit} → Run look c s h → (i v : ℕ) (b : OutVc) → s.bound i v ≡ Some b
       → InRange c b.output b.vc
-  bound_in_range start i v b p = absurd (none-ne-some b p)
+  bound_in_range start i v b p = absurd (none-some b p)
   bound_in_range (accept {s = s} {h = h} run e k legal) i v b p =
       bound_now_in_range run e k legal i v b (λ q. bound_in_range run i v b q)
       (bound_before look c delayed s h (inv_run look c delayed run) e k legal i v b p)
 
   pub binds_in_range : {s : Router Flit} {h : History Flit} → Run look c s h → (e : Event Flit) (k : Choice) → Legal look c s e k
       → (i v : ℕ) (b : OutVc) →
-      bound_now s k i v ≡ some b → InRange c b.output b.vc
+      bound_now s k i v ≡ Some b → InRange c b.output b.vc
   binds_in_range run e k legal i v b = bound_now_in_range run e k legal i v b (bound_in_range run i v b)
 
   -- Nothing leaves on an output VC beyond the ranges.

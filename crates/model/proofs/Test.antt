@@ -3,7 +3,9 @@
 use mathlib.Core.Path.{◌≡◌, refl, ap, subst, subst₂}
 use mathlib.Core.Logic.{◌≢◌}
 use mathlib.Core.Bool.{Bool, true, false, cond, not, ◌&&◌, beq}
-use mathlib.Core.Option.{Option, none, some, IsSome, map, none-ne-some, some-injective}
+use Rattle.std.specs.Prelude.{Option, None, Some}
+use Rattle.std.proofs.lemmas.Option.{none-some, same_Some}
+use Rattle.std.specs.Prelude.{IsSome, is_some, option_map}
 use mathlib.Core.List.{List, [], ◌∷◌}
 use Prim.Native.Nat.{ℕ, zero, suc, ◌<◌}
 use native.Mathlib.Decide.{ℕ_discrete}
@@ -25,7 +27,7 @@ use Rattle.model.proofs.Lists.{passed, eqb-true, eqb_same}
 use Rattle.model.proofs.Cases.{in_range?}
 use Rattle.model.proofs.Entries.{same_own, same_true}
 use Rattle.model.proofs.Ranges.{bound_inside}
-use Rattle.model.proofs.Given.{Given, Bind, find, is_some, event_of, choice_of, router_after, history_after}
+use Rattle.model.proofs.Given.{Given, Bind, find, event_of, choice_of, router_after, history_after}
 
 -- tests put together
 and_left : (a b : Bool) → T (a && b) → T a
@@ -69,20 +71,20 @@ nth (b ∷ ts) t (suc n) = nth ts (and_right b (every (λ t. t) ts) t) n
 
 -- What is found in a list has the key and passes what every entry passes.
 module _ {A B : Type 0} (key test : A → Bool) (get : A → B) where
-  found : (xs : List A) → T (every test xs) → (b : B) → map get (find key xs) ≡ some b → (x : A) × (key x ≡ true) × (get x ≡ b)
+  found : (xs : List A) → T (every test xs) → (b : B) → option_map get (find key xs) ≡ Some b → (x : A) × (key x ≡ true) × (get x ≡ b)
       × T (test x)
-  found [] t b q = absurd (none-ne-some b q)
+  found [] t b q = absurd (none-some b q)
   found (x ∷ xs) t b q = go (key x) refl q (found xs (and_right (test x) (every test xs) t) b)
     where
-      go : (k : Bool) → key x ≡ k → map get (cond k (some x) (find key xs)) ≡ some b →
-          (map get (find key xs) ≡ some b → (x : A) × (key x ≡ true) × (get x ≡ b) × T (test x)) → (x : A) × (key x ≡ true)
+      go : (k : Bool) → key x ≡ k → option_map get (cond k (Some x) (find key xs)) ≡ Some b →
+          (option_map get (find key xs) ≡ Some b → (x : A) × (key x ≡ true) × (get x ≡ b) × T (test x)) → (x : A) × (key x ≡ true)
           × (get x ≡ b) × T (test x)
-      go true e q ih = (x, e, some-injective (get x) b q, and_left (test x) (every test xs) t)
+      go true e q ih = (x, e, same_Some (get x) b q, and_left (test x) (every test xs) t)
       go false e q ih = ih q
 
-is_some-law : {A : Type 0} (o : Option A) → is_some o ≡ true → (x : A) × (o ≡ some x)
-is_some-law none q = absurd (subst (λ (x : Bool). T (not x)) q tt)
-is_some-law (some x) q = (x, refl)
+is_some-law : {A : Type 0} (o : Option A) → is_some o ≡ true → (x : A) × (o ≡ Some x)
+is_some-law None q = absurd (subst (λ (x : Bool). T (not x)) q tt)
+is_some-law (Some x) q = (x, refl)
 
 -- the tests of one binding and of one output VC
 abbrev pub asks? : {Flit : Type 0} → Look Flit → List Flit → ℕ → Bool
@@ -98,25 +100,25 @@ asked look (f ∷ q) o t = (
 )
 
 abbrev pub elsewhere : Option OutVc → OutVc → Bool
-elsewhere none b = true
-elsewhere (some a) b = not (same a.output a.vc b.output b.vc)
+elsewhere None b = true
+elsewhere (Some a) b = not (same a.output a.vc b.output b.vc)
 
-is_elsewhere : (o : Option OutVc) (b : OutVc) → T (elsewhere o b) → o ≢ some b
-is_elsewhere none b t q = none-ne-some b q
-is_elsewhere (some a) b t q = rw (← some-injective a b q, same_own a.output a.vc) at t
+is_elsewhere : (o : Option OutVc) (b : OutVc) → T (elsewhere o b) → o ≢ Some b
+is_elsewhere None b t q = none-some b q
+is_elsewhere (Some a) b t q = rw (← same_Some a b q, same_own a.output a.vc) at t
 
 abbrev pub same_output : Option OutVc → Option OutVc → Bool
-same_output none b = false
-same_output (some a) none = false
-same_output (some a) (some b) = eqb a.output b.output
+same_output None b = false
+same_output (Some a) None = false
+same_output (Some a) (Some b) = eqb a.output b.output
 
-unbound_is : (o : Option OutVc) → T (not (is_some o)) → o ≡ none
-unbound_is none t = refl
-unbound_is (some b) t = absurd t
+unbound_is : (o : Option OutVc) → T (not (is_some o)) → o ≡ None
+unbound_is None t = refl
+unbound_is (Some b) t = absurd t
 
 bound_is : (o : Option OutVc) → T (is_some o) → IsSome o
-bound_is none t = t
-bound_is (some b) t = t
+bound_is None t = absurd t
+bound_is (Some b) t = refl
 
 beq_is : (a b : Bool) → T (beq a b) → a ≡ b
 beq_is true true t = refl
@@ -137,21 +139,21 @@ module _ {Flit : Type 0} (g : Given Flit) where
 
   offers_pass : (p : ℕ → ℕ → Flit → Bool) → T (every (λ (o : Offer Flit). p o.input o.vc o.flit) g.offers)
       → (i : ℕ) (b : Brought Flit) →
-      e.offer i ≡ some b → T (p i b.vc b.flit)
+      e.offer i ≡ Some b → T (p i b.vc b.flit)
   offers_pass p t i b q =
       let r = found (λ (o : Offer Flit). eqb o.input i) (λ (o : Offer Flit). p o.input o.vc o.flit)
       (λ (o : Offer Flit). record { vc = o.vc; flit = o.flit }) g.offers t b q in
       subst (λ (x : Brought Flit). T (p i x.vc x.flit)) r.2
       (subst (λ (j : ℕ). T (p j r.0.vc r.0.flit)) (eqb-true r.0.input i r.1) r.3)
 
-  credits_pass : (p : ℕ → ℕ → Bool) → T (every (λ (r : OutVc). p r.output r.vc) g.credits) → (o w : ℕ) → e.credit o ≡ some w
+  credits_pass : (p : ℕ → ℕ → Bool) → T (every (λ (r : OutVc). p r.output r.vc) g.credits) → (o w : ℕ) → e.credit o ≡ Some w
       → T (p o w)
   credits_pass p t o w q =
       let r = found (λ (r : OutVc). eqb r.output o) (λ (r : OutVc). p r.output r.vc) (λ (r : OutVc). r.vc) g.credits t w q in
       subst (λ (u : ℕ). T (p o u)) r.2 (subst (λ (j : ℕ). T (p j r.0.vc)) (eqb-true r.0.output o r.1) r.3)
 
   binds_pass : (p : ℕ → ℕ → OutVc → Bool) → T (every (λ (x : Bind). p x.input x.vc x.to) g.binds) → (i v : ℕ) (b : OutVc) →
-      k.grant i v ≡ some b → T (p i v b)
+      k.grant i v ≡ Some b → T (p i v b)
   binds_pass p t i v b q =
       let r = found (λ (x : Bind). same x.input x.vc i v) (λ (x : Bind). p x.input x.vc x.to) (λ (x : Bind). x.to)
       g.binds t b q in
@@ -163,14 +165,14 @@ module _ {Flit : Type 0} (g : Given Flit) where
   leaves_pass p t i v q =
       let x = is_some-law (find (λ (x : InVc). same x.input x.vc i v) g.leaves) q in
       let r = found (λ (x : InVc). same x.input x.vc i v) (λ (x : InVc). p x.input x.vc) (λ (x : InVc). x) g.leaves t x.0
-      (ap (map (λ (x : InVc). x)) x.1) in
+      (ap (option_map (λ (x : InVc). x)) x.1) in
       let here = same_true r.0.input r.0.vc i v r.1 in
       subst₂ (λ (j u : ℕ). T (p j u)) here.0 here.1 r.3
 
 module _ {Flit : Type 0} (look : Look Flit) (c : Config) (s : Router Flit) (g : Given Flit) where
   abbrev pub paid? : Option OutVc → Bool
-  paid? none = true
-  paid? (some b) = ltb 0 (out_credit_now s (e g) b.output b.vc)
+  paid? None = true
+  paid? (Some b) = ltb 0 (out_credit_now s (e g) b.output b.vc)
 
   abbrev pub bound? : ℕ → ℕ → Option OutVc
   bound? i v = bound_now s (k g) i v
@@ -208,7 +210,7 @@ module _ {Flit : Type 0} (look : Look Flit) (c : Config) (s : Router Flit) (g : 
       Free s b
   free_all delayed run b t i v = go (in_range? c i v)
     where
-      go : Dec (InRange c i v) → s.bound i v ≢ some b
+      go : Dec (InRange c i v) → s.bound i v ≢ Some b
       go (yes r) = is_elsewhere (s.bound i v) b
           (below_at c.vcs (λ u. elsewhere (s.bound i u) b)
           (below_at c.ports (λ j. below c.vcs (λ u. elsewhere (s.bound j u) b)) t i r.0) v
@@ -216,7 +218,7 @@ module _ {Flit : Type 0} (look : Look Flit) (c : Config) (s : Router Flit) (g : 
       go (no out) = bound_inside look c delayed run i v b out
 
   -- of two that are named, both at one output, or both from one input
-  binds_one : T legal? → (i v j u : ℕ) (a b : OutVc) → (k g).grant i v ≡ some a → (k g).grant j u ≡ some b → a.output ≡ b.output
+  binds_one : T legal? → (i v j u : ℕ) (a b : OutVc) → (k g).grant i v ≡ Some a → (k g).grant j u ≡ Some b → a.output ≡ b.output
       → (i ≡ j) × (v ≡ u)
   binds_one t i v j u a b p q o =
       let one = binds_pass g (λ i v a. every (λ (y : Bind). implies (eqb a.output y.to.output) (same i v y.input y.vc))
@@ -232,8 +234,8 @@ module _ {Flit : Type 0} (look : Look Flit) (c : Config) (s : Router Flit) (g : 
       let both = leaves_pass g (λ j u. implies (eqb i j) (eqb v u)) one i u q in
       eqb-true v u (passed (eqb v u) (implied (eqb i i) (eqb v u) both (eqb_same i)))
 
-  output_one : T legal? → (i v j u : ℕ) (a b : OutVc) → (k g).leaves i v ≡ true → (k g).leaves j u ≡ true → bound? i v ≡ some a
-      → bound? j u ≡ some b →
+  output_one : T legal? → (i v j u : ℕ) (a b : OutVc) → (k g).leaves i v ≡ true → (k g).leaves j u ≡ true → bound? i v ≡ Some a
+      → bound? j u ≡ Some b →
       a.output ≡ b.output → (i ≡ j) × (v ≡ u)
   output_one t i v j u a b p q x y o =
       let one = leaves_pass g (λ i v. every (λ (y : InVc). implies (same_output (bound? i v) (bound? y.input y.vc))

@@ -1,7 +1,7 @@
 -- The router: its channels, its bindings, its output credits.
 -- Assumes nothing.
 use Rattle.std.specs.Prelude.{Bool, false, ℕ}
-use Rattle.std.proofs.Math.Option.{Option, none}
+use Rattle.std.specs.Prelude.{Option, None}
 use Rattle.model.specs.Sizes.{Config}
 use Rattle.model.specs.Channel.{Channel, fresh_channel}
 
@@ -25,4 +25,4 @@ pub record Router (Flit : Type 0) : Type 0 where
 -- "each sender credit is D, each output credit E, the cycle count 0, no packet open, nothing bound or on its way" (01, Sizes)
 abbrev pub fresh : {Flit : Type 0} → Config → Router Flit
 fresh c =
-    record { cycle = 0; channel = λ i v. fresh_channel c; opened = λ i v. false; bound = λ i v. none; out_credit = λ o w. c.downstream }
+    record { cycle = 0; channel = λ i v. fresh_channel c; opened = λ i v. false; bound = λ i v. None; out_credit = λ o w. c.downstream }

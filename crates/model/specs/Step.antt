@@ -1,7 +1,7 @@
 -- The free step: the cycle's entry in the history, and the router after the cycle. No test is made here: `Legal` says which cycles count.
 -- Assumes nothing.
 use Rattle.std.specs.Prelude.{Bool, false, cond, not, ◌&&◌, List, [], ◌∷◌, ℕ, suc, ◌-◌, length, replicate}
-use Rattle.std.proofs.Math.Option.{Option, none, some}
+use Rattle.std.specs.Prelude.{Option, None, Some}
 use Rattle.model.specs.Lists.{each}
 use Rattle.model.specs.Sizes.{Config}
 use Rattle.model.specs.Flit.{Look}
@@ -12,12 +12,12 @@ use Rattle.model.specs.History.{Offer, Entry, departures_on}
 use Rattle.model.specs.Phases.{offered, out_credit_now, bound_now, departure}
 
 abbrev pub offers_at : {Flit : Type 0} → ℕ → Option (Brought Flit) → List (Offer Flit)
-offers_at i none = []
-offers_at i (some b) = record { input = i; vc = b.vc; flit = b.flit } ∷ []
+offers_at i None = []
+offers_at i (Some b) = record { input = i; vc = b.vc; flit = b.flit } ∷ []
 
 abbrev pub credits_at : ℕ → Option ℕ → List OutVc
-credits_at o none = []
-credits_at o (some w) = record { output = o; vc = w } ∷ []
+credits_at o None = []
+credits_at o (Some w) = record { output = o; vc = w } ∷ []
 
 -- The cycle's entry: everything that it brought and everything that it gave, by port and VC.
 abbrev pub entry : {Flit : Type 0} → Config → Router Flit → Event Flit → Choice → Entry Flit
@@ -42,7 +42,7 @@ module _ {Flit : Type 0} (look : Look Flit) where
 
   -- "T or S unbinds and frees the output VC" (01, phase 7): the binding after a cycle in which the front of the queue left or stayed.
   abbrev pub bound_after : Bool → List Flit → Option OutVc → Option OutVc
-  bound_after left queue b = cond (left && ends_packet queue) none b
+  bound_after left queue b = cond (left && ends_packet queue) None b
 
   -- The router after the cycle. "Each winner leaves its queue, costs one output credit, .. and puts a credit on the way home." (01,
   -- phase 7)
