@@ -7,7 +7,7 @@ ghost use Rattle.trace.specs.Cycles.{slice_of, part_of_cycle};
 ghost use Rattle.reader.specs.Reader.{following_cycle};
 
 // The block lent, and the number of the cycle to show, counted from 0.
-#[derive(Clone, Copy)]
+#[derive(Clone, Copy, PartialEq, Eq)]
 pub struct Reader<'a> {
     pub block: &'a [u8],
     pub cycle: usize,
@@ -17,8 +17,7 @@ pub struct Reader<'a> {
 pub fn next_cycle(block: &[u8], cycle: usize) -> usize
     ensures { result ≡ following_cycle block.now cycle }
 {
-    let part = trace::cycle_part(block, cycle);
-    if part.len() == 0 {
+    if trace::cycle_part(block, cycle).is_empty() {
         return cycle;
     }
     cycle + 1
@@ -42,11 +41,9 @@ pub fn shown<'a>(r: Reader<'a>) -> &'a [u8]
 pub fn moved<'a>(r: Reader<'a>) -> Reader<'a>
     ensures { (result.block ≡ r.entry.block) × (result.cycle ≡ following_cycle r.entry.block.now r.entry.cycle) }
 {
-    let block = r.block;
-    let cycle = r.cycle;
     Reader {
-        block,
-        cycle: next_cycle(block, cycle),
+        cycle: next_cycle(r.block, r.cycle),
+        ..r
     }
 }
 

@@ -3,7 +3,7 @@
 use mathlib.Core.Path.{◌≡◌, refl, sym, ap, ◌∙◌}
 use mathlib.Core.Bool.{Bool, true, false, cond, not, ◌&&◌, true≢false}
 use mathlib.Core.List.{List}
-use mathlib.Core.Option.{Option, some, none}
+use Rattle.std.specs.Prelude.{Option, Some, None}
 use Prim.Native.Nat.{ℕ, ◌≤◌}
 use lib.Dec.{eqb, leb}
 use lib.ListN.{length}
@@ -14,27 +14,29 @@ use Rattle.trace.specs.declared.place.Place.{Place}
 use Rattle.trace.specs.Blocks.{kind_of, held_of, config_of, block_numbers}
 use Rattle.trace.specs.Place.{can_hold, without_cycles, cycle_blocks, good_place}
 use Rattle.trace.specs.Rules.{place_unsound, block_short, check_wrong, block_wrong, field_wrong}
-use Rattle.trace.specs.Judged.{BlockOutcome, a_configuration, some_cycles, the_end, no_more, accepted, refused, next_place, read_of, taken}
+use Rattle.trace.specs.declared.judging.Answer.{Answer}
+use Rattle.trace.specs.declared.judging.Found.TheVariants as found
+use Rattle.trace.specs.Judged.{accepted, refused, next_place, read_of, taken}
 use Rattle.trace.specs.Judged.{judged_by_field, judged}
 use Rattle.trace.proofs.Formed.{Formed, formed_is}
 use Rattle.trace.proofs.Passing.{sound_good, whole_long}
 use Rattle.trace.proofs.Ways.{form_right}
 
 module _ (p : Place) (c : ℕ) (l : List ℕ) where
-  pub data FoundAs : BlockOutcome → Type 0 where
+  pub data FoundAs : Answer → Type 0 where
     refuses : (n k : ℕ) → FoundAs (refused n k p)
-    configures : p.configured ≡ false → illegal_field (config_of l) ≡ none → eqb (kind_of l) 2 ≡ false
-        → FoundAs (accepted (a_configuration (config_of l)) (next_place p l))
+    configures : p.configured ≡ false → illegal_field (config_of l) ≡ None → eqb (kind_of l) 2 ≡ false
+        → FoundAs (accepted (found.Configuration (config_of l)) (next_place p l))
     holds : p.configured ≡ true → 512 ≤ length l → held_of l ≤ 7 → eqb (kind_of l) 2 ≡ true
-        → FoundAs (accepted (some_cycles (held_of l)) (next_place p l))
-    ends : p.configured ≡ true → eqb (kind_of l) 2 ≡ false → FoundAs (accepted the_end (next_place p l))
-    is_over : p.configured ≡ true → FoundAs (accepted no_more p)
+        → FoundAs (accepted (found.Cycles (held_of l)) (next_place p l))
+    ends : p.configured ≡ true → eqb (kind_of l) 2 ≡ false → FoundAs (accepted found.End (next_place p l))
+    is_over : p.configured ≡ true → FoundAs (accepted found.Done p)
 
-  module _ (e : p.ended ≡ false) (whole : block_short p l ≡ false) (f : Formed p c l) (legal : field_wrong p l ≡ none) where
+  module _ (e : p.ended ≡ false) (whole : block_short p l ≡ false) (f : Formed p c l) (legal : field_wrong p l ≡ None) where
     -- a configuration block's values are in range
-    configuration_legal-law : eqb (kind_of l) 1 ≡ true → illegal_field (config_of l) ≡ none
+    configuration_legal-law : eqb (kind_of l) 1 ≡ true → illegal_field (config_of l) ≡ None
     unfolding field_wrong
-    configuration_legal-law k = ap (λ (b : Bool). cond b (illegal_field (config_of l)) none)
+    configuration_legal-law k = ap (λ (b : Bool). cond b (illegal_field (config_of l)) None)
         (sym (ap (λ (b : Bool). not b && eqb (kind_of l) 1) e ∙ k)) ∙ legal
 
     read_as : FoundAs (accepted (read_of l) (next_place p l))
@@ -42,12 +44,12 @@ module _ (p : Place) (c : ℕ) (l : List ℕ) where
     read_as = first (eqb (kind_of l) 1) refl
       where
         second : (kind_of l ≡ 1 → ⊥) → (b : Bool) → eqb (kind_of l) 2 ≡ b
-            → FoundAs (accepted (cond b (some_cycles (held_of l)) the_end) (next_place p l))
+            → FoundAs (accepted (cond b (found.Cycles (held_of l)) found.End) (next_place p l))
         second n true q = holds (f.follows n) (whole_long p l e whole) (f.held_to (eqb-true (kind_of l) 2 q)) q
         second n false q = ends (f.follows n) q
 
         first : (b : Bool) → eqb (kind_of l) 1 ≡ b
-            → FoundAs (accepted (cond b (a_configuration (config_of l)) (cond (eqb (kind_of l) 2) (some_cycles (held_of l)) the_end))
+            → FoundAs (accepted (cond b (found.Configuration (config_of l)) (cond (eqb (kind_of l) 2) (found.Cycles (held_of l)) found.End))
             (next_place p l))
         first true q = configures (f.opens (eqb-true (kind_of l) 1 q)) (configuration_legal-law q)
             (ap (λ (k : ℕ). eqb k 2) (eqb-true (kind_of l) 1 q))
@@ -66,11 +68,11 @@ module _ (p : Place) (c : ℕ) (l : List ℕ) where
           (not p.ended && eqb p.number 0 && eqb c 0)) q
           ∙ ap (λ (b : Bool). not b && eqb p.number 0 && eqb c 0) e))
 
-  taken_as : good_place p c ≡ true → block_short p l ≡ false → block_wrong p c l ≡ false → field_wrong p l ≡ none → FoundAs (taken p l)
+  taken_as : good_place p c ≡ true → block_short p l ≡ false → block_wrong p c l ≡ false → field_wrong p l ≡ None → FoundAs (taken p l)
   unfolding taken
   taken_as g s w n = go p.ended refl
     where
-      go : (b : Bool) → p.ended ≡ b → FoundAs (cond b (accepted no_more p) (accepted (read_of l) (next_place p l)))
+      go : (b : Bool) → p.ended ≡ b → FoundAs (cond b (accepted found.Done p) (accepted (read_of l) (next_place p l)))
       go true e = is_over (ended_configured g e)
       go false e = read_as e s (formed_is p c l (form_right p c l e w)) n
 
@@ -80,8 +82,8 @@ module _ (p : Place) (c : ℕ) (l : List ℕ) where
     where
       one : good_place p c ≡ true → block_short p l ≡ false → block_wrong p c l ≡ false → (o : Option ℕ) → field_wrong p l ≡ o
           → FoundAs (judged_by_field o p l)
-      one g s w (some k) n = refuses numbers.configuration_wrong k
-      one g s w none n = taken_as g s w n
+      one g s w (Some k) n = refuses numbers.configuration_wrong k
+      one g s w None n = taken_as g s w n
 
       eight : good_place p c ≡ true → block_short p l ≡ false → (b : Bool) → block_wrong p c l ≡ b
           → FoundAs (cond b (refused numbers.block_wrong 0 p) (judged_by_field (field_wrong p l) p l))

@@ -1,7 +1,8 @@
 pub mod Spelling
 pub mod Sums
 pub mod Weights
-pub mod Tests
+pub mod Zeros
+pub mod Steps
 pub mod Used
 pub mod Places
 pub mod Reading
@@ -14,6 +15,7 @@ pub mod OneByte
 pub mod Formed
 pub mod Findings
 pub mod Ways
+pub mod After
 pub mod Sealed
 pub mod Made
 pub mod Reached

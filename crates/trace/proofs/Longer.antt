@@ -3,7 +3,7 @@
 use mathlib.Core.Path.{◌≡◌, refl, sym, ap, ap₂, ◌∙◌}
 use mathlib.Core.Bool.{Bool, true, false, cond, not, ◌&&◌, ◌||◌}
 use mathlib.Core.List.{List}
-use mathlib.Core.Option.{Option, some, none}
+use Rattle.std.specs.Prelude.{Option, Some, None}
 use Prim.Native.Nat.{ℕ, ◌+◌, ◌-◌, ◌*◌, ◌%◌, ◌≤◌, ◌<◌}
 use native.Mathlib.Nat.{le_refl}
 use native.Mathlib.Omega.{arith}
@@ -22,7 +22,8 @@ use Rattle.trace.specs.Cycles.{Slice, part, shows, part_of_cycle}
 use Rattle.trace.specs.Check.{weighed, check_value, check_holds}
 use Rattle.trace.specs.Rules.{place_unsound, block_short, check_wrong, has_wrong_kind, has_wrong_number, has_wrong_count, has_wrong_unused, has_wrong_order}
 use Rattle.trace.specs.Rules.{has_wrong_total, bytes_follow, form_wrong, block_wrong, field_wrong}
-use Rattle.trace.specs.Judged.{a_configuration, some_cycles, the_end, no_more, accepted, refused, read_of, taken, judged_by_field, judged}
+use Rattle.trace.specs.declared.judging.Found.TheVariants as found
+use Rattle.trace.specs.Judged.{accepted, refused, read_of, taken, judged_by_field, judged}
 use Rattle.trace.proofs.Parts.{shown_below_7}
 use Rattle.trace.proofs.Spelling.{spell_ext}
 use Rattle.trace.proofs.Sums.{sum_ext}
@@ -77,20 +78,20 @@ module _ (x y : List ℕ) (same : (i : ℕ) → i < 512 → byte x i ≡ byte y 
 
   field : (p : Place) → field_wrong p x ≡ field_wrong p y
   unfolding field_wrong
-  field p = λ i. cond (not p.ended && eqb (kind i) 1) (illegal_field (config i)) none
+  field p = λ i. cond (not p.ended && eqb (kind i) 1) (illegal_field (config i)) None
 
   read : (p : Place) → taken p x ≡ taken p y
   unfolding taken read_of
   read p =
       λ i.
-      cond p.ended (accepted no_more p)
-      (accepted (cond (eqb (kind i) 1) (a_configuration (config i)) (cond (eqb (kind i) 2) (some_cycles (held i)) the_end))
+      cond p.ended (accepted found.Done p)
+      (accepted (cond (eqb (kind i) 1) (found.Configuration (config i)) (cond (eqb (kind i) 2) (found.Cycles (held i)) found.End))
       (record { number = p.number + 1; configured = true; ended = eqb (kind i) 3 }))
 
   by_field : (p : Place) (f : Option ℕ) → judged_by_field f p x ≡ judged_by_field f p y
   unfolding judged_by_field
-  by_field p (some k) = refl
-  by_field p none = read p
+  by_field p (Some k) = refl
+  by_field p None = read p
 
   -- are judged alike, where both are whole
   pub judged_alike : (p : Place) (c : ℕ) → 512 ≤ length x → 512 ≤ length y → judged p c x ≡ judged p c y

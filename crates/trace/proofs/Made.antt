@@ -14,7 +14,8 @@ use Rattle.trace.specs.Bytes.{byte, AreBytes, big_endian}
 use Rattle.trace.specs.Blocks.{kind_of, held_of, number_of, total_of, cycle_start, end_of_body}
 use Rattle.trace.specs.Check.{check_holds}
 use Rattle.trace.specs.Place.{good_place}
-use Rattle.trace.specs.Judged.{some_cycles, the_end, accepted, judged}
+use Rattle.trace.specs.declared.judging.Found.TheVariants as found
+use Rattle.trace.specs.Judged.{accepted, judged}
 use Rattle.trace.proofs.Formed.{Formed, formed_holds}
 use Rattle.trace.proofs.Order.{judged_read}
 use Rattle.trace.proofs.Reading.{read_cycles, read_end}
@@ -111,11 +112,11 @@ module _ (n c h : ℕ) (small : n < 4294967296) (from : 1 ≤ h) (to : h ≤ 7) 
         total = λ q. absurd (omega (arith, cycles_kind));
       }
 
-  pub cycles_judged : good_place (at n) c ≡ true → judged (at n) c cycles_block ≡ accepted (some_cycles h) (at (n + 1))
+  pub cycles_judged : good_place (at n) c ≡ true → judged (at n) c cycles_block ≡ accepted (found.Cycles h) (at (n + 1))
   cycles_judged g =
       judged_read (at n) c cycles_block g refl cycles_long cycles_check (formed_holds (at n) c cycles_block cycles_formed)
       ∙ sym (read_cycles (at n) cycles_block refl (λ q. absurd (omega (arith, cycles_kind))) cycles_kind)
-      ∙ (λ i. accepted (some_cycles (cycles_held i)) (record { number = n + 1; configured = true; ended = eqb (cycles_kind i) 3 }))
+      ∙ (λ i. accepted (found.Cycles (cycles_held i)) (record { number = n + 1; configured = true; ended = eqb (cycles_kind i) 3 }))
 
 -- ---- the end block
 
@@ -200,8 +201,8 @@ module _ (n c : ℕ) (small : n < 4294967296) (few : c < 4294967296) where
       }
 
   pub end_judged : good_place (at n) c ≡ true → judged (at n) c end_block
-      ≡ accepted the_end (record { number = n + 1; configured = true; ended = true })
+      ≡ accepted found.End (record { number = n + 1; configured = true; ended = true })
   end_judged g =
       judged_read (at n) c end_block g refl end_long end_check (formed_holds (at n) c end_block end_formed)
       ∙ sym (read_end (at n) end_block refl (λ q. absurd (omega (arith, end_kind))) (λ q. absurd (omega (arith, end_kind))))
-      ∙ (λ i. accepted the_end (record { number = n + 1; configured = true; ended = eqb (end_kind i) 3 }))
+      ∙ (λ i. accepted found.End (record { number = n + 1; configured = true; ended = eqb (end_kind i) 3 }))

@@ -11,7 +11,8 @@ use Rattle.trace.specs.declared.place.Place.{Place}
 use Rattle.trace.specs.Check.{check_holds}
 use Rattle.trace.specs.Place.{good_place}
 use Rattle.trace.specs.Rules.{place_unsound, block_short, check_wrong, bytes_follow, form_wrong, block_wrong, field_wrong}
-use Rattle.trace.specs.Judged.{no_more, accepted, refused, taken, judged_by_field, judged}
+use Rattle.trace.specs.declared.judging.Found.TheVariants as found
+use Rattle.trace.specs.Judged.{accepted, refused, taken, judged_by_field, judged}
 
 module _ (p : Place) (c : ℕ) (l : List ℕ) where
   pub judged_unsound : good_place p c ≡ false → judged p c l ≡ refused numbers.not_sound 0 p
@@ -24,7 +25,7 @@ module _ (p : Place) (c : ℕ) (l : List ℕ) where
     unfolding judged place_unsound block_short check_wrong block_wrong bytes_follow
     judged_follows e h = rw (g, lt-ltb 0 (length l) h, e)
 
-    pub judged_done : p.ended ≡ true → length l ≤ 0 → judged p c l ≡ accepted no_more p
+    pub judged_done : p.ended ≡ true → length l ≤ 0 → judged p c l ≡ accepted found.Done p
     unfolding judged place_unsound block_short check_wrong block_wrong bytes_follow field_wrong judged_by_field taken
     judged_done e h = rw (g, le-ltb 0 (length l) h, e)
 

@@ -4,7 +4,7 @@ use mathlib.Core.Path.{◌≡◌, refl, sym, ap, subst, subst₂, ◌∙◌}
 use mathlib.Core.Logic.{◌↔◌}
 use mathlib.Core.Bool.{Bool, true, false, cond, not, true≢false}
 use mathlib.Core.List.{List, [], ◌∷◌}
-use mathlib.Core.Option.{some}
+use Rattle.std.specs.Prelude.{Ok}
 use Prim.Native.Nat.{ℕ, zero, suc, ◌+◌, ◌-◌, ◌≤◌, ◌<◌}
 use native.Mathlib.Nat.{mul-suc, add-zero, le_refl}
 use native.Mathlib.Omega.{arith}
@@ -12,12 +12,16 @@ use lib.Dec.{leb, lit≤}
 use borrow.Author.Tests.{leb-true, leb-false}
 use Rattle.base.specs.Sizes.{cycle_limit, in_range, first_illegal, illegal_field}
 use Rattle.base.specs.Numbers as numbers
+use Rattle.base.specs.Refusal.{number_of}
 use Rattle.trace.specs.declared.place.Place.{Place}
 use Rattle.trace.specs.Bytes.{AreBytes, big_endian}
 use Rattle.trace.specs.Blocks.{config_of, end_of_body, block_numbers}
 use Rattle.trace.specs.Place.{start, cycle_blocks, can_hold, good_place}
 use Rattle.trace.specs.Rules.{place_unsound, has_wrong_kind, has_wrong_number, has_wrong_count, has_wrong_order, has_wrong_total, field_wrong}
-use Rattle.trace.specs.Judged.{BlockOutcome, Read, a_configuration, some_cycles, the_end, accepted, read_of, taken, judged_by_field, judged}
+use Rattle.trace.specs.declared.judging.Answer.{Answer}
+use Rattle.trace.specs.declared.judging.Found.{Found}
+use Rattle.trace.specs.declared.judging.Found.TheVariants as found
+use Rattle.trace.specs.Judged.{accepted, read_of, taken, judged_by_field, judged}
 use Rattle.trace.specs.Way.{cycles_in, Brought, Way, begins}
 use Rattle.trace.proofs.Places.{Held, Good, nothing, after, good_is}
 use Rattle.trace.proofs.Runs.{judged_run}
@@ -27,12 +31,12 @@ use Rattle.trace.proofs.Exactness.{two_exactly}
 use Rattle.trace.proofs.Made.{at, cycles_block, cycles_bytes, cycles_judged, end_block, end_bytes, end_judged}
 
 -- a block that is accepted goes on
-go_on : (skips : Bool) (p : Place) (c : ℕ) (l : List ℕ) (r : Read) (q : Place) (brought : ℕ) → Way skips p c → AreBytes l
-    → judged p c l ≡ accepted r q → Brought skips (cycles_in (some r)) brought → c + brought ≤ cycle_limit → Way skips q (c + brought)
+go_on : (skips : Bool) (p : Place) (c : ℕ) (l : List ℕ) (r : Found) (q : Place) (brought : ℕ) → Way skips p c → AreBytes l
+    → judged p c l ≡ accepted r q → Brought skips (cycles_in (Ok r)) brought → c + brought ≤ cycle_limit → Way skips q (c + brought)
 go_on skips p c l r q brought w b e many limit =
-    subst (λ (o : BlockOutcome). Way skips o.place (c + brought)) e
-    (way_judged skips p c l w b (ap (λ (o : BlockOutcome). o.number) e) brought
-    (subst (λ (o : BlockOutcome). Brought skips (cycles_in o.read) brought) (sym e) many) limit)
+    subst (λ (o : Answer). Way skips o.place (c + brought)) e
+    (way_judged skips p c l w b (ap (λ (o : Answer). number_of o.found) e) brought
+    (subst (λ (o : Answer). Brought skips (cycles_in o.found) brought) (sym e) many) limit)
 
 -- a block that holds none
 no_cycles : (skips : Bool) → Brought skips 0 0
@@ -47,20 +51,20 @@ ones_bytes : AreBytes ones
 unfolding ones
 ones_bytes = known_bytes ones refl
 
-ones_judged : judged start 0 (sealed ones) ≡ accepted (a_configuration (config_of (sealed ones))) (at 1)
+ones_judged : judged start 0 (sealed ones) ≡ accepted (found.Configuration (config_of (sealed ones))) (at 1)
 unfolding ones sealed big_endian end_of_body can_hold good_place has_wrong_kind has_wrong_number has_wrong_count has_wrong_order has_wrong_total field_wrong in_range
     first_illegal illegal_field read_of taken judged_by_field
 ones_judged = judged_run start 0 (sealed ones) 495 refl refl (lit≤ tt) (sealed_holds ones (lit≤ tt)) refl refl refl refl
 
 configured : (skips : Bool) → Way skips (at 1) 0
-configured skips = go_on skips start 0 (sealed ones) (a_configuration (config_of (sealed ones))) (at 1) 0 begins
+configured skips = go_on skips start 0 (sealed ones) (found.Configuration (config_of (sealed ones))) (at 1) 0 begins
     (sealed_bytes ones ones_bytes) ones_judged (no_cycles skips) (lit≤ tt)
 
 -- a block of h cycles more
 one_more : (skips : Bool) (n c h brought : ℕ) → n < block_numbers → 1 ≤ h → h ≤ 7 → Way skips (at n) c → Brought skips h brought
     → c + brought ≤ cycle_limit → Way skips (at (n + 1)) (c + brought)
 one_more skips n c h brought small from to w many limit =
-    go_on skips (at n) c (cycles_block n c h small from to) (some_cycles h) (at (n + 1)) brought w (cycles_bytes n c h small from to)
+    go_on skips (at n) c (cycles_block n c h small from to) (found.Cycles h) (at (n + 1)) brought w (cycles_bytes n c h small from to)
     (cycles_judged n c h small from to (way_stands skips (at n) c w).good) many limit
 
 -- n cycle blocks after the configuration, with c cycles; at least one each where none are skipped
@@ -121,8 +125,8 @@ end_reached skips n c room h each =
     let few : n + 1 < 4294967296 = omega arith in
     let total : c < 4294967296 = omega arith in
     subst₂ (Way skips) (ap (λ (k : ℕ). record { number = k; configured = true; ended = true }) same) (add-zero c)
-    (go_on skips (at (n + 1)) c (end_block (n + 1) c few total) the_end (record { number = n + 1 + 1; configured = true; ended = true }) 0 w
-    (end_bytes (n + 1) c few total) (end_judged (n + 1) c few total g) (no_cycles skips) (omega arith))
+    (go_on skips (at (n + 1)) c (end_block (n + 1) c few total) found.End
+    (record { number = n + 1 + 1; configured = true; ended = true }) 0 w (end_bytes (n + 1) c few total) (end_judged (n + 1) c few total g) (no_cycles skips) (omega arith))
 
 -- some file leads to every good place
 pub good_reached : (skips : Bool) (p : Place) (c : ℕ) → MayStand skips p c → Way skips p c
@@ -156,7 +160,7 @@ whole_exactly p c = (
 )
 
 -- 2 comes exactly where no file leads
-pub two_exactly_off_the_way : (p : Place) (c : ℕ) (l : List ℕ) → ((judged p c l).number ≡ numbers.not_sound) ↔ (Way true p c → ⊥)
+pub two_exactly_off_the_way : (p : Place) (c : ℕ) (l : List ℕ) → (number_of (judged p c l).found ≡ numbers.not_sound) ↔ (Way true p c → ⊥)
 unfolding place_unsound
 two_exactly_off_the_way p c l = (λ e w. way_never_2 true p c l w e, λ none. (two_exactly p c l).1 (go none (good_place p c) refl))
   where

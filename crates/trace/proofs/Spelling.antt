@@ -1,7 +1,8 @@
 -- Numbers spelled big-endian in two and four bytes.
 -- Assumes nothing.
 use mathlib.Core.Path.{◌≡◌, refl, ap, ap₂}
-use mathlib.Core.List.{List}
+use mathlib.Core.List.{List, [], ◌∷◌}
+use Rattle.std.specs.Int.{w16, w32, from_be_bytes}
 use Prim.Native.Nat.{ℕ, zero, suc, ◌+◌, ◌*◌, ◌<◌}
 use native.Mathlib.Nat.{add-zero, le_refl}
 use native.Mathlib.Omega.{arith}
@@ -18,6 +19,15 @@ four_spell l from =
     let e : byte l (from + 2 + 0) ≡ byte l (from + 2) = ap (byte l) (add-zero (from + 2)) in
     let d : byte l (from + 2 + 1) ≡ byte l (from + 3) = ap (byte l) (omega arith) in
     omega arith
+
+-- the library spells the same
+pub two_read : (l : List ℕ) (from : ℕ) → from_be_bytes w16 (byte l from ∷ byte l (from + 1) ∷ []) ≡ big_endian l from 2
+two_read l from = omega (arith, two_spell l from)
+
+pub four_read : (l : List ℕ) (from : ℕ)
+    → from_be_bytes w32 (byte l from ∷ byte l (from + 1) ∷ byte l (from + 2) ∷ byte l (from + 3) ∷ []) ≡ big_endian l from 4
+unfolding big_endian
+four_read l from = let e : byte l (from + 0) ≡ byte l from = ap (byte l) (add-zero from) in omega arith
 
 -- each byte is below 256
 pub two_lt : (l : List ℕ) (from : ℕ) → ((i : ℕ) → byte l i < 256) → big_endian l from 2 < 65536

@@ -9,13 +9,16 @@ use lib.Arith.{lt_of_le-ne}
 use lib.Dec.{eqb}
 use borrow.Author.Tests.{eqb-true, eqb-false, eq-eqb, ne_eqb}
 use Rattle.base.specs.Numbers as numbers
+use Rattle.base.specs.Refusal.{number_of}
 use Rattle.base.specs.Sizes.{cycle_limit}
 use Rattle.trace.specs.declared.place.Place.{Place}
 use Rattle.trace.specs.Bytes.{AreBytes}
 use Rattle.trace.specs.Blocks.{kind_of, held_of, config_of, block_numbers}
 use Rattle.trace.specs.Place.{start, without_cycles, cycle_blocks, good_place}
 use Rattle.trace.specs.Rules.{place_unsound, bytes_follow, block_wrong, form_wrong}
-use Rattle.trace.specs.Judged.{BlockOutcome, a_configuration, some_cycles, the_end, no_more, accepted, next_place, read_of, taken, judged}
+use Rattle.trace.specs.declared.judging.Answer.{Answer}
+use Rattle.trace.specs.declared.judging.Found.TheVariants as found
+use Rattle.trace.specs.Judged.{accepted, next_place, read_of, taken, judged}
 use Rattle.trace.specs.Way.{cycles_in, Brought, Way, begins, goes_on}
 use Rattle.trace.proofs.Exactness.{two_exactly, accepted_exactly, accepted_taken}
 use Rattle.trace.proofs.Formed.{Formed, formed_is}
@@ -36,8 +39,8 @@ pub record MayStand (skips : Bool) (p : Place) (c : ℕ) : Type 0 where
   pub each : OneEach skips p c
 
 -- the outcome leads on, with as many of its cycles as were accepted
-abbrev LeadsOn : Bool → ℕ → BlockOutcome → Type 0
-LeadsOn skips c o = (brought : ℕ) → Brought skips (cycles_in o.read) brought → c + brought ≤ cycle_limit
+abbrev LeadsOn : Bool → ℕ → Answer → Type 0
+LeadsOn skips c o = (brought : ℕ) → Brought skips (cycles_in o.found) brought → c + brought ≤ cycle_limit
     → MayStand skips o.place (c + brought)
 
 -- before the end block the rule of 8 is the one on its form
@@ -57,7 +60,7 @@ module _ (skips : Bool) (p : Place) (c : ℕ) (l : List ℕ) (bytes : AreBytes l
   room : p.number + 1 ≤ block_numbers
   room = let n = f.number in omega (arith, four_lt l 2 bytes)
 
-  after_configuration : kind_of l ≡ 1 → Good p c → LeadsOn skips c (accepted (a_configuration (config_of l)) (next_place p l))
+  after_configuration : kind_of l ≡ 1 → Good p c → LeadsOn skips c (accepted (found.Configuration (config_of l)) (next_place p l))
   after_configuration k (nothing a b n z) brought many limit =
       let most = many.most in
       let one : ◌≡◌ {A = ℕ} (cond (eqb (kind_of l) 3) 2 1) 1 = ap others_at (ne_eqb (kind_of l) 3 (λ q. absurd (omega arith))) in
@@ -67,7 +70,7 @@ module _ (skips : Bool) (p : Place) (c : ℕ) (l : List ℕ) (bytes : AreBytes l
       }
   after_configuration k (after n a d m h) brought many limit = absurd (true≢false (sym a ∙ f.opens k))
 
-  after_cycles : kind_of l ≡ 2 → Good p c → LeadsOn skips c (accepted (some_cycles (held_of l)) (next_place p l))
+  after_cycles : kind_of l ≡ 2 → Good p c → LeadsOn skips c (accepted (found.Cycles (held_of l)) (next_place p l))
   after_cycles k (nothing a b n z) brought many limit = absurd (true≢false (sym (f.follows (λ q. absurd (omega arith))) ∙ a))
   after_cycles k (after n a d m h) brought many limit =
       let held-most = h.most in
@@ -81,7 +84,7 @@ module _ (skips : Bool) (p : Place) (c : ℕ) (l : List ℕ) (bytes : AreBytes l
         each = λ q. let least = each q in let all = many.all q in omega (arith, others);
       }
 
-  after_end : kind_of l ≡ 3 → Good p c → LeadsOn skips c (accepted the_end (next_place p l))
+  after_end : kind_of l ≡ 3 → Good p c → LeadsOn skips c (accepted found.End (next_place p l))
   after_end k (nothing a b n z) brought many limit = absurd (true≢false (sym (f.follows (λ q. absurd (omega arith))) ∙ a))
   after_end k (after n a d m h) brought many limit =
       let held-most = h.most in
@@ -98,7 +101,7 @@ module _ (skips : Bool) (p : Place) (c : ℕ) (l : List ℕ) (bytes : AreBytes l
   after_block g = first (eqb (kind_of l) 1) refl
     where
       second : (kind_of l ≡ 1 → ⊥) → (b : Bool) → eqb (kind_of l) 2 ≡ b
-          → LeadsOn skips c (accepted (cond b (some_cycles (held_of l)) the_end) (next_place p l))
+          → LeadsOn skips c (accepted (cond b (found.Cycles (held_of l)) found.End) (next_place p l))
       second n true q = after_cycles (eqb-true (kind_of l) 2 q) g
       second n false q = after_end (last f.kind_from f.kind_to n (eqb-false (kind_of l) 2 q)) g
         where
@@ -109,8 +112,8 @@ module _ (skips : Bool) (p : Place) (c : ℕ) (l : List ℕ) (bytes : AreBytes l
               omega arith
 
       first : (b : Bool) → eqb (kind_of l) 1 ≡ b
-          → LeadsOn skips c (accepted (cond b (a_configuration (config_of l)) (cond (eqb (kind_of l) 2) (some_cycles (held_of l)) the_end))
-          (next_place p l))
+          → LeadsOn skips c (accepted
+          (cond b (found.Configuration (config_of l)) (cond (eqb (kind_of l) 2) (found.Cycles (held_of l)) found.End)) (next_place p l))
       first true q = after_configuration (eqb-true (kind_of l) 1 q) g
       first false q = second (eqb-false (kind_of l) 1 q) (eqb (kind_of l) 2) refl
 
@@ -120,7 +123,7 @@ taken_leads_on : (skips : Bool) (p : Place) (c : ℕ) (l : List ℕ) → AreByte
 unfolding taken
 taken_leads_on skips p c l bytes s f = go p.ended refl
   where
-    go : (b : Bool) → p.ended ≡ b → LeadsOn skips c (cond b (accepted no_more p) (accepted (read_of l) (next_place p l)))
+    go : (b : Bool) → p.ended ≡ b → LeadsOn skips c (cond b (accepted found.Done p) (accepted (read_of l) (next_place p l)))
     go true e = λ brought many limit.
         let most = many.most in
         subst (MayStand skips p) (omega arith) s
@@ -128,7 +131,7 @@ taken_leads_on skips p c l bytes s f = go p.ended refl
 
 -- an accepted block leads from a good place to a good place, with those of its cycles added that were accepted
 pub accepted_leads_on : (skips : Bool) (p : Place) (c : ℕ) (l : List ℕ) → AreBytes l → MayStand skips p c
-    → (judged p c l).number ≡ numbers.done → (brought : ℕ) → Brought skips (cycles_in (judged p c l).read) brought
+    → number_of (judged p c l).found ≡ numbers.done → (brought : ℕ) → Brought skips (cycles_in (judged p c l).found) brought
     → c + brought ≤ cycle_limit → MayStand skips (judged p c l).place (c + brought)
 accepted_leads_on skips p c l bytes s e =
     subst (LeadsOn skips c) (sym (accepted_taken p c l e)) (taken_leads_on skips p c l bytes s ((accepted_exactly p c l).0 e).0.formed)
@@ -140,17 +143,17 @@ way_stands skips _ _ (goes_on p c l brought w b s k f n many limit) =
     taken_leads_on skips p c l b (way_stands skips p c w) f brought many limit
 
 -- so that 2 never comes there
-pub way_never_2 : (skips : Bool) (p : Place) (c : ℕ) (l : List ℕ) → Way skips p c → (judged p c l).number ≡ numbers.not_sound → ⊥
+pub way_never_2 : (skips : Bool) (p : Place) (c : ℕ) (l : List ℕ) → Way skips p c → number_of (judged p c l).found ≡ numbers.not_sound → ⊥
 unfolding place_unsound
 way_never_2 skips p c l w e = true≢false (sym ((two_exactly p c l).0 e) ∙ ap not (way_stands skips p c w).good)
 
 -- a block that the judge accepts goes on
-pub way_judged : (skips : Bool) (p : Place) (c : ℕ) (l : List ℕ) → Way skips p c → AreBytes l → (judged p c l).number ≡ numbers.done
-    → (brought : ℕ) → Brought skips (cycles_in (judged p c l).read) brought → c + brought ≤ cycle_limit
-    → Way skips (judged p c l).place (c + brought)
+pub way_judged : (skips : Bool) (p : Place) (c : ℕ) (l : List ℕ) → Way skips p c → AreBytes l
+    → number_of (judged p c l).found ≡ numbers.done → (brought : ℕ) → Brought skips (cycles_in (judged p c l).found) brought
+    → c + brought ≤ cycle_limit → Way skips (judged p c l).place (c + brought)
 way_judged skips p c l w b e brought many limit =
     let r = (accepted_exactly p c l).0 e in
     let same = accepted_taken p c l e in
-    subst (λ (o : BlockOutcome). Way skips o.place (c + brought)) (sym same)
+    subst (λ (o : Answer). Way skips o.place (c + brought)) (sym same)
     (goes_on p c l brought w b r.0.whole r.0.checked r.0.formed r.1
-    (subst (λ (o : BlockOutcome). Brought skips (cycles_in o.read) brought) same many) limit)
+    (subst (λ (o : Answer). Brought skips (cycles_in o.found) brought) same many) limit)

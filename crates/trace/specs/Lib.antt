@@ -4,6 +4,7 @@ pub mod Blocks
 pub mod Cycles
 pub mod Place
 pub mod Rules
+pub mod Kind
 pub mod Judged
 pub mod Changed
 pub mod Way

@@ -2,7 +2,7 @@
 -- cycles accepted so far. An empty lent block is the end of the input.
 -- Assumes nothing.
 use Rattle.std.specs.Prelude.{Bool, cond, not, ◌&&◌, ◌||◌, List, ℕ, eqb, leb, ltb, length}
-use Rattle.std.proofs.Math.Option.{Option, none}
+use Rattle.std.specs.Prelude.{Option, None}
 use Rattle.base.specs.Sizes.{illegal_field}
 use Rattle.trace.specs.declared.place.Place.{Place}
 use Rattle.trace.specs.Bytes.{zeros}
@@ -65,4 +65,4 @@ block_wrong p c block = cond p.ended (bytes_follow block) (form_wrong p c block)
 
 -- 1, "configuration value out of range; the first such field, 1..7"
 unfoldable pub field_wrong : Place → List ℕ → Option ℕ
-field_wrong p block = cond (not p.ended && eqb (kind_of block) configuration) (illegal_field (config_of block)) none
+field_wrong p block = cond (not p.ended && eqb (kind_of block) configuration) (illegal_field (config_of block)) None

@@ -1,21 +1,24 @@
 -- The way through a file, block by block: "A file is one configuration block, any number of cycle blocks, one end block." (01, blocks)
 -- Assumes nothing.
 use Rattle.std.specs.Prelude.{◌≡◌, Bool, false, List, ℕ, ◌+◌, ◌≤◌}
-use Rattle.std.proofs.Math.Option.{Option, some, none}
+use Rattle.std.specs.Prelude.{None, Result, Ok, Err}
 use Rattle.base.specs.Sizes.{cycle_limit}
+use Rattle.base.specs.declared.refusal.Refusal.{Refusal}
 use Rattle.trace.specs.declared.place.Place.{Place}
 use Rattle.trace.specs.Bytes.{AreBytes}
 use Rattle.trace.specs.Place.{start}
 use Rattle.trace.specs.Rules.{block_short, check_wrong, block_wrong, field_wrong}
-use Rattle.trace.specs.Judged.{Read, a_configuration, some_cycles, the_end, no_more, taken}
+use Rattle.trace.specs.declared.judging.Found.{Found}
+use Rattle.trace.specs.declared.judging.Found.TheVariants as found
+use Rattle.trace.specs.Judged.{taken}
 
 -- the cycles that a block was found to hold
-abbrev pub cycles_in : Option Read → ℕ
-cycles_in none = 0
-cycles_in (some (a_configuration c)) = 0
-cycles_in (some (some_cycles n)) = n
-cycles_in (some the_end) = 0
-cycles_in (some no_more) = 0
+abbrev pub cycles_in : Result Found Refusal → ℕ
+cycles_in (Ok (found.Configuration c)) = 0
+cycles_in (Ok (found.Cycles n)) = n
+cycles_in (Ok found.End) = 0
+cycles_in (Ok found.Done) = 0
+cycles_in (Err r) = 0
 
 -- of the cycles that a block holds so many were accepted: all, or where the caller skips those that are refused any number of them
 pub record Brought (skips : Bool) (held brought : ℕ) : Type 0 where
@@ -27,5 +30,5 @@ pub record Brought (skips : Bool) (held brought : ℕ) : Type 0 where
 pub data Way (skips : Bool) : Place → ℕ → Type 0 where
   begins : Way skips start 0
   goes_on : (p : Place) (c : ℕ) (block : List ℕ) (brought : ℕ) → Way skips p c → AreBytes block → block_short p block ≡ false
-      → check_wrong p block ≡ false → block_wrong p c block ≡ false → field_wrong p block ≡ none
-      → Brought skips (cycles_in (taken p block).read) brought → c + brought ≤ cycle_limit → Way skips (taken p block).place (c + brought)
+      → check_wrong p block ≡ false → block_wrong p c block ≡ false → field_wrong p block ≡ None
+      → Brought skips (cycles_in (taken p block).found) brought → c + brought ≤ cycle_limit → Way skips (taken p block).place (c + brought)

@@ -1,121 +1,106 @@
 // 8: "block kind, number, count, unused byte, place in the file, or end total wrong", in a block before the end block.
-ghost use Rattle.std.specs.Prelude.{false, ◌≡◌, ◌≤◌, length};
-ghost use Rattle.trace.specs.Blocks.{end_of_body};
-ghost use Rattle.trace.specs.Rules.{has_wrong_kind, has_wrong_number, has_wrong_count, has_wrong_unused, has_wrong_order};
-ghost use Rattle.trace.specs.Rules.{has_wrong_total, form_wrong};
+ghost use Rattle.std.specs.Prelude.{false, ◌≡◌, ◌≤◌, length, Some};
+ghost use Rattle.trace.specs.Blocks.{kind_of, end_of_body};
+ghost use Rattle.trace.specs.Kind.{kind_named, kind_if_right};
+ghost use Rattle.trace.specs.Rules.{has_wrong_number, has_wrong_count, has_wrong_unused, has_wrong_order, has_wrong_total};
 
 use crate::{Place, bytes};
 
 // "Byte 0 kind (1 configuration, 2 cycles, 3 end)".
-pub(crate) const CONFIGURATION: u8 = 1;
+#[derive(Clone, Copy, PartialEq, Eq)]
+pub(crate) enum Kind {
+    Configuration,
+    Cycles,
+    End,
+}
 
-pub(crate) const CYCLES: u8 = 2;
-
-pub(crate) const END: u8 = 3;
-
-fn kind_wrong(block: &[u8]) -> bool
-    requires { 512 ≤ length block.now }
-    ensures { result ≡ has_wrong_kind block.now }
-{
-    let kind = block[0];
-    if kind < CONFIGURATION {
-        return true;
+impl Kind {
+    #[tactic(auto, unfolding(crate::specs::Kind::kind_named))]
+    fn named(code: u8) -> Option<Self>
+        ensures { result ≡ kind_named code }
+    {
+        match code {
+            1 => Some(Kind::Configuration),
+            2 => Some(Kind::Cycles),
+            3 => Some(Kind::End),
+            _ => None,
+        }
     }
-    END < kind
 }
 
 // "bytes 2..5 block number from 0, big-endian"
+#[tactic(auto, unfolding(crate::specs::Rules::has_wrong_number))]
 fn number_wrong(place: Place, block: &[u8]) -> bool
     requires { 512 ≤ length block.now }
     ensures { result ≡ has_wrong_number place block.now }
 {
-    bytes::four_bytes(block, 2) as u64 != place.number
+    u64::from(bytes::four_bytes(block, 2)) != place.number
 }
 
 // "byte 1 cycles held (1..7, only in kind 2, else 0)"
-fn count_wrong(block: &[u8]) -> bool
-    requires { 512 ≤ length block.now }
+#[tactic(auto, unfolding(crate::specs::Rules::has_wrong_count, crate::specs::Kind::kind_named))]
+fn count_wrong(kind: Kind, block: &[u8]) -> bool
+    requires { (512 ≤ length block.now) × (kind_named (kind_of block.now) ≡ Some kind) }
     ensures { result ≡ has_wrong_count block.now }
 {
-    let kind = block[0];
     let held = block[1];
-    if kind != CYCLES {
-        return held != 0;
+    match kind {
+        Kind::Cycles => held < 1 || 7 < held,
+        Kind::Configuration | Kind::End => held != 0,
     }
-    if held < 1 {
-        return true;
-    }
-    7 < held
 }
 
 // Where the bytes of the body that have a use end.
-fn body_end(block: &[u8]) -> usize
-    requires { 512 ≤ length block.now }
+#[tactic(auto, unfolding(crate::specs::Blocks::end_of_body, crate::specs::Kind::kind_named))]
+fn body_end(kind: Kind, block: &[u8]) -> usize
+    requires { (512 ≤ length block.now) × (kind_named (kind_of block.now) ≡ Some kind) }
     ensures { result ≡ end_of_body block.now }
 {
-    let kind = block[0];
-    if kind == CONFIGURATION {
-        return 15;
+    match kind {
+        Kind::Configuration => 15,
+        Kind::Cycles => 8 + 64 * usize::from(block[1]),
+        Kind::End => 12,
     }
-    if kind == CYCLES {
-        return 8 + 64 * (block[1] as usize);
-    }
-    12
 }
 
 // "Bytes without a use are zero."
-fn unused_wrong(block: &[u8]) -> bool
-    requires { (512 ≤ length block.now) × (has_wrong_count block.now ≡ false) }
+#[tactic(auto, unfolding(crate::specs::Rules::has_wrong_unused), using(crate::proofs::Used::count_end))]
+fn unused_wrong(kind: Kind, block: &[u8]) -> bool
+    requires { (512 ≤ length block.now) × (kind_named (kind_of block.now) ≡ Some kind) × (has_wrong_count block.now ≡ false) }
     ensures { result ≡ has_wrong_unused block.now }
 {
-    if !bytes::are_zero(block, 6, 8) {
-        return true;
-    }
-    !bytes::are_zero(block, body_end(block), 510)
+    !bytes::are_zero(block, 6, 8) || !bytes::are_zero(block, body_end(kind, block), 510)
 }
 
 // "A file is one configuration block, any number of cycle blocks, one end block."
-fn order_wrong(place: Place, block: &[u8]) -> bool
-    requires { 512 ≤ length block.now }
+#[tactic(auto, unfolding(crate::specs::Rules::has_wrong_order, crate::specs::Kind::kind_named))]
+fn order_wrong(place: Place, kind: Kind, block: &[u8]) -> bool
+    requires { kind_named (kind_of block.now) ≡ Some kind }
     ensures { result ≡ has_wrong_order place block.now }
 {
-    let kind = block[0];
-    if kind == CONFIGURATION {
-        return place.configured;
-    }
-    !place.configured
+    place.configured == (kind == Kind::Configuration)
 }
 
 // "End body: accepted cycles, bytes 8..11 big-endian."
-fn total_wrong(cycles: u64, block: &[u8]) -> bool
-    requires { 512 ≤ length block.now }
+#[tactic(auto, unfolding(crate::specs::Rules::has_wrong_total, crate::specs::Kind::kind_named))]
+fn total_wrong(cycles: u64, kind: Kind, block: &[u8]) -> bool
+    requires { (512 ≤ length block.now) × (kind_named (kind_of block.now) ≡ Some kind) }
     ensures { result ≡ has_wrong_total cycles block.now }
 {
-    let kind = block[0];
-    if kind != END {
-        return false;
-    }
-    bytes::four_bytes(block, 8) as u64 != cycles
+    kind == Kind::End && u64::from(bytes::four_bytes(block, 8)) != cycles
 }
 
-pub(crate) fn is_wrong(place: Place, cycles: u64, block: &[u8]) -> bool
+// The kind of a block of which none of this is wrong.
+#[tactic(auto, using(crate::proofs::Steps::kinds), unfolding(crate::specs::Kind::kind_if_right, crate::specs::Rules::form_wrong))]
+pub(crate) fn right_kind(place: Place, cycles: u64, block: &[u8]) -> Option<Kind>
     requires { 512 ≤ length block.now }
-    ensures { result ≡ form_wrong place cycles block.now }
+    ensures { result ≡ kind_if_right place cycles block.now }
 {
-    if kind_wrong(block) {
-        return true;
-    }
-    if number_wrong(place, block) {
-        return true;
-    }
-    if count_wrong(block) {
-        return true;
-    }
-    if unused_wrong(block) {
-        return true;
-    }
-    if order_wrong(place, block) {
-        return true;
-    }
-    total_wrong(cycles, block)
+    let kind = Kind::named(block[0])?;
+    let wrong = number_wrong(place, block)
+        || count_wrong(kind, block)
+        || unused_wrong(kind, block)
+        || order_wrong(place, kind, block)
+        || total_wrong(cycles, kind, block);
+    if wrong { None } else { Some(kind) }
 }

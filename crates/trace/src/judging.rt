@@ -1,43 +1,41 @@
 // A block judged at its place in the file: "Order. Block: 9, 7, 8, then 1."
-ghost use Rattle.std.specs.Prelude.{false, ◌≡◌, ◌≤◌, length};
+ghost use Rattle.std.specs.Prelude.{◌≡◌, ◌≤◌, length};
 ghost use Rattle.trace.specs.Blocks.{block_numbers, config_of};
-ghost use Rattle.trace.specs.Rules.{field_wrong};
-ghost use Rattle.trace.specs.Judged.{block_outcome, refused, judged_by_field, judged};
+ghost use Rattle.trace.specs.Judged.{place_after, judged};
 
+use crate::form::Kind;
 use crate::{Place, check, form, place};
+use base::{Config, Refusal};
 
-// What a block is found to be. A refusal has its number, and with 1 the field, else 0.
-#[derive(Clone, Copy)]
+// What a block that is not refused is found to be; `Done` after the end block, where no byte follows.
+#[derive(Clone, Copy, PartialEq, Eq)]
 pub enum Found {
-    Configuration(base::Config),
+    Configuration(Config),
     Cycles(u8),
     End,
     Done,
-    Refused(u8, u8),
 }
 
-// What was found, and the place after it: "a refused block leaves the reading place".
-#[derive(Clone, Copy)]
+// What was found, and the place after it.
+#[derive(Clone, Copy, PartialEq, Eq)]
 pub struct Answer {
     pub place: Place,
-    pub found: Found,
+    pub found: Result<Found, Refusal>,
 }
 
-fn refused(place: Place, number: u8, field: u8) -> Answer
-    ensures { block_outcome result ≡ refused number field place }
+// By a number of the table that has no place.
+fn refusal(number: u8) -> Refusal
+    ensures { (result.number ≡ number) × (result.place ≡ 0) }
 {
-    Answer {
-        place,
-        found: Found::Refused(number, field),
-    }
+    Refusal { number, place: 0 }
 }
 
 // "Configuration body: P, V, D, E, F, B, arbiter code at bytes 8..14."
-fn configuration(block: &[u8]) -> base::Config
+fn configuration(block: &[u8]) -> Config
     requires { 512 ≤ length block.now }
     ensures { result ≡ config_of block.now }
 {
-    base::Config {
+    Config {
         ports: block[8],
         vcs: block[9],
         depth: block[10],
@@ -48,63 +46,64 @@ fn configuration(block: &[u8]) -> base::Config
     }
 }
 
-// What a block holds that no rule before 1 refuses, and the place after it.
-fn read(place: Place, block: &[u8]) -> Answer
-    requires { (place.ended ≡ false) × (place.number ≤ block_numbers) × (512 ≤ length block.now) }
-    ensures { block_outcome result ≡ judged_by_field (field_wrong place block.now) place block.now }
+// What the next block is found to be, by the rules in their order.
+#[tactic(auto, using(crate::proofs::Steps::steps), unfolding(crate::specs::Kind::kind_if_right, crate::specs::Kind::kind_named))]
+fn read(place: Place, cycles: u64, block: &[u8]) -> Result<Found, Refusal>
+    ensures { result ≡ (judged place cycles block.now).found }
 {
-    let kind = block[0];
-    let next = Place {
-        number: place.number + 1,
-        configured: true,
-        ended: kind == form::END,
-    };
-    if kind == form::CONFIGURATION {
-        let config = configuration(block);
-        if let base::Judged::Illegal(field) = config.judged() {
-            return refused(place, base::CONFIGURATION_WRONG, field);
+    if !place::is_good(place, cycles) {
+        return Err(refusal(base::NOT_SOUND));
+    }
+    if place.ended {
+        if !block.is_empty() {
+            return Err(refusal(base::BLOCK_WRONG));
         }
-        return Answer {
-            place: next,
-            found: Found::Configuration(config),
-        };
+        return Ok(Found::Done);
     }
-    if kind == form::CYCLES {
-        return Answer {
-            place: next,
-            found: Found::Cycles(block[1]),
-        };
+    if block.len() < 512 {
+        return Err(refusal(base::BLOCK_SHORT));
     }
-    Answer {
-        place: next,
-        found: Found::End,
+    if !check::holds(block) {
+        return Err(refusal(base::CHECK_WRONG));
+    }
+    let Some(kind) = form::right_kind(place, cycles, block) else {
+        return Err(refusal(base::BLOCK_WRONG));
+    };
+    match kind {
+        Kind::Configuration => {
+            let config = configuration(block);
+            config.judged()?;
+            Ok(Found::Configuration(config))
+        }
+        Kind::Cycles => Ok(Found::Cycles(block[1])),
+        Kind::End => Ok(Found::End),
+    }
+}
+
+// The place after what was found there: a block was passed, unless none was there to read.
+fn after(place: Place, found: Found) -> Place
+    requires { place.number ≤ block_numbers }
+    ensures { result ≡ place_after place found }
+{
+    match found {
+        Found::Done => place,
+        Found::Configuration(_) | Found::Cycles(_) | Found::End => Place {
+            number: place.number + 1,
+            configured: true,
+            ended: matches!(found, Found::End),
+        },
     }
 }
 
 // The next block at a place, where so many cycles are accepted. An empty block is the end of the input.
 pub fn judge(place: Place, cycles: u64, block: &[u8]) -> Answer
-    ensures { block_outcome result ≡ judged place cycles block.now }
+    ensures { result ≡ judged place cycles block.now }
 {
-    if !place::is_good(place, cycles) {
-        return refused(place, base::NOT_SOUND, 0);
-    }
-    if place.ended {
-        if 0 < block.len() {
-            return refused(place, base::BLOCK_WRONG, 0);
-        }
-        return Answer {
-            place,
-            found: Found::Done,
-        };
-    }
-    if block.len() < 512 {
-        return refused(place, base::BLOCK_SHORT, 0);
-    }
-    if !check::holds(block) {
-        return refused(place, base::CHECK_WRONG, 0);
-    }
-    if form::is_wrong(place, cycles, block) {
-        return refused(place, base::BLOCK_WRONG, 0);
-    }
-    read(place, block)
+    let found = read(place, cycles, block);
+    // "a refused block leaves the reading place"
+    let place = match found {
+        Ok(found) => after(place, found),
+        Err(_) => place,
+    };
+    Answer { place, found }
 }

@@ -4,7 +4,7 @@ ghost use Rattle.trace.specs.Blocks.{block_numbers};
 ghost use Rattle.trace.specs.Place.{start, can_hold, good_place};
 
 // The number of the next block, and whether the configuration block and the end block were read.
-#[derive(Clone, Copy)]
+#[derive(Clone, Copy, PartialEq, Eq)]
 pub struct Place {
     pub number: u64,
     pub configured: bool,
@@ -28,40 +28,24 @@ impl Place {
 const BLOCK_NUMBERS: u64 = 4_294_967_296;
 
 // Whether so many cycle blocks can have brought so many accepted cycles: of the seven at most in each any number.
+#[tactic(auto, unfolding(crate::specs::Place::can_hold))]
 fn may_hold(blocks: u64, cycles: u64) -> bool
     requires { blocks ≤ block_numbers }
     ensures { result ≡ can_hold blocks cycles }
 {
-    if 7 * blocks < cycles {
-        return false;
-    }
-    cycles <= base::CYCLE_LIMIT
+    cycles <= 7 * blocks && cycles <= base::CYCLE_LIMIT
 }
 
 // Whether some file leads here with so many cycles accepted, refused ones skipped.
+#[tactic(auto, unfolding(crate::specs::Place::good_place))]
 pub fn is_good(place: Place, cycles: u64) -> bool
     ensures { result ≡ good_place place cycles }
 {
     if !place.configured {
-        if place.ended {
-            return false;
-        }
-        if place.number != 0 {
-            return false;
-        }
-        return cycles == 0;
+        return !place.ended && place.number == 0 && cycles == 0;
     }
-    if BLOCK_NUMBERS < place.number {
-        return false;
-    }
-    if place.ended {
-        if place.number < 2 {
-            return false;
-        }
-        return may_hold(place.number - 2, cycles);
-    }
-    if place.number < 1 {
-        return false;
-    }
-    may_hold(place.number - 1, cycles)
+    let without_cycles = if place.ended { 2 } else { 1 };
+    place.number <= BLOCK_NUMBERS
+        && without_cycles <= place.number
+        && may_hold(place.number - without_cycles, cycles)
 }

@@ -1,18 +1,21 @@
 -- `reader::next_cycle` meets its contract: the part that `cycle_part` shows says whether there is a cycle.
 -- Assumes nothing.
-use mathlib.Core.Path.{sym}
-use native.Mathlib.Omega.{arith}
+use Rattle.std.proofs.Common.{sym, ◌∙◌, arith}
+use borrow.Author.Tests.{eqb-true, eqb-false}
 use Rattle.trace.proofs.Parts.{shown_below_7}
 use Rattle.reader.proofs.Walking.{no_byte_stays, some_byte_shown, shown_moves}
 use Rattle.reader.proofs.next_cycle.Goals as goal
 
-pub returns-then-part-eq0 : goal.returns-then-part-eq0
-returns-then-part-eq0 c = sym (no_byte_stays _ _ _ c.cycle_part-part.ensures c.if-part-eq0.true)
+pub returns-then-is_empty : goal.returns-then-is_empty
+returns-then-is_empty c =
+    sym (no_byte_stays _ _ _ c.cycle_part.ensures (eqb-true _ 0 (sym c.is_empty.ensures ∙ c.if-is_empty.true)))
 
 pub overflow_add-result : goal.overflow_add-result
 overflow_add-result c =
-    let below = shown_below_7 _ _ (some_byte_shown _ _ _ c.cycle_part-part.ensures c.if-part-eq0.false) in
-    record { fits = omega (arith, below) }
+    let shown = some_byte_shown _ _ _ c.cycle_part.ensures (eqb-false _ 0 (sym c.is_empty.ensures ∙ c.if-is_empty.false)) in
+    omega (arith, shown_below_7 _ _ shown)
 
 pub returns : goal.returns
-returns c = sym (shown_moves _ _ (some_byte_shown _ _ _ c.cycle_part-part.ensures c.if-part-eq0.false))
+returns c =
+    let shown = some_byte_shown _ _ _ c.cycle_part.ensures (eqb-false _ 0 (sym c.is_empty.ensures ∙ c.if-is_empty.false)) in
+    sym (shown_moves _ _ shown)

@@ -1,59 +1,20 @@
 -- `trace::judge` meets its contract.
 -- Assumes nothing.
-use mathlib.Core.Path.{sym, ◌∙◌}
-use borrow.Author.Rules.{rules}
-use Rattle.trace.proofs.Order.{judged_unsound, judged_follows, judged_done, judged_short, judged_check, judged_form, judged_read}
-use Rattle.trace.proofs.Places.{good_number}
+use Rattle.std.proofs.Common.{sym, ◌∙◌}
+use Rattle.trace.proofs.After.{found_number, found_after, refused_after}
 use Rattle.trace.proofs.judging.judge.Goals as goal
 
-pub returns-then-not-is_good : goal.returns-then-not-is_good
-returns-then-not-is_good c =
-    c.refused.ensures ∙ sym (judged_unsound c.args.place c.args.cycles c.args.block.now
-    (sym c.is_good.ensures ∙ c.if-not-is_good.true))
+pub after-place-requires : goal.after-place-requires
+after-place-requires c = found_number c.args.place c.args.cycles c.args.block.now c.in-Ok.found (sym c.read-found.ensures ∙ c.in-Ok.is)
 
-pub returns-then-block-gt0 : goal.returns-then-block-gt0
-returns-then-block-gt0 c =
-    c.refused-then-block-gt0.ensures ∙ sym (judged_follows c.args.place c.args.cycles c.args.block.now
-    (sym c.is_good.ensures ∙ c.if-not-is_good.false)
-    c.if-place.true c.if-block-gt0.true)
+pub returns-in-Ok : goal.returns-in-Ok
+returns-in-Ok c =
+    let found = sym c.read-found.ensures ∙ c.in-Ok.is in
+    let place = c.after-place.ensures ∙ sym (found_after c.args.place c.args.cycles c.args.block.now c.in-Ok.found found) in
+    λ i. record { place = place i; found = sym found i }
 
-pub returns-then-place : goal.returns-then-place
-returns-then-place c =
-    sym (judged_done c.args.place c.args.cycles c.args.block.now
-    (sym c.is_good.ensures ∙ c.if-not-is_good.false)
-    c.if-place.true c.if-block-gt0.false)
-
-pub returns-then-block-lt512 : goal.returns-then-block-lt512
-returns-then-block-lt512 c =
-    c.refused-then-block-lt512.ensures ∙ sym (judged_short c.args.place c.args.cycles c.args.block.now
-    (sym c.is_good.ensures ∙ c.if-not-is_good.false)
-    c.if-place.false c.if-block-lt512.true)
-
-pub returns-then-not-holds : goal.returns-then-not-holds
-returns-then-not-holds c =
-    c.refused-then-not-holds.ensures ∙ sym (judged_check c.args.place c.args.cycles c.args.block.now
-    (sym c.is_good.ensures ∙ c.if-not-is_good.false) c.if-place.false
-    c.if-block-lt512.false (sym c.holds.ensures
-    ∙ c.if-not-holds.true))
-
-pub returns-then-is_wrong : goal.returns-then-is_wrong
-returns-then-is_wrong c =
-    c.refused-then-is_wrong.ensures ∙ sym (judged_form c.args.place c.args.cycles c.args.block.now
-    (sym c.is_good.ensures ∙ c.if-not-is_good.false) c.if-place.false
-    c.if-block-lt512.false (sym c.holds.ensures ∙ c.if-not-holds.false)
-    (sym c.is_wrong.ensures ∙ c.if-is_wrong.true))
-
-pub read-requires : goal.read-requires
-read-requires c = (
-  c.if-place.false,
-  good_number c.args.place c.args.cycles
-      (sym c.is_good.ensures ∙ c.if-not-is_good.false),
-  search rules,
-)
-
-pub returns : goal.returns
-returns c =
-    c.read.ensures ∙ sym (judged_read c.args.place c.args.cycles c.args.block.now
-    (sym c.is_good.ensures ∙ c.if-not-is_good.false) c.if-place.false
-    c.if-block-lt512.false (sym c.holds.ensures ∙ c.if-not-holds.false)
-    (sym c.is_wrong.ensures ∙ c.if-is_wrong.false))
+pub returns-in-Err : goal.returns-in-Err
+returns-in-Err c =
+    let found = sym c.read-found.ensures ∙ c.in-Err.is in
+    let place = sym (refused_after c.args.place c.args.cycles c.args.block.now c.in-Err.field-0 found) in
+    λ i. record { place = place i; found = c.read-found.ensures i }
