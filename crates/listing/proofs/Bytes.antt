@@ -1,22 +1,15 @@
 -- The bytes of a line in the parts in which they are stored, and how long a line is at most.
 -- Assumes nothing.
-use mathlib.Core.Path.{◌≡◌, refl, ap}
-use mathlib.Core.List.{List, [], ◌∷◌, ◌++◌}
+use mathlib.Core.Path.{◌≡◌, refl}
+use mathlib.Core.List.{[], ◌∷◌, ◌++◌}
 use Prim.Native.Nat.{ℕ, ◌+◌, ◌≤◌, ◌<◌}
 use native.Mathlib.Omega.{arith}
-use lib.ListN.{length, length-drop}
 use Rattle.base.specs.declared.reply.Departure.{Departure}
 use Rattle.base.specs.Flit.{letter_of}
 use Rattle.listing.specs.Digits.{decimal, hex}
-use Rattle.listing.specs.Inside.{Spelled}
 use Rattle.listing.specs.Lines.{credit, flit, finish, refusal, spaced, print}
-use Rattle.listing.proofs.Decimals.{decimal_digit, decimal_length}
+use Rattle.listing.proofs.Decimals.{decimal_digit}
 use Rattle.listing.proofs.Ranges.{FlitIn}
-
--- a number of at most nine digits has a zero in front of the ten
-pub spelled_zero : {n zeros : ℕ} {digits : List ℕ} → Spelled n digits zeros → n < 1000000000 → 1 ≤ zeros
-spelled_zero {n} {zeros} {digits} s h =
-    omega (arith, s.ten, s.shown, ap length (s.stands (omega arith)), length-drop zeros digits, decimal_length 8 n h)
 
 pub credit_bytes : (cycle input vc : ℕ) → input < 8 → vc < 4
     → (67 ∷ 32 ∷ decimal cycle) ++ (32 ∷ (48 + input) ∷ 32 ∷ (48 + vc) ∷ 10 ∷ []) ≡ print (credit cycle input vc)

@@ -5,11 +5,8 @@ use mathlib.Core.List.{List, [], ◌∷◌, ◌++◌}
 use Prim.Native.Nat.{ℕ, zero, suc, ◌+◌, ◌≤◌}
 use native.Mathlib.Omega.{arith}
 use lib.ListN.{get_or}
-use Rattle.base.specs.declared.reply.Reached.TheVariants as reached
-use Rattle.base.specs.declared.reply.Reached.{Reached}
+use Rattle.std.specs.Prelude.{Option, Some, None}
 use Rattle.base.specs.declared.reply.Departure.{Departure}
-use Rattle.base.specs.declared.reply.Left.TheVariants as left
-use Rattle.base.specs.declared.reply.Left.{Left}
 use Rattle.base.specs.declared.reply.Reply.{Reply}
 use Rattle.base.specs.Sizes.{most_ports}
 use Rattle.listing.specs.Lines.{Line, credit, flit, finish, refusal, by_port, credit_line, flit_line, cycle_lines, flit_lines}
@@ -28,36 +25,30 @@ pub flit_lines_more : (f : ℕ → List Line) (n : ℕ) → flit_lines (by_port 
 flit_lines_more f n = ap flit_lines (ports_more f n) ∙ flit_lines_append (by_port f n) (f n)
 
 module _ (cycle : ℕ) (reply : Reply) where
-  abbrev reached_at : ℕ → Reached
-  reached_at i = (get_or reply.senders i (record { reached = reached.Nothing })).reached
-
-  abbrev left_at : ℕ → Left
-  left_at o = (get_or reply.outputs o (record { left = left.Nothing })).left
-
   -- a C line is none
   credit_none : (i : ℕ) → flit_lines (credit_line cycle reply i) ≡ 0
   unfolding credit_line flit_lines
-  credit_none i = go (reached_at i) refl
+  credit_none i = go (get_or reply.senders i None) refl
     where
-      go : (r : Reached) → reached_at i ≡ r → flit_lines (credit_line cycle reply i) ≡ 0
-      go reached.Nothing e = rw e
-      go (reached.Vc v) e = rw e
+      go : (r : Option ℕ) → get_or reply.senders i None ≡ r → flit_lines (credit_line cycle reply i) ≡ 0
+      go None e = rw e
+      go (Some v) e = rw e
 
   -- an output without a flit has none, one with a flit has one
-  pub flit_none : (o : ℕ) → left_at o ≡ left.Nothing → flit_lines (flit_line cycle reply o) ≡ 0
+  pub flit_none : (o : ℕ) → get_or reply.outputs o None ≡ None → flit_lines (flit_line cycle reply o) ≡ 0
   unfolding flit_line flit_lines
   flit_none o e = rw e
 
-  pub flit_one : (o : ℕ) (d : Departure) → left_at o ≡ left.Flit d → flit_lines (flit_line cycle reply o) ≡ 1
+  pub flit_one : (o : ℕ) (d : Departure) → get_or reply.outputs o None ≡ Some d → flit_lines (flit_line cycle reply o) ≡ 1
   unfolding flit_line flit_lines
   flit_one o d e = rw e
 
   pub flit_most : (o : ℕ) → flit_lines (flit_line cycle reply o) ≤ 1
-  flit_most o = go (left_at o) refl
+  flit_most o = go (get_or reply.outputs o None) refl
     where
-      go : (l : Left) → left_at o ≡ l → flit_lines (flit_line cycle reply o) ≤ 1
-      go left.Nothing e = let n = flit_none o e in omega (arith, n)
-      go (left.Flit d) e = let n = flit_one o d e in omega (arith, n)
+      go : (l : Option Departure) → get_or reply.outputs o None ≡ l → flit_lines (flit_line cycle reply o) ≤ 1
+      go None e = let n = flit_none o e in omega (arith, n)
+      go (Some d) e = let n = flit_one o d e in omega (arith, n)
 
   credits_none : (n : ℕ) → flit_lines (by_port (credit_line cycle reply) n) ≡ 0
   unfolding by_port flit_lines

@@ -1,19 +1,18 @@
 -- Numbers as text: how long a decimal is, that it is read back to its number, that it has no leading zero; the hex digits likewise.
 -- Assumes nothing.
 use mathlib.Core.Path.{◌≡◌, refl, sym, ap, ◌∙◌}
-use mathlib.Core.Logic.{◌⊎◌, inl, inr}
 use mathlib.Core.Bool.{Bool, true, false, cond}
 use mathlib.Core.List.{List, [], ◌∷◌, ◌++◌}
 use Prim.Native.Nat.{ℕ, zero, suc, ◌+◌, ◌*◌, ◌/◌, ◌%◌, ◌^◌, ◌≤◌, ◌<◌}
-use native.Mathlib.Nat.{add-suc, pow-suc, mod-eq_of_lt, not-suc-le-zero, div-div-eq-div-mul}
+use native.Mathlib.Nat.{pow-suc, mod-eq_of_lt, not-suc-le-zero, div-div-eq-div-mul}
 use native.Mathlib.Numerals.{add-one}
 use native.Mathlib.Omega.{arith}
-use lib.Dec.{ltb, lit≤}
-use lib.ListN.{length, drop, set, length-append, drop_of_length-le}
-use lib.Seq.{sets, drop-append-le}
+use lib.Dec.{ltb}
+use lib.ListN.{length, set, length-append}
+use lib.Seq.{sets}
 use borrow.Author.Tests.{ltb-true, ltb-false, lt-ltb, le-ltb}
 use Rattle.listing.specs.Digits.{glyph, unless, decimal_within, decimal, last_digits, hex}
-use Rattle.listing.specs.Inside.{Laid, Spelled}
+use Rattle.listing.specs.Inside.{Laid}
 use Rattle.listing.proofs.Stores.{stores, stores_from}
 
 -- a decimal digit is 48 and its value
@@ -56,23 +55,6 @@ decimal_more n h =
     rw (le-ltb n 10 h) (ap (λ (ds : List ℕ). ds ++ (glyph (n % 10) ∷ []))
     (within_same n (suc (n / 10)) (n / 10) (omega arith) (omega arith)))
 
-pow_pos : (k : ℕ) → 1 ≤ 10 ^ k
-pow_pos zero = lit≤ tt
-pow_pos (suc k) = omega (arith, pow-suc 10 k, pow_pos k)
-
--- a number of k + 1 digits has just those
-pub decimal_last : (k n : ℕ) → n < 10 ^ suc k → (k ≡ 0) ⊎ (10 ^ k ≤ n) → decimal n ≡ last_digits 10 (suc k) n
-unfolding last_digits
-decimal_last zero n h low =
-    let small : n < 10 = h in
-    decimal_digit n small ∙ sym (ap (λ (d : ℕ). d ∷ []) (ap glyph (mod-eq_of_lt small) ∙ glyph_low n small))
-decimal_last (suc k) n h (inl e) = absurd (omega arith)
-decimal_last (suc k) n h (inr l) =
-    let p = pow-suc 10 k in
-    let q = pow-suc 10 (suc k) in
-    let ten : 10 ≤ n = omega (arith, pow_pos k) in
-    decimal_more n ten ∙ ap (λ (ds : List ℕ). ds ++ (glyph (n % 10) ∷ [])) (decimal_last k (n / 10) (omega arith) (inr (omega arith)))
-
 -- no decimal is longer than its bound's
 pub decimal_length : (k n : ℕ) → n < 10 ^ suc k → length (decimal n) ≤ suc k
 decimal_length zero n h = let e : length (decimal n) ≡ 1 = ap length (decimal_digit n h) in omega arith
@@ -86,31 +68,15 @@ decimal_length (suc k) n h = go (ltb n 10) refl (λ (l : 10 ≤ n). decimal_leng
         ∙ length-append (decimal (n / 10)) (glyph (n % 10) ∷ []) in
         omega (arith, shorter l)
 
+pub decimal_ten : (n : ℕ) → n < 10000000000 → length (decimal n) ≤ 10
+decimal_ten n h = decimal_length 9 n h
+
 -- the last k digits are k
 pub last_length : (b k n : ℕ) → length (last_digits b k n) ≡ k
 unfolding last_digits
 last_length b zero n = refl
 last_length b (suc k) n =
     length-append (last_digits b k (n / b)) (glyph (n % b) ∷ []) ∙ ap (λ (m : ℕ). m + 1) (last_length b k (n / b)) ∙ add-one k
-
--- without the first j of them there are the others
-pub last_drop : (b j k n : ℕ) → drop j (last_digits b (j + k) n) ≡ last_digits b k n
-unfolding last_digits
-last_drop b j zero n = drop_of_length-le (last_digits b (j + 0) n) {i = j} (omega (arith, last_length b (j + 0) n))
-last_drop b j (suc k) n =
-    ap (λ (m : ℕ). drop j (last_digits b m n)) (add-suc j k)
-    ∙ drop-append-le j (last_digits b (j + k) (n / b)) (glyph (n % b) ∷ []) (omega (arith, last_length b (j + k) (n / b)))
-    ∙ ap (λ (ds : List ℕ). ds ++ (glyph (n % b) ∷ [])) (last_drop b j k (n / b))
-
--- a number of k + 1 digits is spelled by ten of which j lead
-pub spelled_by : (k j n : ℕ) → j + suc k ≡ 10 → (n < 10000000000 → n < 10 ^ suc k) → (k ≡ 0) ⊎ (10 ^ k ≤ n)
-    → Spelled n (last_digits 10 10 n) j
-spelled_by k j n e h low =
-    record {
-      ten = last_length 10 10 n;
-      shown = omega arith;
-      stands = λ g. ap (λ (m : ℕ). drop j (last_digits 10 m n)) (sym e) ∙ last_drop 10 j (suc k) n ∙ sym (decimal_last k n (h g) low);
-    }
 
 -- a decimal digit by arithmetic
 pub glyph_mod : (x : ℕ) → glyph (x % 10) ≡ 48 + x % 10

@@ -7,11 +7,8 @@ use Prim.Native.Nat.{ℕ, zero, suc, ◌+◌, ◌*◌, ◌≤◌, ◌<◌, zero-
 use native.Mathlib.Nat.{mul-suc}
 use native.Mathlib.Omega.{arith}
 use lib.ListN.{length, get_or, length-append}
+use Rattle.std.specs.Prelude.{Option, Some, None}
 use Rattle.base.specs.declared.reply.Departure.{Departure}
-use Rattle.base.specs.declared.reply.Reached.{Reached}
-use Rattle.base.specs.declared.reply.Reached.TheVariants as reached
-use Rattle.base.specs.declared.reply.Left.{Left}
-use Rattle.base.specs.declared.reply.Left.TheVariants as left
 use Rattle.base.specs.declared.reply.Reply.{Reply}
 use Rattle.base.specs.Flit.{letter_of}
 use Rattle.base.specs.Numbers.{room}
@@ -96,23 +93,22 @@ ports_length f m (suc n) each =
 module _ (cycle : ℕ) (reply : Reply) where
   credits_each : (i : ℕ) → printable (credit_line cycle reply i) ≡ true → length (text (credit_line cycle reply i)) ≤ 16
   unfolding text
-  credits_each i ok = go (get_or reply.senders i (record { reached = reached.Nothing })).reached refl
+  credits_each i ok = go (get_or reply.senders i None) refl
     where
-      go : (r : Reached) → (get_or reply.senders i (record { reached = reached.Nothing })).reached ≡ r
-          → length (text (credit_line cycle reply i)) ≤ 16
-      go reached.Nothing e = let l = ap (λ (ls : List Line). length (text ls)) (no_credit cycle reply i e) in omega arith
-      go (reached.Vc vc) e =
+      go : (r : Option ℕ) → get_or reply.senders i None ≡ r → length (text (credit_line cycle reply i)) ≤ 16
+      go None e = let l = ap (λ (ls : List Line). length (text ls)) (no_credit cycle reply i e) in omega arith
+      go (Some vc) e =
           let one = one_credit cycle reply i vc e in
           let l = ap (λ (ls : List Line). length (text ls)) one ∙ ap length (text_one (credit cycle i vc)) in
           omega (arith, credit_length cycle i vc (sym (ap printable one) ∙ ok))
 
   flits_each : (i : ℕ) → printable (flit_line cycle reply i) ≡ true → length (text (flit_line cycle reply i)) ≤ 31
   unfolding text
-  flits_each i ok = go (get_or reply.outputs i (record { left = left.Nothing })).left refl
+  flits_each i ok = go (get_or reply.outputs i None) refl
     where
-      go : (r : Left) → (get_or reply.outputs i (record { left = left.Nothing })).left ≡ r → length (text (flit_line cycle reply i)) ≤ 31
-      go left.Nothing e = let l = ap (λ (ls : List Line). length (text ls)) (no_flit cycle reply i e) in omega arith
-      go (left.Flit d) e =
+      go : (r : Option Departure) → get_or reply.outputs i None ≡ r → length (text (flit_line cycle reply i)) ≤ 31
+      go None e = let l = ap (λ (ls : List Line). length (text ls)) (no_flit cycle reply i e) in omega arith
+      go (Some d) e =
           let one = one_flit cycle reply i d e in
           let l = ap (λ (ls : List Line). length (text ls)) one ∙ ap length (text_one (flit cycle i d)) in
           omega (arith, flit_length cycle i d (sym (ap printable one) ∙ ok))

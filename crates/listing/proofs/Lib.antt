@@ -2,6 +2,7 @@ pub mod Bytes
 pub mod Decimals
 pub mod Exactness
 pub mod Laying
+pub mod Leading
 pub mod Lengths
 pub mod Counting
 pub mod Outcomes
@@ -9,5 +10,4 @@ pub mod Ports
 pub mod Ranges
 pub mod ReadBack
 pub mod Reread
-pub mod Room
 pub mod Stores

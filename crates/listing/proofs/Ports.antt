@@ -11,9 +11,8 @@ use lib.Arith.{lt_of_le-ne}
 use lib.Dec.{eqb}
 use lib.ListN.{get_or}
 use borrow.Author.Tests.{eqb-true, eqb-false}
-use Rattle.base.specs.declared.reply.Reached.TheVariants as reached
+use Rattle.std.specs.Prelude.{Some, None}
 use Rattle.base.specs.declared.reply.Departure.{Departure}
-use Rattle.base.specs.declared.reply.Left.TheVariants as left
 use Rattle.base.specs.declared.reply.Reply.{Reply}
 use Rattle.listing.specs.Lines.{Line, credit, flit, values_of, all_in_range, printable, print, text, by_port, credit_line, flit_line}
 use Rattle.listing.specs.Lines.{cycle_lines}
@@ -72,23 +71,24 @@ module _ (f : ℕ → List Line) where
 
 -- what a port has, by what the reply says of it
 module _ (cycle : ℕ) (reply : Reply) (i : ℕ) where
-  pub no_credit : (get_or reply.senders i (record { reached = reached.Nothing })).reached ≡ reached.Nothing → credit_line cycle reply i ≡ []
+  pub no_credit : get_or reply.senders i None ≡ None → credit_line cycle reply i ≡ []
   unfolding credit_line
   no_credit e = rw e
 
-  pub one_credit : (vc : ℕ) → (get_or reply.senders i (record { reached = reached.Nothing })).reached ≡ reached.Vc vc
-      → credit_line cycle reply i ≡ credit cycle i vc ∷ []
+  pub one_credit : (vc : ℕ) → get_or reply.senders i None ≡ Some vc → credit_line cycle reply i ≡ credit cycle i vc ∷ []
   unfolding credit_line
   one_credit vc e = rw e
 
-  pub no_flit : (get_or reply.outputs i (record { left = left.Nothing })).left ≡ left.Nothing → flit_line cycle reply i ≡ []
+  pub no_flit : get_or reply.outputs i None ≡ None → flit_line cycle reply i ≡ []
   unfolding flit_line
   no_flit e = rw e
 
-  pub one_flit : (d : Departure) → (get_or reply.outputs i (record { left = left.Nothing })).left ≡ left.Flit d → flit_line cycle reply i
-      ≡ flit cycle i d ∷ []
+  pub one_flit : (d : Departure) → get_or reply.outputs i None ≡ Some d → flit_line cycle reply i ≡ flit cycle i d ∷ []
   unfolding flit_line
   one_flit d e = rw e
+
+-- a step from a port to the next
+pub ruleset one_more = (printable_more, no_credit, one_credit, no_flit, one_flit)
 
 -- a cycle's bytes are those of its C lines, then those of its F lines
 pub cycle_text : (cycle : ℕ) (reply : Reply)

@@ -1,24 +1,16 @@
 -- Values in their ranges: from the test of a line to the bounds of its values.
 -- Assumes nothing.
-use mathlib.Core.Path.{◌≡◌, refl, sym, ap}
-use mathlib.Core.Bool.{Bool, true, false, not, ◌&&◌}
+use mathlib.Core.Path.{◌≡◌}
+use mathlib.Core.Bool.{true, ◌&&◌}
 use mathlib.Core.List.{List, [], ◌∷◌}
 use Prim.Native.Nat.{ℕ, ◌≤◌, ◌<◌}
 use native.Mathlib.Omega.{arith}
-use lib.Dec.{leb, ltb}
-use borrow.Author.Tests.{leb-true, leb-false, lt-ltb, le-ltb}
+use lib.Dec.{leb}
+use borrow.Author.Tests.{leb-true}
 use Rattle.base.specs.declared.reply.Departure.{Departure}
 use Rattle.base.specs.Sizes.{Field, in_range}
 use Rattle.base.proofs.Search.{both}
 use Rattle.listing.specs.Lines.{Line, credit, flit, finish, refusal, values_of, all_in_range, printable}
-
--- at most is not more than
-pub leb_not_ltb : (a b : ℕ) → leb a b ≡ not (ltb b a)
-leb_not_ltb a b = go (leb a b) refl
-  where
-    go : (t : Bool) → leb a b ≡ t → t ≡ not (ltb b a)
-    go true e = sym (ap not (le-ltb b a (leb-true a b e)))
-    go false e = sym (ap not (lt-ltb b a (leb-false a b e)))
 
 -- the first value is in its range, and so are the others
 pub first_in : (f : Field) (fs : List Field) → all_in_range (f ∷ fs) ≡ true → (f.least ≤ f.value) × (f.value ≤ f.most)

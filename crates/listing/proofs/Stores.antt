@@ -2,12 +2,14 @@
 -- Assumes nothing.
 use mathlib.Core.Path.{◌≡◌, refl, sym, ap, subst, ◌∙◌}
 use mathlib.Core.List.{List, [], ◌∷◌, ◌++◌, append_assoc, append-nil}
-use Prim.Native.Nat.{ℕ, suc, ◌+◌, ◌-◌, ◌≤◌, ◌<◌}
+use Prim.Native.Nat.{ℕ, suc, ◌+◌, ◌-◌, ◌≤◌}
 use native.Mathlib.Nat.{add-suc, add-zero, zero-add, suc-add}
 use native.Mathlib.Numerals.{add-one}
 use native.Mathlib.Omega.{arith}
-use lib.ListN.{length, get_or, take, drop, set, length-append, length-drop, drop_of_length-le}
-use lib.Seq.{sets, length-sets, sets-eq, drop-drop, drop-cons}
+use lib.ListN.{length, take, drop, set, length-append, length-drop, drop_of_length-le}
+use lib.Seq.{take_all, sets, length-sets, sets-eq, drop-drop}
+use borrow.Rule.Slice.PartMut.{put_mid}
+use Rattle.std.proofs.lemmas.Slice.{put_mid-paste}
 use Rattle.listing.specs.Inside.{Laid}
 use Rattle.listing.specs.Writing.{put}
 
@@ -74,7 +76,13 @@ pub put_length : (l bs : List ℕ) (p : ℕ) → p + length bs ≤ length l → 
 unfolding put
 put_length l bs p h = ap length (sym (sets-eq bs l p h)) ∙ length-sets l p bs
 
--- a copy that goes on: one byte stored, and the rest after it
-pub rest_stored : (l : List ℕ) (p : ℕ) (ds : List ℕ) (i : ℕ) → i < length ds → sets (set l p (get_or ds i 0)) (p + 1) (drop (i + 1) ds)
-    ≡ sets l p (drop i ds)
-rest_stored l p ds i h = rw (add-one p, add-one i, drop-cons ds i 0 h)
+-- a slice copied over a part lays its bytes
+pub laid_copy : (l : List ℕ) (p : ℕ) (bs ys : List ℕ) → ys ≡ bs → p + length bs ≤ length l
+    → Laid l p bs (put_mid p (p + length bs - p) l ys) (p + length bs)
+laid_copy l p bs ys e h =
+    record {
+      stored =
+          put_mid-paste p (p + length bs - p) l ys bs (length bs) e (omega arith) refl
+          ∙ ap (λ r. take p l ++ r ++ drop (p + length bs) l) (take_all (length bs) bs (omega arith)) ∙ sym (sets-eq bs l p h);
+      ahead = refl;
+    }

@@ -1,14 +1,11 @@
 -- The lines of the list, how each is printed, and the ranges of its values (01, the list).
 -- Assumes nothing.
 use Rattle.std.specs.Prelude.{Bool, true, ◌&&◌, List, [], ◌∷◌, ◌++◌, ℕ, zero, suc, ◌-◌, get_or}
-use Rattle.std.proofs.Math.Option.{Option, some, none}
-use Rattle.base.specs.declared.reply.Reached.TheVariants as reached
+use Rattle.std.specs.Prelude.{Option, Some, None}
 use Rattle.base.specs.declared.reply.Departure.{Departure}
-use Rattle.base.specs.declared.reply.Left.TheVariants as left
 use Rattle.base.specs.declared.reply.Reply.{Reply}
 use Rattle.base.specs.Flit.{head, single, letter_of}
 use Rattle.base.specs.Numbers.{largest_number, largest_place}
-use Rattle.base.specs.Reply.{credit_of, departure_of}
 use Rattle.base.specs.Sizes.{Field, field, in_range, most_ports, most_vcs, cycle_limit, flit_limit}
 use Rattle.listing.specs.Digits.{decimal, hex}
 
@@ -89,19 +86,19 @@ by_port lines (suc n) = by_port lines n ++ lines n
 
 -- "`C cycle input vc` for each credit reaching a sender"
 unfoldable pub credit_line : ℕ → Reply → ℕ → List Line
-credit_line cycle reply i = line_of (credit_of (get_or reply.senders i (record { reached = reached.Nothing })).reached)
+credit_line cycle reply i = line_of (get_or reply.senders i None)
   where
     line_of : Option ℕ → List Line
-    line_of none = []
-    line_of (some vc) = credit cycle i vc ∷ []
+    line_of None = []
+    line_of (Some vc) = credit cycle i vc ∷ []
 
 -- "`F cycle output outvc input invc kind payload` for each flit out"
 unfoldable pub flit_line : ℕ → Reply → ℕ → List Line
-flit_line cycle reply o = line_of (departure_of (get_or reply.outputs o (record { left = left.Nothing })).left)
+flit_line cycle reply o = line_of (get_or reply.outputs o None)
   where
     line_of : Option Departure → List Line
-    line_of none = []
-    line_of (some d) = flit cycle o d ∷ []
+    line_of None = []
+    line_of (Some d) = flit cycle o d ∷ []
 
 -- "per accepted cycle, first `C ..` for each credit .., by input; then `F ..` for each flit out, by output"
 unfoldable pub cycle_lines : ℕ → Reply → List Line

@@ -1,11 +1,12 @@
 -- A write: its lines laid over the caller's buffer from a place on, or a refusal that leaves the buffer (01, numbers and the list).
 -- Assumes nothing.
 use Rattle.std.specs.Prelude.{Bool, cond, ◌||◌, ◌⊎◌, ℕ, ◌+◌, ◌-◌, ◌<◌, ltb, length, take, drop}
+use Rattle.std.specs.Prelude.{Result, Ok, Err}
 use mathlib.Core.List.{List, ◌++◌, Memᴰ}
 use Rattle.base.specs.Sizes.{Field}
 use Rattle.base.specs.Numbers.{done, no_room, out_of_range, room}
-use Rattle.listing.specs.declared.Written.{Written}
-use Rattle.listing.specs.declared.Written.TheVariants.{Lines, NoRoom, OutOfRange}
+use Rattle.listing.specs.declared.Unwritten.{Unwritten}
+use Rattle.listing.specs.declared.Unwritten.TheVariants.{NoRoom, OutOfRange}
 use Rattle.listing.specs.Lines.{Line, values_of, text, printable}
 
 -- the number given back, the bytes written, and the buffer afterwards
@@ -39,10 +40,10 @@ written buffer place lines =
     (refused_with out_of_range buffer)
 
 -- the document's number and values for each answer, beside the buffer
-abbrev pub write_outcome : Written → List ℕ → WriteOutcome
-write_outcome (Lines bytes) buffer = record { number = done; bytes = bytes; buffer = buffer }
-write_outcome NoRoom buffer = refused_with no_room buffer
-write_outcome OutOfRange buffer = refused_with out_of_range buffer
+abbrev pub write_outcome : Result ℕ Unwritten → List ℕ → WriteOutcome
+write_outcome (Ok bytes) buffer = record { number = done; bytes = bytes; buffer = buffer }
+write_outcome (Err NoRoom) buffer = refused_with no_room buffer
+write_outcome (Err OutOfRange) buffer = refused_with out_of_range buffer
 
 -- "reply or line value outside its range": some value of some of the lines that would be written
 pub record Outside (lines : List Line) : Type 0 where

@@ -1,10 +1,21 @@
 // Numbers as text.
-ghost use Rattle.std.specs.Prelude.{◌≡◌, ◌+◌, ◌-◌, ◌≤◌, ◌<◌, length, drop};
+ghost use Rattle.std.specs.Prelude.{◌≡◌, ◌+◌, ◌≤◌, ◌<◌, eqb, length, take};
+ghost use Rattle.std.specs.List.{prefix_len};
 ghost use Rattle.listing.specs.Digits.{glyph as digits_glyph, decimal as digits_decimal, last_digits, hex as digits_hex};
 ghost use Rattle.listing.specs.Inside.{Laid, Spelled};
 
+// A number's last ten decimal digits, and how many of them lead and are zeros: a number of up to ten digits stands after them.
+#[derive(Drop)]
+pub(crate) struct Spelling {
+    pub number: u64,
+    digits: [u8; 10],
+    zeros: usize,
+    ghost spelled: { Spelled number digits zeros },
+}
+
 // The last ten decimal digits of a number, zeros in front. No division waits for another.
-pub(crate) fn ten(n: u64) -> [u8; 10]
+#[tactic(auto, using(crate::proofs::Decimals::ten_digits))]
+fn ten(n: u64) -> [u8; 10]
     ensures { result ≡ last_digits 10 10 n }
 {
     [
@@ -22,63 +33,49 @@ pub(crate) fn ten(n: u64) -> [u8; 10]
 }
 
 // How many of the ten lead and are zeros. The last digit always shows.
-pub(crate) fn zeros(n: u64) -> usize
-    ensures { Spelled n (last_digits 10 10 n) result }
+fn zeros(digits: &[u8; 10]) -> usize
+    ensures { result ≡ prefix_len (λ d. eqb d 48) (take 9 digits.now) }
 {
-    if n < 10 {
-        return 9;
-    }
-    if n < 100 {
-        return 8;
-    }
-    if n < 1000 {
-        return 7;
-    }
-    if n < 10000 {
-        return 6;
-    }
-    if n < 100000 {
-        return 5;
-    }
-    if n < 1000000 {
-        return 4;
-    }
-    if n < 10000000 {
-        return 3;
-    }
-    if n < 100000000 {
-        return 2;
-    }
-    if n < 1000000000 {
-        return 1;
-    }
-    0
+    digits[..9].iter().take_while(|d| **d == b'0').count()
 }
 
-// The digits after the leading zeros.
-pub(crate) fn copy(out: &mut [u8], at: usize, digits: &[u8; 10], zeros: usize) -> usize
-    requires { (length digits.now ≡ 10) × (zeros < 10) × (at + 10 ≤ length out.old + zeros) }
-    ensures { Laid out.old at (drop zeros digits.now) out.new result }
-{
-    let mut next = at;
-    let mut i = zeros;
-    while i < 10 {
-        out[next] = digits[i];
-        next += 1;
-        i += 1;
+impl Spelling {
+    #[tactic(auto, using(crate::proofs::Leading::spelled))]
+    pub(crate) fn of(number: u64) -> Self
+        ensures { result.number ≡ number }
+    {
+        let digits = ten(number);
+        let zeros = zeros(&digits);
+        Spelling {
+            number,
+            digits,
+            zeros,
+        }
     }
-    next
+
+    // The digits after the leading zeros.
+    pub(crate) fn write(&self, out: &mut [u8], at: usize) -> usize
+        requires { (self.now.number < 10000000000) × (at + length (digits_decimal self.now.number) ≤ length out.old) }
+        ensures { Laid out.old at (digits_decimal self.now.number) out.new result }
+    {
+        let shown = &self.digits[self.zeros..];
+        let end = at + shown.len();
+        out[at..end].copy_from_slice(shown);
+        end
+    }
 }
 
+#[tactic(auto, using(crate::proofs::Decimals::decimal_ten))]
 pub(crate) fn decimal(out: &mut [u8], at: usize, n: u64) -> usize
     requires { (n < 10000000000) × (at + 10 ≤ length out.old) }
     ensures { Laid out.old at (digits_decimal n) out.new result × (result ≤ at + 10) }
 {
-    let digits = ten(n);
-    copy(out, at, &digits, zeros(n))
+    let spelling = Spelling::of(n);
+    spelling.write(out, at)
 }
 
 // `0` to `9`, then `a` to `f`, which stand 39 further on.
+#[tactic(auto, using(crate::proofs::Decimals::glyph_sum))]
 fn glyph(d: u32) -> u8
     requires { d < 16 }
     ensures { result ≡ digits_glyph d }

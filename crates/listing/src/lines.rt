@@ -1,46 +1,32 @@
 // The lines, byte by byte, from a place of the lent part on. What is written is in range and there is room: `judge` has tested it.
-ghost use Rattle.std.specs.Prelude.{◌≡◌, true, [], ◌∷◌, ◌++◌, ◌+◌, ◌*◌, ◌≤◌, ◌<◌, length};
+ghost use Rattle.std.specs.Prelude.{◌≡◌, true, [], ◌∷◌, ◌+◌, ◌≤◌, ◌<◌, length};
 ghost use Rattle.base.specs.Numbers.{room};
 ghost use Rattle.base.specs.Sizes.{most_ports};
 ghost use Rattle.listing.specs.Digits.{decimal};
-ghost use Rattle.listing.specs.Inside.{Laid, Spelled};
+ghost use Rattle.listing.specs.Inside.{Laid};
 ghost use Rattle.listing.specs.Lines.{credit as line_credit, flit as line_flit, finish as line_finish, refusal as line_refusal};
 ghost use Rattle.listing.specs.Lines.{print, text, printable, by_port, credit_line, flit_line, cycle_lines};
 
 use crate::digits;
-use base::{Departure, Left, Reached, Reply};
+use crate::digits::Spelling;
+use base::{Departure, Reply};
 
-// "C cycle" or "F cycle". The cycle's digits are had once a cycle and lent; `cycle` itself is there for the contract.
-fn start(
-    out: &mut [u8],
-    at: usize,
-    letter: u8,
-    cycle: u64,
-    digits: &[u8; 10],
-    zeros: usize,
-) -> usize
-    requires { (cycle < 1000000000) × Spelled cycle digits.now zeros × (at + 11 ≤ length out.old) }
-    ensures { Laid out.old at (letter ∷ 32 ∷ decimal cycle) out.new result × (result ≤ at + 11) }
+// "C cycle" or "F cycle".
+fn start(out: &mut [u8], at: usize, letter: u8, cycle: &Spelling) -> usize
+    requires { (cycle.now.number < 1000000000) × (at + 11 ≤ length out.old) }
+    ensures { Laid out.old at (letter ∷ 32 ∷ decimal cycle.now.number) out.new result × (result ≤ at + 11) }
 {
     out[at] = letter;
     out[at + 1] = b' ';
-    digits::copy(out, at + 2, digits, zeros)
+    cycle.write(out, at + 2)
 }
 
 // "C cycle input vc": a port and a VC are one digit.
-fn credit(
-    out: &mut [u8],
-    at: usize,
-    cycle: u64,
-    digits: &[u8; 10],
-    zeros: usize,
-    input: u8,
-    vc: u8,
-) -> usize
-    requires { (printable (line_credit cycle input vc ∷ []) ≡ true) × Spelled cycle digits.now zeros × (at + 16 ≤ length out.old) }
-    ensures { Laid out.old at (print (line_credit cycle input vc)) out.new result × (result ≤ at + 16) }
+fn credit(out: &mut [u8], at: usize, cycle: &Spelling, input: u8, vc: u8) -> usize
+    requires { (printable (line_credit cycle.now.number input vc ∷ []) ≡ true) × (at + 16 ≤ length out.old) }
+    ensures { Laid out.old at (print (line_credit cycle.now.number input vc)) out.new result × (result ≤ at + 16) }
 {
-    let q = start(out, at, b'C', cycle, digits, zeros);
+    let q = start(out, at, b'C', cycle);
     out[q] = b' ';
     out[q + 1] = 48 + input;
     out[q + 2] = b' ';
@@ -50,19 +36,12 @@ fn credit(
 }
 
 // "F cycle output outvc input invc kind payload"
-fn flit(
-    out: &mut [u8],
-    at: usize,
-    cycle: u64,
-    digits: &[u8; 10],
-    zeros: usize,
-    output: u8,
-    d: Departure,
-) -> usize
-    requires { (printable (line_flit cycle output d ∷ []) ≡ true) × Spelled cycle digits.now zeros × (at + 31 ≤ length out.old) }
-    ensures { Laid out.old at (print (line_flit cycle output d)) out.new result × (result ≤ at + 31) }
+#[tactic(auto, using(crate::proofs::Decimals::hex_length))]
+fn flit(out: &mut [u8], at: usize, cycle: &Spelling, output: u8, d: Departure) -> usize
+    requires { (printable (line_flit cycle.now.number output d ∷ []) ≡ true) × (at + 31 ≤ length out.old) }
+    ensures { Laid out.old at (print (line_flit cycle.now.number output d)) out.new result × (result ≤ at + 31) }
 {
-    let q = start(out, at, b'F', cycle, digits, zeros);
+    let q = start(out, at, b'F', cycle);
     let kind = base::letter(d.kind);
     out[q] = b' ';
     out[q + 1] = 48 + output;
@@ -81,50 +60,29 @@ fn flit(
 }
 
 // "first `C cycle input vc` for each credit reaching a sender, by input"
-fn credits(out: &mut [u8], cycle: u64, digits: &[u8; 10], zeros: usize, reply: Reply) -> usize
-    requires { (printable (by_port (credit_line cycle reply) most_ports) ≡ true) × Spelled cycle digits.now zeros
-        × (128 ≤ length out.old) }
-    ensures { Laid out.old 0 (text (by_port (credit_line cycle reply) most_ports)) out.new result × (result ≤ 128) }
+fn credits(out: &mut [u8], cycle: &Spelling, reply: Reply) -> usize
+    requires { (printable (by_port (credit_line cycle.now.number reply) most_ports) ≡ true) × (128 ≤ length out.old) }
+    ensures { Laid out.old 0 (text (by_port (credit_line cycle.now.number reply) most_ports)) out.new result × (result ≤ 128) }
 {
     let mut at: usize = 0;
-    let mut i: u8 = 0;
-    while i < base::PORTS {
-        let sender = reply.senders[i as usize];
-        let input = i;
-        i += 1;
-        let reached = sender.reached;
-        let Reached::Vc(vc) = reached else {
-            continue;
-        };
-        at = credit(out, at, cycle, digits, zeros, input, vc);
+    for input in 0..base::PORTS {
+        if let Some(vc) = reply.senders[input as usize] {
+            at = credit(out, at, cycle, input, vc);
+        }
     }
     at
 }
 
 // "then `F cycle output outvc input invc kind payload` for each flit out, by output"
-fn flits(
-    out: &mut [u8],
-    from: usize,
-    cycle: u64,
-    digits: &[u8; 10],
-    zeros: usize,
-    reply: Reply,
-) -> usize
-    requires { (printable (by_port (flit_line cycle reply) most_ports) ≡ true) × Spelled cycle digits.now zeros
-        × (from + 248 ≤ length out.old) }
-    ensures { Laid out.old from (text (by_port (flit_line cycle reply) most_ports)) out.new result }
+fn flits(out: &mut [u8], from: usize, cycle: &Spelling, reply: Reply) -> usize
+    requires { (printable (by_port (flit_line cycle.now.number reply) most_ports) ≡ true) × (from + 248 ≤ length out.old) }
+    ensures { Laid out.old from (text (by_port (flit_line cycle.now.number reply) most_ports)) out.new result }
 {
     let mut at: usize = from;
-    let mut i: u8 = 0;
-    while i < base::PORTS {
-        let output = reply.outputs[i as usize];
-        let number = i;
-        i += 1;
-        let left = output.left;
-        let Left::Flit(d) = left else {
-            continue;
-        };
-        at = flit(out, at, cycle, digits, zeros, number, d);
+    for output in 0..base::PORTS {
+        if let Some(d) = reply.outputs[output as usize] {
+            at = flit(out, at, cycle, output, d);
+        }
     }
     at
 }
@@ -133,10 +91,9 @@ pub(crate) fn cycle(out: &mut [u8], cycle: u64, reply: Reply) -> usize
     requires { (printable (cycle_lines cycle reply) ≡ true) × (room ≤ length out.old) }
     ensures { Laid out.old 0 (text (cycle_lines cycle reply)) out.new result }
 {
-    let digits = digits::ten(cycle);
-    let zeros = digits::zeros(cycle);
-    let at = credits(out, cycle, &digits, zeros, reply);
-    flits(out, at, cycle, &digits, zeros, reply)
+    let spelling = Spelling::of(cycle);
+    let at = credits(out, &spelling, reply);
+    flits(out, at, &spelling, reply)
 }
 
 // "E cycles flits"

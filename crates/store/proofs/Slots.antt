@@ -4,14 +4,16 @@ use mathlib.Core.Path.{◌≡◌, refl, sym, ap, ap₂, ◌∙◌}
 use mathlib.Core.Logic.{◌≢◌}
 use mathlib.Core.Bool.{Bool, true, false, cond, ◌&&◌, and-false}
 use mathlib.Core.List.{List}
-use Prim.Native.Nat.{ℕ, zero, suc, ◌+◌, ◌≤◌, ◌<◌}
+use Prim.Native.Nat.{ℕ, zero, suc, ◌+◌, ◌-◌, ◌≤◌, ◌<◌}
 use native.Mathlib.Nat.{le_refl}
-use native.Mathlib.Numerals.{add-one}
 use native.Mathlib.Omega.{arith}
 use lib.Arith.{lt_of_le-ne}
 use lib.Dec.{eqb, ltb}
-use lib.ListN.{length, get_or, set, length-set}
-use lib.Seq.{get_or-set_same, get_or-set_other}
+use lib.ListN.{length, get_or, set, drop, length-set, length-drop}
+use lib.Seq.{get_or-set_same, get_or-set_other, paste, paste-suc}
+use Rattle.std.specs.List.{copy_within}
+use Rattle.std.proofs.Common.{get_or-drop}
+use Rattle.std.proofs.lemmas.List.Edits.{paste_none}
 use borrow.Author.Tests.{lt-ltb, le-ltb, eqb-true, eqb-false}
 use Rattle.base.specs.declared.flit.Flit.{Flit}
 use Rattle.store.specs.Store.{first_slot, slot, front_of, pushed, moved_up, popped}
@@ -49,19 +51,30 @@ module _ (store : List ℕ) (x : ℕ) where
       get_or-set_other (moved_up n store x) (slot x n) (slot x k) (get_or store (slot x (n + 1)) 0) 0 (λ e. omega arith)
       ∙ moved_behind n k (omega arith)
 
-  pub moved_more : (n : ℕ) (now : List ℕ) → now ≡ moved_up n store x → set now (slot x n) (get_or now (slot x (n + 1)) 0)
-      ≡ moved_up (n + 1) store x
-  unfolding moved_up
-  moved_more n now e =
-      ap (λ l. set l (slot x n) (get_or l (slot x (n + 1)) 0)) e
-      ∙ ap (set (moved_up n store x) (slot x n)) (moved_behind n (n + 1) (omega arith))
-      ∙ ap (λ m. moved_up m store x) (sym (add-one n))
-
   pub pop_there : (n : ℕ) (now : List ℕ) → x < 32 → n ≡ 15 → now ≡ moved_up n store x → set now (slot x 15) 0 ≡ popped store x
   unfolding popped
   pop_there n now h e p =
       ap (λ l. set l (slot x 15) 0) (p ∙ ap (λ m. moved_up m store x) e)
       ∙ sym (ap (λ b. cond b (set (moved_up 15 store x) (slot x 15) 0) store) (lt-ltb x 32 h))
+
+  -- moved up all at once: the slots behind the first, copied over it and those after it
+  moved_copied : (n : ℕ) → first_slot x + n < length store
+      → paste store (first_slot x) (drop (first_slot x + 1) store) n ≡ moved_up n store x
+  unfolding moved_up
+  moved_copied zero h = sym (paste_none store (first_slot x) (drop (first_slot x + 1) store))
+  moved_copied (suc n) h =
+      let behind = drop (first_slot x + 1) store in
+      let held : get_or behind n 0 ≡ get_or store (slot x (n + 1)) 0 =
+      get_or-drop (first_slot x + 1) store n 0 ∙ ap (λ k. get_or store k 0) (omega arith) in
+      sym (paste-suc store (first_slot x) behind n 0 (omega arith) (omega (arith, length-drop (first_slot x + 1) store)))
+      ∙ ap₂ (λ l v. set l (slot x n) v) (moved_copied n (omega arith)) held
+
+  pub pop_copied : x < 32 → length store ≡ 512
+      → set (copy_within store (first_slot x + 1) (first_slot x + 16) (first_slot x)) (first_slot x + 15) 0 ≡ popped store x
+  pop_copied h whole =
+      let count : first_slot x + 16 - (first_slot x + 1) ≡ 15 = omega arith in
+      ap (λ n. set (paste store (first_slot x) (drop (first_slot x + 1) store) n) (slot x 15) 0) count
+      ∙ pop_there 15 _ h refl (moved_copied 15 (omega arith))
 
   pub pop_beyond : 32 ≤ x → store ≡ popped store x
   unfolding popped

@@ -8,6 +8,7 @@ ghost use Rattle.store.specs.Store.{front_of, pushed, popped};
 use base::{CHANNEL_PLACES, Flit};
 
 // The flit in a channel's first slot.
+#[tactic(auto, unfolding(crate::specs::Store::front_of))]
 pub fn front(channel: usize, store: &[u64; 512]) -> Flit
     ensures { result ≡ front_of store.now channel }
 {
@@ -20,6 +21,7 @@ pub fn front(channel: usize, store: &[u64; 512]) -> Flit
 }
 
 // Phase 3: a flit joins the end of a queue, of which so many are queued. A full queue stays as it is.
+#[tactic(auto, unfolding(crate::specs::Store::pushed))]
 pub fn push(channel: usize, queued: u8, flit: Flit, store: &mut [u64; 512])
     ensures { store.new ≡ pushed store.old channel queued flit }
 {
@@ -33,6 +35,7 @@ pub fn push(channel: usize, queued: u8, flit: Flit, store: &mut [u64; 512])
 }
 
 // Phase 7: the front leaves its queue. All sixteen slots move, so that it need not be told how many are queued.
+#[tactic(auto, unfolding(crate::specs::Store::popped), using(crate::proofs::Slots::pop_copied, crate::proofs::Slots::pop_beyond))]
 pub fn pop(channel: usize, store: &mut [u64; 512])
     ensures { store.new ≡ popped store.old channel }
 {
@@ -40,10 +43,6 @@ pub fn pop(channel: usize, store: &mut [u64; 512])
         return;
     }
     let base = 16 * channel;
-    let mut k: usize = 0;
-    while k < 15 {
-        store[base + k] = store[base + (k + 1)];
-        k += 1;
-    }
+    store.copy_within(base + 1..base + 16, base);
     store[base + 15] = 0;
 }

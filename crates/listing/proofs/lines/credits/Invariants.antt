@@ -1,15 +1,13 @@
--- `listing::lines::credits` meets its contract: the lines of the ports passed are laid.
+-- The lines of the ports passed are laid.
 -- Assumes nothing.
-use mathlib.Core.Path.{◌≡◌}
-use Prim.Native.Nat.{◌*◌, ◌-◌, ◌≤◌}
-use lib.ListN.{length}
+use Rattle.std.proofs.Common.{◌*◌, ◌≤◌}
 use Rattle.listing.specs.Inside.{Laid}
 use Rattle.listing.specs.Lines.{text, by_port, credit_line}
 use Rattle.listing.proofs.lines.credits.Given as goal
 
-abbrev pub invariant-loop-i : goal.invariant-loop-i
-invariant-loop-i l = (l.i ≤ 8) × (l.at ≤ 16 * l.i) × (length l.out ≡ length l.initial.out)
-    × Laid l.initial.out 0 (text (by_port (credit_line l.cycle l.reply) l.i)) l.out l.at
-
-abbrev pub decreases-loop-i : goal.decreases-loop-i
-decreases-loop-i l = 8 - l.i
+abbrev pub invariant-loop-input : goal.invariant-loop-input
+invariant-loop-input l =
+    record {
+      laid : Laid l.initial.out 0 (text (by_port (credit_line l.cycle.number l.reply) l.input)) l.out l.at;
+      short : l.at ≤ 16 * l.input;
+    }

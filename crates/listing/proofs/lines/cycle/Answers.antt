@@ -1,33 +1,16 @@
--- `listing::lines::cycle` meets its contract: the C lines, then the F lines after them.
+-- The C lines, then the F lines after them.
 -- Assumes nothing.
-use mathlib.Core.Path.{sym, subst}
-use mathlib.Core.List.{List}
-use Prim.Native.Nat.{ℕ}
-use native.Mathlib.Omega.{arith}
-use Rattle.listing.specs.Inside.{Spelled}
+use Rattle.std.proofs.Common.{arith}
 use Rattle.listing.proofs.Ports.{cycle_text, cycle_parts}
 use Rattle.listing.proofs.Stores.{laid_as, laid_more}
 use Rattle.listing.proofs.lines.cycle.Goals as goal
 
 pub credits-at-requires : goal.credits-at-requires
-credits-at-requires c =
-    let a = c.args in (
-      (cycle_parts a.cycle a.reply c.requires.0).0,
-      subst (λ (ds : List ℕ). Spelled a.cycle ds c.zeros-zeros.result)
-          (sym c.ten-digits.ensures) c.zeros-zeros.ensures,
-      omega arith,
-    )
+credits-at-requires c = rw c.of-spelling.ensures ((cycle_parts _ _ c.requires.0).0, omega arith)
 
 pub flits-requires : goal.flits-requires
-flits-requires c =
-    let a = c.args in (
-      (cycle_parts a.cycle a.reply c.requires.0).1,
-      subst (λ (ds : List ℕ). Spelled a.cycle ds c.zeros-zeros.result)
-          (sym c.ten-digits.ensures) c.zeros-zeros.ensures,
-      omega (arith, c.credits-at.auto.out),
-    )
+flits-requires c = rw c.of-spelling.ensures ((cycle_parts _ _ c.requires.0).1, omega (arith, c.credits-at.auto.out))
 
 pub returns : goal.returns
 returns c =
-    let a = c.args in
-    laid_as (laid_more c.credits-at.ensures.0 c.flits.ensures) (cycle_text a.cycle a.reply)
+    laid_as (laid_more (rw c.of-spelling.ensures at c.credits-at.ensures.0) (rw c.of-spelling.ensures at c.flits.ensures)) (cycle_text _ _)
