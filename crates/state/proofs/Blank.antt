@@ -15,14 +15,15 @@ use Rattle.base.specs.Search.{every}
 use Rattle.base.proofs.Search.{both, every_at}
 use Rattle.base.proofs.Zeros.{blank_at}
 use Rattle.base.specs.Sizes.{no_config, Bounds, sized}
-use Rattle.arbiter.specs.Arbiter.{Arbiter, of_narrow, of_wide, as_narrow, as_wide, arbiter_of}
+use Rattle.arbiter.specs.declared.Arbiter.{Arbiter}
+use Rattle.arbiter.specs.Arbiter.{arbiter_of}
 use Rattle.arbiter.specs.Matrix.{blank_from}
 use Rattle.state.specs.declared.InputVc.{InputVc}
 use Rattle.state.specs.declared.OutputVc.{OutputVc}
 use Rattle.state.specs.declared.Arbiters.{Arbiters}
 use Rattle.state.specs.declared.Router.{Router}
 use Rattle.state.specs.Blank.{no_sizes, arbiters_shaped, blank}
-use Rattle.state.specs.Fresh.{fresh_input, fresh_output, zero_narrow, zero_wide, past_narrow, past_wide}
+use Rattle.state.specs.Fresh.{fresh_input, fresh_output, no_arbiter, past_arbiter}
 use Rattle.state.specs.Fresh.{fresh_arbiters, fresh_router}
 use Rattle.state.specs.Sound.{wire_legal, home_legal, is_unbound, is_vc_free, input_unused, output_unused, arbiter_unused, channels_unused}
 use Rattle.state.specs.Sound.{slots_empty, line_unused, arbiters_unused, shaped}
@@ -219,7 +220,7 @@ module _ (inputs : List InputVc) (outputs : List OutputVc) (e : channels_unused 
       f (m / 16) x) (m % 16) k))
 
 -- an arbiter that is not in use
-arbiter_zero : (places : ℕ) (a : Arbiter) → arbiter_unused places a ≡ true → a ≡ arbiter_of 0 (replicate places 0)
+arbiter_zero : (places : ℕ) (a : Arbiter places) → arbiter_unused places a ≡ true → a ≡ arbiter_of 0 (replicate places 0)
 unfolding blank_from
 arbiter_zero places a e =
     let p = both (eqb (length a.rows) places) _ e in
@@ -229,21 +230,20 @@ arbiter_zero places a e =
     λ t. arbiter_of (eqb-true a.pointer 0 q.0 t) (rows t)
 
 module _ (a : Arbiters) (e : arbiters_unused no_config a ≡ true) where
-  port_zero : (i : ℕ) → i < 8 → (vc_arbiter a i ≡ zero_wide) × (input_arbiter a i ≡ zero_narrow) × (output_arbiter a i ≡ zero_narrow)
+  port_zero : (i : ℕ) → i < 8 → (vc_arbiter a i ≡ (no_arbiter 32)) × (input_arbiter a i ≡ (no_arbiter 8)) × (output_arbiter a i ≡ (no_arbiter 8))
   unfolding arbiters_unused
   port_zero i h =
-      let p = both (arbiter_unused 32 (of_wide (vc_arbiter a i)) && arbiter_unused 8 (of_narrow (input_arbiter a i)))
-      (arbiter_unused 8 (of_narrow (output_arbiter a i)))
-      (ap (λ (b : Bool). b || arbiter_unused 32 (of_wide (vc_arbiter a i)) && arbiter_unused 8 (of_narrow (input_arbiter a i))
-      && arbiter_unused 8 (of_narrow (output_arbiter a i)))
+      let p = both (arbiter_unused 32 (vc_arbiter a i) && arbiter_unused 8 (input_arbiter a i))
+      (arbiter_unused 8 (output_arbiter a i))
+      (ap (λ (b : Bool). b || arbiter_unused 32 (vc_arbiter a i) && arbiter_unused 8 (input_arbiter a i)
+      && arbiter_unused 8 (output_arbiter a i))
       (sym (none_before i))
-      ∙ every_at 8 (λ (i : ℕ). ltb i 0 || arbiter_unused 32 (of_wide (vc_arbiter a i)) && arbiter_unused 8 (of_narrow (input_arbiter a i))
-      && arbiter_unused 8 (of_narrow (output_arbiter a i))) e i h) in
-      let q = both (arbiter_unused 32 (of_wide (vc_arbiter a i))) (arbiter_unused 8 (of_narrow (input_arbiter a i))) p.0 in (
-        ap as_wide (arbiter_zero 32 (of_wide (vc_arbiter a i)) q.0),
-        ap as_narrow
-            (arbiter_zero 8 (of_narrow (input_arbiter a i)) q.1),
-        ap as_narrow (arbiter_zero 8 (of_narrow (output_arbiter a i)) p.1),
+      ∙ every_at 8 (λ (i : ℕ). ltb i 0 || arbiter_unused 32 (vc_arbiter a i) && arbiter_unused 8 (input_arbiter a i)
+      && arbiter_unused 8 (output_arbiter a i)) e i h) in
+      let q = both (arbiter_unused 32 (vc_arbiter a i)) (arbiter_unused 8 (input_arbiter a i)) p.0 in (
+        arbiter_zero 32 (vc_arbiter a i) q.0,
+        arbiter_zero 8 (input_arbiter a i) q.1,
+        arbiter_zero 8 (output_arbiter a i) p.1,
       )
 
   arbiters_zero : arbiters_shaped a ≡ true → a ≡ fresh_arbiters no_config
@@ -251,9 +251,9 @@ module _ (a : Arbiters) (e : arbiters_unused no_config a ≡ true) where
   arbiters_zero l =
       let p = both (eqb (length a.vcs) 8) _ l in
       let q = both (eqb (length a.inputs) 8) (eqb (length a.outputs) 8) p.1 in
-      let vcs = all_one past_wide zero_wide 8 a.vcs (eqb-true (length a.vcs) 8 p.0) (λ i h. (port_zero i h).0) in
-      let inputs = all_one past_narrow zero_narrow 8 a.inputs (eqb-true (length a.inputs) 8 q.0) (λ i h. (port_zero i h).1) in
-      let outputs = all_one past_narrow zero_narrow 8 a.outputs (eqb-true (length a.outputs) 8 q.1) (λ i h. (port_zero i h).2) in
+      let vcs = all_one past_arbiter (no_arbiter 32) 8 a.vcs (eqb-true (length a.vcs) 8 p.0) (λ i h. (port_zero i h).0) in
+      let inputs = all_one past_arbiter (no_arbiter 8) 8 a.inputs (eqb-true (length a.inputs) 8 q.0) (λ i h. (port_zero i h).1) in
+      let outputs = all_one past_arbiter (no_arbiter 8) 8 a.outputs (eqb-true (length a.outputs) 8 q.1) (λ i h. (port_zero i h).2) in
       λ t. with_vc_arbiters (vcs t) (with_input_arbiters (inputs t) (with_output_arbiters (outputs t) a))
 
 -- the lengths that the struct has

@@ -1,5 +1,7 @@
 -- The clauses of one channel, test by test, and of the places that are not in use.
 -- Assumes nothing.
+use Rattle.std.specs.Prelude.{Option, None}
+use Rattle.state.specs.declared.InVc.{InVc}
 use mathlib.Core.Path.{◌≡◌, refl, sym, ap, ap₂, ◌∙◌}
 use mathlib.Core.Bool.{Bool, true, false, not, ◌&&◌, ◌||◌, or-true}
 use mathlib.Core.List.{List, ◌++◌}
@@ -14,8 +16,6 @@ use Rattle.base.proofs.Search.{all_every}
 use Rattle.base.specs.Sizes.{Bounds}
 use Rattle.state.specs.declared.Binding.{Binding}
 use Rattle.state.specs.declared.Binding.TheVariants.{Unbound}
-use Rattle.state.specs.declared.Holder.{Holder}
-use Rattle.state.specs.declared.Holder.TheVariants.{Nobody}
 use Rattle.state.specs.declared.InputVc.{InputVc}
 use Rattle.state.specs.declared.OutputVc.{OutputVc}
 use Rattle.state.specs.Fresh.{fresh_input, fresh_output}
@@ -67,7 +67,7 @@ module _ (c : Config) (store wire home : List ℕ) (i v : ℕ) (input : InputVc)
       ∙ and_yes (credits_whole c wire home i v input) _ e
 
 -- one channel's names
-module _ (c : Config) (i v : ℕ) (input : InputVc) (output : OutputVc) (holder : Holder) (binding : Binding) where
+module _ (c : Config) (i v : ℕ) (input : InputVc) (output : OutputVc) (holder : Option InVc) (binding : Binding) where
   pub names_credit : c.downstream < output.credit → false ≡ names_pass c i v input output holder binding
   unfolding names_pass
   names_credit h = and_no (leb output.credit c.downstream) _ (lt-leb output.credit c.downstream h)
@@ -126,7 +126,7 @@ input_unused-law x e z o =
     sym (ap₂ (λ b t. is_unbound b && t && not x.opened && eqb x.queued 0) e (eq-eqb x.credit 0 z)
     ∙ ap (λ t. not t && eqb x.queued 0) o)
 
-pub output_unused-law : (y : OutputVc) → y.holder ≡ Nobody → eqb y.credit 0 ≡ output_unused y
+pub output_unused-law : (y : OutputVc) → y.holder ≡ None → eqb y.credit 0 ≡ output_unused y
 output_unused-law y e = sym (ap (λ h. is_vc_free h && eqb y.credit 0) e)
 
 -- a channel from n on is not in use

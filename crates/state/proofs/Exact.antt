@@ -3,7 +3,7 @@
 use mathlib.Core.Path.{◌≡◌, refl, sym, ap, ap₂, ◌∙◌}
 use mathlib.Core.Bool.{Bool, true, false, ◌&&◌, and_assoc, false≢true}
 use mathlib.Core.List.{List, [], ◌∷◌, ◌++◌, map}
-use mathlib.Core.Option.{some, none}
+use Rattle.std.specs.Prelude.{Some, None}
 use Prim.Native.Nat.{ℕ, ◌≤◌, ◌<◌, zero-le}
 use lib.Dec.{leb}
 use lib.ListN.{length, length-map}
@@ -123,7 +123,7 @@ module _ (s : Router) where
 pub refused : (s : Router) (test : Bool) → (Sound.Sound s → test ≡ true) → test ≡ false → false ≡ sound s
 refused s test f e = same_test false (sound s) (λ p. absurd (false≢true p)) (λ p. sym e ∙ f (passed_sound s p))
 
-pub legal_bounded : (c : Config) → illegal_field c ≡ none → Bounds 0 c
+pub legal_bounded : (c : Config) → illegal_field c ≡ None → Bounds 0 c
 legal_bounded c e =
     let l = (legal_exact c).0 e in
     record {
@@ -137,7 +137,7 @@ legal_bounded c e =
     }
 
 module _ (s : Router) where
-  pub illegal_refused : (k : ℕ) → illegal_field s.config ≡ some k → false ≡ sound s
+  pub illegal_refused : (k : ℕ) → illegal_field s.config ≡ Some k → false ≡ sound s
   unfolding Sound.configuration_legal is_none
   illegal_refused k e = refused s (Sound.configuration_legal s.config) (λ x. x.sizes.configuration) (ap is_none e)
 
@@ -253,7 +253,7 @@ module _ (s : Router) where
   sound_home x = ap₂ ◌&&◌ x.sizes.home x.sizes.home_rest
 
   -- all tests together
-  pub all_sound : illegal_field s.config ≡ none → s.cycle ≤ cycle_limit
+  pub all_sound : illegal_field s.config ≡ None → s.cycle ≤ cycle_limit
       → (Sound.wire_legal s.config s.wire && Sound.line_unused s.config.forward s.config.ports s.wire) ≡ true
       → (Sound.home_legal s.config s.home && Sound.line_unused s.config.back s.config.ports s.home) ≡ true
       → Sound.arbiters_sound s.config s.arbiters ≡ true

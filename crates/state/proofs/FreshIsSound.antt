@@ -7,6 +7,7 @@ use mathlib.Core.Logic.{◌⊎◌, inl, inr}
 use Prim.Native.Nat.{ℕ, zero, suc, ◌+◌, ◌-◌, ◌*◌, ◌≤◌, ◌<◌, zero-le}
 use native.Mathlib.Nat.{le_refl, le_antisymm, mul-le-mul}
 use native.Mathlib.Omega.{arith}
+use Rattle.std.proofs.Common.{lit≤}
 use lib.Arith.{digits_lt, lt_of_le-ne}
 use lib.Dec.{eqb, ltb}
 use lib.ListN.{length, get_or, take, drop, replicate, length-append, length-replicate, get_or-replicate, get_or-append, get_or-eq_default}
@@ -17,11 +18,10 @@ use Rattle.base.specs.Search.{every}
 use Rattle.base.proofs.Search.{all_every}
 use Rattle.base.proofs.Configurations.{Legal, legal_exact}
 use Rattle.arbiter.specs.Arbiter as arbiter
-use Rattle.arbiter.specs.Arbiter.{of_narrow, of_wide}
 use Rattle.arbiter.specs.Matrix.{blank_from}
 use Rattle.arbiter.proofs.ByKind.{Known}
 use Rattle.arbiter.proofs.Soundness.{fresh_sound, sound_holds}
-use Rattle.state.specs.Fresh.{filled, fresh_input, fresh_output, zero_narrow, zero_wide, past_narrow, past_wide, fresh_router}
+use Rattle.state.specs.Fresh.{filled, fresh_input, fresh_output, no_arbiter, past_arbiter, fresh_router}
 use Rattle.state.specs.Views.{channel_number, input_at, output_at, queue_of, wire_place, wire_of, home_of, home_place, on_vc, queue_at}
 use Rattle.state.specs.Views.{slot_flit}
 use Rattle.state.specs.Views.{wire_flit, wire_vc, places, flat, total, vc_arbiter, input_arbiter, output_arbiter}
@@ -207,15 +207,12 @@ module _ (c : Config) (legal : Legal c) where
       all_every c.ports _ (λ i h.
       ap₂ ◌&&◌
       (ap₂ ◌&&◌
-      (ap (λ a. arbiter.sound 32 c.arbiter (c.ports * c.vcs) (of_wide a)) (filled_below c.ports 8 _ zero_wide past_wide i h)
-      ∙ arbiter_sound 32
-      (c.ports * c.vcs) some_channels channels)
-      (ap (λ a. arbiter.sound 8 c.arbiter c.vcs (of_narrow a)) (filled_below c.ports 8 _ zero_narrow past_narrow i h)
-      ∙ arbiter_sound 8
-      c.vcs legal.vcs.0 (let l = legal.vcs.1 in omega arith)))
-      (ap (λ a. arbiter.sound 8 c.arbiter c.ports (of_narrow a)) (filled_below c.ports 8 _ zero_narrow past_narrow i h)
-      ∙ arbiter_sound 8
-      c.ports legal.ports.0 legal.ports.1))
+      (ap (λ a. arbiter.sound 32 c.arbiter (c.ports * c.vcs) a) (filled_below c.ports 8 _ (no_arbiter 32) past_arbiter i h)
+      ∙ arbiter_sound 32 (c.ports * c.vcs) some_channels channels)
+      (ap (λ a. arbiter.sound 8 c.arbiter c.vcs a) (filled_below c.ports 8 _ (no_arbiter 8) past_arbiter i h)
+      ∙ arbiter_sound 8 c.vcs legal.vcs.0 (let l = legal.vcs.1 in omega arith)))
+      (ap (λ a. arbiter.sound 8 c.arbiter c.ports a) (filled_below c.ports 8 _ (no_arbiter 8) past_arbiter i h)
+      ∙ arbiter_sound 8 c.ports legal.ports.0 legal.ports.1))
 
   packets : Sound.packets_read (fresh_router c).config (fresh_router c).inputs (fresh_router c).store (fresh_router c).wire ≡ true
   unfolding Sound.packets_read Sound.reads Sound.reading fresh_router
@@ -271,16 +268,16 @@ module _ (c : Config) (legal : Legal c) where
   others = all_every 8 _ (λ i h. go i h (ltb i c.ports) refl)
     where
       go : (i : ℕ) → i < 8 → (b : Bool) → ltb i c.ports ≡ b
-          → (b || (Sound.arbiter_unused 32 (of_wide (vc_arbiter (fresh_router c).arbiters i)) && Sound.arbiter_unused 8 (of_narrow (input_arbiter
+          → (b || (Sound.arbiter_unused 32 (vc_arbiter (fresh_router c).arbiters i) && Sound.arbiter_unused 8 ((input_arbiter
           (fresh_router c).arbiters i))
-          && Sound.arbiter_unused 8 (of_narrow (output_arbiter (fresh_router c).arbiters i)))) ≡ true
+          && Sound.arbiter_unused 8 (output_arbiter (fresh_router c).arbiters i))) ≡ true
       go i h true e = refl
       go i h false e =
           let l = ltb-false i c.ports e in
           ap₂ ◌&&◌
-          (ap₂ ◌&&◌ (ap (λ a. Sound.arbiter_unused 32 (of_wide a)) (filled_at c.ports 8 _ zero_wide past_wide i l h))
-          (ap (λ a. Sound.arbiter_unused 8 (of_narrow a)) (filled_at c.ports 8 _ zero_narrow past_narrow i l h)))
-          (ap (λ a. Sound.arbiter_unused 8 (of_narrow a)) (filled_at c.ports 8 _ zero_narrow past_narrow i l h))
+          (ap₂ ◌&&◌ (ap (λ a. Sound.arbiter_unused 32 a) (filled_at c.ports 8 _ (no_arbiter 32) past_arbiter i l h))
+          (ap (λ a. Sound.arbiter_unused 8 a) (filled_at c.ports 8 _ (no_arbiter 8) past_arbiter i l h)))
+          (ap (λ a. Sound.arbiter_unused 8 a) (filled_at c.ports 8 _ (no_arbiter 8) past_arbiter i l h))
 
   shape : Sound.shaped (fresh_router c) ≡ true
   unfolding Sound.shaped fresh_router

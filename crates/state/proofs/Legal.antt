@@ -2,7 +2,7 @@
 -- Assumes nothing.
 use mathlib.Core.Path.{◌≡◌, refl}
 use mathlib.Core.Bool.{true, false≢true}
-use mathlib.Core.Option.{Option, some, none}
+use Rattle.std.specs.Prelude.{Option, Some, None}
 use Prim.Native.Nat.{ℕ, ◌≤◌}
 use borrow.Author.Tests.{leb-true}
 use Rattle.base.specs.declared.config.Config.{Config}
@@ -16,9 +16,9 @@ pub configuration_legal-law : (c : Config) → configuration_legal c ≡ true �
 unfolding configuration_legal is_none
 configuration_legal-law c e = (legal_exact c).0 (go (illegal_field c) e)
   where
-    go : (o : Option ℕ) → is_none o ≡ true → o ≡ none
-    go none e = refl
-    go (some k) e = absurd (false≢true e)
+    go : (o : Option ℕ) → is_none o ≡ true → o ≡ None
+    go None e = refl
+    go (Some k) e = absurd (false≢true e)
 
 -- a sound router has at most so many cycles
 pub sound_cycle : {s : Router} → Sound s → s.cycle ≤ 1000000000

@@ -10,8 +10,10 @@ pub mod Legal
 pub mod Made
 pub mod Naming
 pub mod Pairs
+pub mod Passed
 pub mod Places
 pub mod Queues
 pub mod Reading
 pub mod SoundStates
 pub mod Tests
+pub mod WholeLine

@@ -1,20 +1,16 @@
 -- The fresh router, put together from its parts.
 -- Assumes nothing.
+use Rattle.arbiter.specs.declared.Arbiter.{Arbiter}
 use mathlib.Core.Path.{◌≡◌, refl}
 use mathlib.Core.List.{List}
-use mathlib.Core.Option.{Option, some, none}
 use Prim.Native.Nat.{ℕ, ◌*◌, ◌≤◌}
 use native.Mathlib.Nat.{le_trans, mul-le-mul_right}
 use native.Mathlib.Omega.{arith}
+use Rattle.std.specs.Prelude.{Option, Some, None}
+use Rattle.base.specs.Sizes.{illegal_field, judged}
 use Rattle.base.specs.declared.config.Config.{Config}
-use Rattle.base.specs.declared.config.Judged.TheVariants.{Legal, Illegal}
-use Rattle.base.specs.Sizes.{illegal_field, numbered, config_outcome, no_config}
-use Rattle.arbiter.specs.declared.Narrow.{Narrow}
-use Rattle.arbiter.specs.declared.Wide.{Wide}
 use Rattle.state.specs.declared.InputVc.{InputVc}
 use Rattle.state.specs.declared.OutputVc.{OutputVc}
-use Rattle.state.specs.declared.Router.{Router}
-use Rattle.state.specs.declared.building.Built.{Built}
 use Rattle.state.specs.Fresh.{filled, fresh_input, fresh_output, fresh_arbiters, fresh_router, built_of}
 use Rattle.state.specs.Setters.{with_inputs, with_outputs, with_arbiters, with_vc_arbiters, with_input_arbiters, with_output_arbiters}
 
@@ -22,7 +18,7 @@ use Rattle.state.specs.Setters.{with_inputs, with_outputs, with_arbiters, with_v
 pub channels_fit : (p v : ℕ) → p ≤ 8 → v ≤ 4 → p * v ≤ 32
 channels_fit p v h g = le_trans (mul-le-mul_right v h) (omega arith)
 
-pub router_made : (c : Config) (inputs : List InputVc) (outputs : List OutputVc) (vcs : List Wide) (ins outs : List Narrow)
+pub router_made : (c : Config) (inputs : List InputVc) (outputs : List OutputVc) (vcs : List (Arbiter 32)) (ins outs : List (Arbiter 8))
     → inputs ≡ filled (c.ports * c.vcs) 32 (fresh_input c.depth) (fresh_input 0)
     → outputs ≡ filled (c.ports * c.vcs) 32 (fresh_output c.downstream) (fresh_output 0)
     → vcs ≡ (fresh_arbiters c).vcs
@@ -37,22 +33,11 @@ router_made c inputs outputs vcs ins outs e f g h k =
     with_arbiters (with_vc_arbiters (g t) (with_input_arbiters (h t) (with_output_arbiters (k t) (fresh_arbiters c))))
     (with_outputs (f t) (with_inputs (e t) (fresh_router c)))
 
--- a construction: refused with the field, or made
-pub built_refused : (c : Config) (k : ℕ) (r : Router) → illegal_field c ≡ some k → r ≡ fresh_router no_config
-    → ◌≡◌ {A = Built} (record { judged = Illegal k; router = r }) (built_of (illegal_field c) c)
-unfolding built_of
-built_refused c k r e f = rw (e, f)
-
-pub built_legal : (c : Config) (r : Router) → illegal_field c ≡ none → r ≡ fresh_router c
-    → ◌≡◌ {A = Built} (record { judged = Legal; router = r }) (built_of (illegal_field c) c)
-unfolding built_of
-built_legal c r e f = rw (e, f)
-
 -- either way its answer stands for the number and the field of the table
-pub built_numbered : (c : Config) → config_outcome (built_of (illegal_field c) c).judged ≡ numbered (illegal_field c)
+pub built_numbered : (c : Config) → (built_of (illegal_field c) c).judged ≡ judged (illegal_field c)
 unfolding built_of
 built_numbered c = go (illegal_field c)
   where
-    go : (o : Option ℕ) → config_outcome (built_of o c).judged ≡ numbered o
-    go none = refl
-    go (some k) = refl
+    go : (o : Option ℕ) → (built_of o c).judged ≡ judged o
+    go None = refl
+    go (Some k) = refl

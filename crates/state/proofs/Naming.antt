@@ -1,5 +1,6 @@
 -- One input VC and what it names, and one output VC and what it names.
 -- Assumes nothing.
+use Rattle.std.specs.Prelude.{Option, Some, None}
 use mathlib.Core.Path.{◌≡◌, refl, sym, ap, ap₂, ◌∙◌}
 use mathlib.Core.Bool.{Bool, true, false, ◌&&◌, false≢true}
 use mathlib.Core.List.{List}
@@ -15,8 +16,6 @@ use Rattle.state.specs.declared.InVc.{InVc}
 use Rattle.state.specs.declared.OutVc.{OutVc}
 use Rattle.state.specs.declared.Binding.{Binding}
 use Rattle.state.specs.declared.Binding.TheVariants.{Unbound, Bound}
-use Rattle.state.specs.declared.Holder.{Holder}
-use Rattle.state.specs.declared.Holder.TheVariants.{Nobody, Held}
 use Rattle.state.specs.declared.InputVc.{InputVc}
 use Rattle.state.specs.declared.OutputVc.{OutputVc}
 use Rattle.state.specs.Fresh.{fresh_input, fresh_output}
@@ -30,9 +29,9 @@ pub unbound_is : (b : Binding) → is_unbound b ≡ true → b ≡ Unbound
 unbound_is Unbound e = refl
 unbound_is (Bound b) e = absurd (false≢true e)
 
-pub free_is : (h : Holder) → is_vc_free h ≡ true → h ≡ Nobody
-free_is Nobody e = refl
-free_is (Held h) e = absurd (false≢true e)
+pub free_is : (h : Option InVc) → is_vc_free h ≡ true → h ≡ None
+free_is None e = refl
+free_is (Some h) e = absurd (false≢true e)
 
 -- a channel that there is stands in the arrays
 pub channel_fits : (p v i w : ℕ) → i < p → w < v → p ≤ 8 → v ≤ 4 → i * v + w < 32
@@ -45,10 +44,10 @@ other_port a b x y n = sym (ap (λ t. t && eqb x y) (ne_eqb a b n))
 same_port : (a b x y : ℕ) → a ≡ b → eqb x y ≡ (eqb a b && eqb x y)
 same_port a b x y e = sym (ap (λ t. t && eqb x y) (eq-eqb a b e))
 
-pub held_elsewhere : (i v : ℕ) (h : Holder) (by : InVc) → h ≡ Held by → (by.input ≡ i → ⊥) → false ≡ holder_is i v h
+pub held_elsewhere : (i v : ℕ) (h : Option InVc) (by : InVc) → h ≡ Some by → (by.input ≡ i → ⊥) → false ≡ holder_is i v h
 held_elsewhere i v h by e n = other_port by.input i by.vc v n ∙ sym (ap (holder_is i v) e)
 
-pub held_here : (i v : ℕ) (h : Holder) (by : InVc) → h ≡ Held by → by.input ≡ i → eqb by.vc v ≡ holder_is i v h
+pub held_here : (i v : ℕ) (h : Option InVc) (by : InVc) → h ≡ Some by → by.input ≡ i → eqb by.vc v ≡ holder_is i v h
 held_here i v h by e s = same_port by.input i by.vc v s ∙ sym (ap (holder_is i v) e)
 
 pub bound_elsewhere : (o w : ℕ) (b : Binding) (to : OutVc) → b ≡ Bound to → (to.output ≡ o → ⊥) → false ≡ binding_is o w b
@@ -67,37 +66,37 @@ beyond_vc o p w v t g h = sym (ap₂ (λ a b. a && b && t) (lt-ltb o p g) (le-lt
 named_there : (o p w v : ℕ) (t : Bool) → o < p → w < v → t ≡ (ltb o p && ltb w v && t)
 named_there o p w v t g h = sym (ap₂ (λ a b. a && b && t) (lt-ltb o p g) (lt-ltb w v h))
 
-pub input_beyond_port : (c : Config) (i v : ℕ) (b : Binding) (holder : Holder) (to : OutVc) → b ≡ Bound to → c.ports ≤ to.output
+pub input_beyond_port : (c : Config) (i v : ℕ) (b : Binding) (holder : Option InVc) (to : OutVc) → b ≡ Bound to → c.ports ≤ to.output
     → false ≡ input_names c i v b holder
 input_beyond_port c i v b holder to e h =
     beyond_port to.output c.ports to.vc c.vcs (holder_is i v holder) h ∙ sym (ap
     (λ x. input_names c i v x holder) e)
 
-pub input_beyond_vc : (c : Config) (i v : ℕ) (b : Binding) (holder : Holder) (to : OutVc) → b ≡ Bound to → to.output < c.ports
+pub input_beyond_vc : (c : Config) (i v : ℕ) (b : Binding) (holder : Option InVc) (to : OutVc) → b ≡ Bound to → to.output < c.ports
     → c.vcs ≤ to.vc → false ≡ input_names c i v b holder
 input_beyond_vc c i v b holder to e g h =
     beyond_vc to.output c.ports to.vc c.vcs (holder_is i v holder) g h ∙ sym (ap
     (λ x. input_names c i v x holder) e)
 
-pub input_there : (c : Config) (i v : ℕ) (b : Binding) (holder : Holder) (to : OutVc) → b ≡ Bound to → to.output < c.ports
+pub input_there : (c : Config) (i v : ℕ) (b : Binding) (holder : Option InVc) (to : OutVc) → b ≡ Bound to → to.output < c.ports
     → to.vc < c.vcs → holder_is i v holder ≡ input_names c i v b holder
 input_there c i v b holder to e g h =
     named_there to.output c.ports to.vc c.vcs (holder_is i v holder) g h ∙ sym (ap
     (λ x. input_names c i v x holder) e)
 
-pub output_beyond_port : (c : Config) (o w : ℕ) (h : Holder) (binding : Binding) (by : InVc) → h ≡ Held by → c.ports ≤ by.input
+pub output_beyond_port : (c : Config) (o w : ℕ) (h : Option InVc) (binding : Binding) (by : InVc) → h ≡ Some by → c.ports ≤ by.input
     → false ≡ output_names c o w h binding
 output_beyond_port c o w h binding by e l =
     beyond_port by.input c.ports by.vc c.vcs (binding_is o w binding) l ∙ sym (ap
     (λ x. output_names c o w x binding) e)
 
-pub output_beyond_vc : (c : Config) (o w : ℕ) (h : Holder) (binding : Binding) (by : InVc) → h ≡ Held by → by.input < c.ports
+pub output_beyond_vc : (c : Config) (o w : ℕ) (h : Option InVc) (binding : Binding) (by : InVc) → h ≡ Some by → by.input < c.ports
     → c.vcs ≤ by.vc → false ≡ output_names c o w h binding
 output_beyond_vc c o w h binding by e g l =
     beyond_vc by.input c.ports by.vc c.vcs (binding_is o w binding) g l ∙ sym (ap
     (λ x. output_names c o w x binding) e)
 
-pub output_there : (c : Config) (o w : ℕ) (h : Holder) (binding : Binding) (by : InVc) → h ≡ Held by → by.input < c.ports
+pub output_there : (c : Config) (o w : ℕ) (h : Option InVc) (binding : Binding) (by : InVc) → h ≡ Some by → by.input < c.ports
     → by.vc < c.vcs → binding_is o w binding ≡ output_names c o w h binding
 output_there c o w h binding by e g l =
     named_there by.input c.ports by.vc c.vcs (binding_is o w binding) g l ∙ sym (ap
@@ -111,7 +110,7 @@ pub bound_at : (c : Config) (b : Binding) (to : OutVc) (r : ℕ) → b ≡ Bound
     → (r ≡ place_bound c b) × (r < 32)
 bound_at c b to r e f = (f ∙ sym (ap (place_bound c) e), below r (channel_number c to.output to.vc) f)
 
-pub held_at : (c : Config) (h : Holder) (by : InVc) (r : ℕ) → h ≡ Held by → r ≡ place_of c by.input by.vc
+pub held_at : (c : Config) (h : Option InVc) (by : InVc) (r : ℕ) → h ≡ Some by → r ≡ place_of c by.input by.vc
     → (r ≡ place_held c h) × (r < 32)
 held_at c h by r e f = (f ∙ sym (ap (place_held c) e), below r (channel_number c by.input by.vc) f)
 
@@ -144,8 +143,8 @@ input_names-law c outputs i v Unbound h g = refl
 input_names-law c outputs i v (Bound b) h g = at_place c (λ n. get_or outputs n (fresh_output 0)) (λ y. holder_is i v y.holder) b.output
     b.vc h g
 
-pub output_names-law : (c : Config) (inputs : List InputVc) (o w : ℕ) (h : Holder) → c.ports ≤ 8 → c.vcs ≤ 4
+pub output_names-law : (c : Config) (inputs : List InputVc) (o w : ℕ) (h : Option InVc) → c.ports ≤ 8 → c.vcs ≤ 4
     → output_names c o w h (get_or inputs (place_held c h) (fresh_input 0)).binding ≡ output_named c inputs o w h
-output_names-law c inputs o w Nobody p q = refl
-output_names-law c inputs o w (Held h) p q = at_place c (λ n. get_or inputs n (fresh_input 0)) (λ x. binding_is o w x.binding) h.input
+output_names-law c inputs o w None p q = refl
+output_names-law c inputs o w (Some h) p q = at_place c (λ n. get_or inputs n (fresh_input 0)) (λ x. binding_is o w x.binding) h.input
     h.vc p q

@@ -3,7 +3,7 @@
 use mathlib.Core.Path.{◌≡◌, refl, sym, ap, ap₂, ◌∙◌}
 use mathlib.Core.Bool.{Bool, true, false, cond, not, xor, ◌&&◌}
 use mathlib.Core.List.{List, [], ◌∷◌, ◌++◌, map}
-use mathlib.Core.Option.{Option, some, none}
+use Rattle.std.specs.Prelude.{Option, Some, None}
 use Prim.Native.Nat.{ℕ, zero, suc, ◌+◌, ◌-◌, ◌≤◌, ◌<◌}
 use native.Mathlib.Nat.{add-zero, add-suc, suc-add}
 use native.Mathlib.Numerals.{add-one}
@@ -133,14 +133,14 @@ stages_all (suc n) f =
     ap₂ (λ l m. l ++ (f m ∷ [])) (stages_all n f) z ∙ sym (stages_end 0 n f)
 
 -- one flit of the reading
-reading_fails : (inside : Bool) (f : Flit) (fs : List Flit) → xor inside (starts_kind (kind_of f)) ≡ false → reading inside (f ∷ fs) ≡ none
+reading_fails : (inside : Bool) (f : Flit) (fs : List Flit) → xor inside (starts_kind (kind_of f)) ≡ false → reading inside (f ∷ fs) ≡ None
 unfolding reading
-reading_fails inside f fs e = ap (λ b. cond b (reading (not (ends_kind (kind_of f))) fs) none) e
+reading_fails inside f fs e = ap (λ b. cond b (reading (not (ends_kind (kind_of f))) fs) None) e
 
 reading_next : (inside : Bool) (f : Flit) (fs : List Flit) → xor inside (starts_kind (kind_of f)) ≡ true
     → reading inside (f ∷ fs) ≡ reading (not (ends_kind (kind_of f))) fs
 unfolding reading
-reading_next inside f fs e = ap (λ b. cond b (reading (not (ends_kind (kind_of f))) fs) none) e
+reading_next inside f fs e = ap (λ b. cond b (reading (not (ends_kind (kind_of f))) fs) None) e
 
 -- Over the queue: the reading that is left is the whole reading, which is `whole`. w is the wire.
 abbrev pub ReadingQueue : ℕ → ℕ → List ℕ → List Flit → Option Bool → Bool → ℕ → Type 0
@@ -152,7 +152,7 @@ queue_starts base queued store w start h = ap (λ q. reading start (q ++ w)) (sy
 
 pub queue_fails : (base queued : ℕ) (store : List ℕ) (w : List Flit) (whole : Option Bool) (inside : Bool) (k : ℕ) → k < queued
     → base + k < length store → xor inside (starts_kind (kind_of (slot_flit (get_or store (base + k) 0)))) ≡ false
-    → ReadingQueue base queued store w whole inside k → none ≡ whole
+    → ReadingQueue base queued store w whole inside k → None ≡ whole
 queue_fails base queued store w whole inside k h g e r =
     sym (ap (λ q. reading inside (q ++ w)) (left_next store base queued k h g)
     ∙ reading_fails inside (slot_flit (get_or store (base + k) 0)) (left store base queued (k + 1) ++ w) e)
@@ -215,7 +215,7 @@ wire_flit_is forward wire i v k h e =
 
 pub wire_fails : (forward : ℕ) (wire : List ℕ) (i v : ℕ) (whole : Option Bool) (inside : Bool) (k : ℕ) → k < forward
     → (not (eqb (wire_place wire k i) 0) && eqb (wire_vc (wire_place wire k i)) v) ≡ true
-    → xor inside (starts_kind (kind_of (wire_flit (wire_place wire k i)))) ≡ false → ReadingWire forward wire i v whole inside k → none ≡ whole
+    → xor inside (starts_kind (kind_of (wire_flit (wire_place wire k i)))) ≡ false → ReadingWire forward wire i v whole inside k → None ≡ whole
 wire_fails forward wire i v whole inside k h e f r =
     sym (ap (reading inside) (wire_flit_is forward wire i v k h e)
     ∙ reading_fails inside (wire_flit (wire_place wire k i)) (flat
@@ -231,7 +231,7 @@ wire_next forward wire i v whole inside k h e f r =
     (stages (k + 1) (forward - (k + 1)) (λ (j : ℕ). on_vc v (wire_place wire j i)))) f) ∙ r
 
 pub wire_ends : (forward : ℕ) (wire : List ℕ) (i v : ℕ) (whole : Option Bool) (inside : Bool) (k : ℕ) → forward ≤ k
-    → ReadingWire forward wire i v whole inside k → some inside ≡ whole
+    → ReadingWire forward wire i v whole inside k → Some inside ≡ whole
 unfolding stages flat reading
 wire_ends forward wire i v whole inside k h r =
     let n : forward - k ≡ 0 = omega arith in

@@ -1,5 +1,7 @@
 -- Routers by value: one part changed at a time, and states that a run reaches.
 -- Assumes nothing.
+use Rattle.std.specs.Prelude.{Some}
+use Rattle.arbiter.specs.declared.Arbiter.{Arbiter}
 use mathlib.Core.Bool.{Bool, true, false}
 use mathlib.Core.List.{List, [], ◌∷◌, ◌++◌}
 use Prim.Native.Nat.{ℕ, suc, ◌+◌, ◌*◌, ◌^◌}
@@ -7,18 +9,15 @@ use lib.ListN.{set, replicate}
 use Rattle.base.specs.declared.config.Config.{Config}
 use Rattle.base.specs.Flit.{flit_of}
 use Rattle.base.specs.Sizes.{sized, no_config}
-use Rattle.arbiter.specs.declared.Narrow.{Narrow}
-use Rattle.arbiter.specs.declared.Wide.{Wide}
 use Rattle.arbiter.specs.Arbiter as arbiter
 use Rattle.arbiter.specs.Matrix.{fresh_rows}
-use Rattle.arbiter.specs.Arbiter.{as_narrow, as_wide, arbiter_of, with_pointer, of_narrow, of_wide}
+use Rattle.arbiter.specs.Arbiter.{arbiter_of, with_pointer}
 use Rattle.state.specs.declared.Binding.TheVariants.{Bound}
-use Rattle.state.specs.declared.Holder.TheVariants.{Held}
 use Rattle.state.specs.declared.InputVc.{InputVc}
 use Rattle.state.specs.declared.OutputVc.{OutputVc}
 use Rattle.state.specs.declared.Arbiters.{Arbiters}
 use Rattle.state.specs.declared.Router.{Router}
-use Rattle.state.specs.Fresh.{fresh_router, fresh_input, fresh_output, fresh_arbiters, zero_narrow, zero_wide}
+use Rattle.state.specs.Fresh.{fresh_router, fresh_input, fresh_output, fresh_arbiters, no_arbiter}
 use Rattle.state.specs.Setters.{set_binding, with_opened, with_queued, set_holder, with_vc_arbiters, with_input_arbiters}
 use Rattle.state.specs.Setters.{with_output_arbiters, with_inputs}
 use Rattle.state.specs.Setters.{with_outputs, with_store, with_wire, with_home, with_arbiters}
@@ -39,13 +38,13 @@ with_wire_place k i place s = with_wire (set s.wire (8 * k + i) place) s
 unfoldable pub with_home_place : ℕ → ℕ → ℕ → Router → Router
 with_home_place k i place s = with_home (set s.home (8 * k + i) place) s
 
-unfoldable pub with_vc_arbiter : ℕ → Wide → Router → Router
+unfoldable pub with_vc_arbiter : ℕ → Arbiter 32 → Router → Router
 with_vc_arbiter o a s = with_arbiters (with_vc_arbiters (set s.arbiters.vcs o a) s.arbiters) s
 
-unfoldable pub with_input_arbiter : ℕ → Narrow → Router → Router
+unfoldable pub with_input_arbiter : ℕ → Arbiter 8 → Router → Router
 with_input_arbiter i a s = with_arbiters (with_input_arbiters (set s.arbiters.inputs i a) s.arbiters) s
 
-unfoldable pub with_output_arbiter : ℕ → Narrow → Router → Router
+unfoldable pub with_output_arbiter : ℕ → Arbiter 8 → Router → Router
 with_output_arbiter o a s = with_arbiters (with_output_arbiters (set s.arbiters.outputs o a) s.arbiters) s
 
 -- P = 2, V = 2, D = 3, E = 2, F = 2, B = 2, round robin and matrix
@@ -67,7 +66,7 @@ bound o w credit opened queued =
     set_binding (Bound (record { output = o; vc = w })) (with_opened opened (with_queued queued (fresh_input credit)))
 
 unfoldable pub held : ℕ → ℕ → ℕ → OutputVc
-held i v credit = set_holder (Held (record { input = i; vc = v })) (fresh_output credit)
+held i v credit = set_holder (Some (record { input = i; vc = v })) (fresh_output credit)
 
 -- the words of flits: H and S to an output, B and T
 unfoldable pub head : ℕ → ℕ
@@ -87,15 +86,12 @@ unfoldable pub on : ℕ → ℕ → ℕ
 on v word = v * 2 ^ 38 + word
 
 -- a round robin, and a matrix, by value
-unfoldable pub pointer_wide : ℕ → Wide
-pointer_wide p = as_wide (with_pointer p (of_wide zero_wide))
-
-unfoldable pub pointer_narrow : ℕ → Narrow
-pointer_narrow p = as_narrow (with_pointer p (of_narrow zero_narrow))
+unfoldable pub pointer_at : (places : ℕ) → ℕ → Arbiter places
+pointer_at places p = with_pointer p (no_arbiter places)
 
 -- the fresh order of four, with one row or the pointer another
-unfoldable pub order_wide : ℕ → ℕ → ℕ → Wide
-order_wide p i row = as_wide (arbiter_of p (set (fresh_rows 32 4) i row))
+unfoldable pub ordered : ℕ → ℕ → ℕ → Arbiter 32
+ordered p i row = arbiter_of p (set (fresh_rows 32 4) i row)
 
 -- these words in the store from a slot on
 unfoldable pub stored : ℕ → List ℕ → Router → Router
@@ -126,15 +122,15 @@ deep queued =
     (fresh_router (sized 2 2 16 2 1 1 1)))
 
 -- a matrix after picks, the last pick first
-unfoldable pub picked : ℕ → ℕ → List ℕ → arbiter.Arbiter
+unfoldable pub picked : (places : ℕ) → ℕ → List ℕ → Arbiter places
 picked places n [] = arbiter.fresh places 2 n
 picked places n (w ∷ ws) = arbiter.moved places 2 n w (picked places n ws)
 
 unfoldable pub picked_arbiters : Arbiters
 picked_arbiters =
-    with_vc_arbiters (replicate 8 (as_wide (picked 32 32 (9 ∷ 0 ∷ 31 ∷ []))))
-    (with_input_arbiters (replicate 8 (as_narrow (picked 8 4 (2 ∷ 0 ∷ 3 ∷ []))))
-    (with_output_arbiters (replicate 8 (as_narrow (picked 8 8 (5 ∷ 0 ∷ 7 ∷ [])))) (fresh_arbiters no_config)))
+    with_vc_arbiters (replicate 8 (picked 32 32 (9 ∷ 0 ∷ 31 ∷ [])))
+    (with_input_arbiters (replicate 8 (picked 8 4 (2 ∷ 0 ∷ 3 ∷ [])))
+    (with_output_arbiters (replicate 8 (picked 8 8 (5 ∷ 0 ∷ 7 ∷ []))) (fresh_arbiters no_config)))
 
 -- P = 8, V = 4, every arbiter a matrix after picks: VC 0 of input 0 bound to VC 1 of output 5 with a packet's start queued, VC 3 of
 -- input 7 with a flit queued, one on the wire and a credit on its way home

@@ -2,7 +2,7 @@
 -- names, with lines in the same order, so that the two are joined field by field.
 -- Assumes nothing.
 use Rattle.std.specs.Prelude.{Bool, false, cond, ◌&&◌, List, [], ℕ, ◌-◌, ltb, replicate}
-use Rattle.std.proofs.Math.Option.{Option, some, none}
+use Rattle.std.specs.Prelude.{Option, Some, None}
 use Rattle.base.specs.declared.config.Config.{Config}
 use Rattle.base.specs.declared.flit.Flit.{Flit}
 use Rattle.state.specs.declared.OutVc.{OutVc}
@@ -21,13 +21,13 @@ pub record ChannelView : Type 0 where
 
 -- "An input VC is either unbound or bound to one output and one of its VCs." (01, phase 5)
 abbrev pub bound_to : Binding → Option OutVc
-bound_to Unbound = none
-bound_to (Bound b) = some b
+bound_to Unbound = None
+bound_to (Bound b) = Some b
 
 -- "There each sender credit is D, .. no packet open, nothing bound or on its way." (01, Sizes)
 abbrev pub fresh_view : Config → ChannelView
 fresh_view c =
-    record { taken = 0; wire = replicate c.forward []; queue = []; home = replicate c.back 0; opened = false; bound = none }
+    record { taken = 0; wire = replicate c.forward []; queue = []; home = replicate c.back 0; opened = false; bound = None }
 
 -- whether there is VC v of port i
 abbrev pub is_there : Config → ℕ → ℕ → Bool

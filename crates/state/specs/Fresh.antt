@@ -1,17 +1,14 @@
 -- A fresh router (01, "Sizes").
 -- Assumes nothing.
+use Rattle.arbiter.specs.declared.Arbiter.{Arbiter}
 use Rattle.std.specs.Prelude.{false, List, [], ◌++◌, ℕ, ◌-◌, ◌*◌, replicate}
-use Rattle.std.proofs.Math.Option.{Option, some, none}
+use Rattle.std.specs.Prelude.{Option, Some, None}
 use Rattle.base.specs.declared.config.Config.{Config}
-use Rattle.base.specs.declared.config.Judged.TheVariants.{Legal, Illegal}
-use Rattle.base.specs.Sizes.{no_config}
-use Rattle.arbiter.specs.declared.Narrow.{Narrow}
-use Rattle.arbiter.specs.declared.Wide.{Wide}
-use Rattle.arbiter.specs.Arbiter.{arbiter_of, as_narrow, as_wide}
+use Rattle.base.specs.Sizes.{no_config, judged}
+use Rattle.arbiter.specs.Arbiter.{arbiter_of}
 use Rattle.arbiter.specs.Arbiter as arbiter
 use Rattle.state.specs.declared.Binding.TheVariants.{Unbound}
 use Rattle.state.specs.declared.InputVc.{InputVc}
-use Rattle.state.specs.declared.Holder.TheVariants.{Nobody}
 use Rattle.state.specs.declared.OutputVc.{OutputVc}
 use Rattle.state.specs.declared.Arbiters.{Arbiters}
 use Rattle.state.specs.declared.Router.{Router}
@@ -27,29 +24,22 @@ fresh_input credit = record { binding = Unbound; credit = credit; opened = false
 
 -- an output VC that nobody holds
 abbrev pub fresh_output : ℕ → OutputVc
-fresh_output credit = record { holder = Nobody; credit = credit }
+fresh_output credit = record { holder = None; credit = credit }
 
--- no arbiter
-abbrev pub zero_narrow : Narrow
-zero_narrow = as_narrow (arbiter_of 0 (replicate 8 0))
+-- no arbiter, and what is read past the end of an array of arbiters
+abbrev pub no_arbiter : (places : ℕ) → Arbiter places
+no_arbiter places = arbiter_of 0 (replicate places 0)
 
-abbrev pub zero_wide : Wide
-zero_wide = as_wide (arbiter_of 0 (replicate 32 0))
-
--- what is read past the end of an array of arbiters
-abbrev pub past_narrow : Narrow
-past_narrow = as_narrow (arbiter_of 0 [])
-
-abbrev pub past_wide : Wide
-past_wide = as_wide (arbiter_of 0 [])
+abbrev pub past_arbiter : {places : ℕ} → Arbiter places
+past_arbiter = arbiter_of 0 []
 
 -- arbiters of the ports that there are; all zero beyond
 abbrev pub fresh_arbiters : Config → Arbiters
 fresh_arbiters c =
     record {
-      vcs = filled c.ports 8 (as_wide (arbiter.fresh 32 c.arbiter (c.ports * c.vcs))) zero_wide;
-      inputs = filled c.ports 8 (as_narrow (arbiter.fresh 8 c.arbiter c.vcs)) zero_narrow;
-      outputs = filled c.ports 8 (as_narrow (arbiter.fresh 8 c.arbiter c.ports)) zero_narrow;
+      vcs = filled c.ports 8 (arbiter.fresh 32 c.arbiter (c.ports * c.vcs)) (no_arbiter 32);
+      inputs = filled c.ports 8 (arbiter.fresh 8 c.arbiter c.vcs) (no_arbiter 8);
+      outputs = filled c.ports 8 (arbiter.fresh 8 c.arbiter c.ports) (no_arbiter 8);
     }
 
 -- "The input store is 512 slots, all zero on a fresh router. There each sender credit is D, each output credit E, the cycle count 0, no
@@ -69,5 +59,5 @@ fresh_router c =
 
 -- "A refused construction gives an all-zero state": 1 with the field, or the fresh router
 unfoldable pub built_of : Option ℕ → Config → Built
-built_of (some k) c = record { judged = Illegal k; router = fresh_router no_config }
-built_of none c = record { judged = Legal; router = fresh_router c }
+built_of (Some k) c = record { judged = judged (Some k); router = fresh_router no_config }
+built_of None c = record { judged = judged None; router = fresh_router c }

@@ -1,11 +1,11 @@
 -- One field of a struct changed, all others kept: what a phase does not name it does not change. A new field is written here and in Fresh.
 -- Assumes nothing.
+use Rattle.std.specs.Prelude.{Option}
+use Rattle.state.specs.declared.InVc.{InVc}
+use Rattle.arbiter.specs.declared.Arbiter.{Arbiter}
 use Rattle.std.specs.Prelude.{Bool, List, ℕ}
 use Rattle.base.specs.declared.config.Config.{Config}
-use Rattle.arbiter.specs.declared.Narrow.{Narrow}
-use Rattle.arbiter.specs.declared.Wide.{Wide}
 use Rattle.state.specs.declared.Binding.{Binding}
-use Rattle.state.specs.declared.Holder.{Holder}
 use Rattle.state.specs.declared.InputVc.{InputVc}
 use Rattle.state.specs.declared.OutputVc.{OutputVc}
 use Rattle.state.specs.declared.Arbiters.{Arbiters}
@@ -24,20 +24,20 @@ with_opened b x = record { binding = x.binding; credit = x.credit; opened = b; q
 abbrev pub with_queued : ℕ → InputVc → InputVc
 with_queued n x = record { binding = x.binding; credit = x.credit; opened = x.opened; queued = n }
 
-abbrev pub set_holder : Holder → OutputVc → OutputVc
+abbrev pub set_holder : Option InVc → OutputVc → OutputVc
 set_holder h y = record { holder = h; credit = y.credit }
 
 abbrev pub with_output_credit : ℕ → OutputVc → OutputVc
 with_output_credit n y = record { holder = y.holder; credit = n }
 
 -- the arbiters
-abbrev pub with_vc_arbiters : List Wide → Arbiters → Arbiters
+abbrev pub with_vc_arbiters : List (Arbiter 32) → Arbiters → Arbiters
 with_vc_arbiters l a = record { vcs = l; inputs = a.inputs; outputs = a.outputs }
 
-abbrev pub with_input_arbiters : List Narrow → Arbiters → Arbiters
+abbrev pub with_input_arbiters : List (Arbiter 8) → Arbiters → Arbiters
 with_input_arbiters l a = record { vcs = a.vcs; inputs = l; outputs = a.outputs }
 
-abbrev pub with_output_arbiters : List Narrow → Arbiters → Arbiters
+abbrev pub with_output_arbiters : List (Arbiter 8) → Arbiters → Arbiters
 with_output_arbiters l a = record { vcs = a.vcs; inputs = a.inputs; outputs = l }
 
 -- the router

@@ -1,22 +1,21 @@
 -- "Sound states" (01): "A state handed in is sound when ..", clause by clause, in the document's order. Each clause is a test that
 -- computes, over the parts of a router that it reads; `Sound` says that all of them pass.
 -- Assumes nothing.
+use Rattle.state.specs.declared.InVc.{InVc}
+use Rattle.arbiter.specs.declared.Arbiter.{Arbiter}
 use Rattle.std.specs.Prelude.{◌≡◌, Bool, true, false, cond, not, ◌&&◌, ◌||◌, List, [], ◌∷◌, ◌++◌, ℕ, ◌+◌, ◌*◌, ◌^◌, eqb, leb, ltb, length}
 use Rattle.std.specs.Prelude.{get_or}
 use Rattle.std.specs.Bool.{xor, beq}
-use Rattle.std.proofs.Math.Option.{Option, some, none}
+use Rattle.std.specs.Prelude.{Option, Some, None}
 use Rattle.base.specs.declared.config.Config.{Config}
 use Rattle.base.specs.declared.flit.Flit.{Flit}
 use Rattle.base.specs.Flit.{kind_of, destination_of, starts_kind, ends_kind, head, single}
 use Rattle.base.specs.Search.{every}
 use Rattle.base.specs.Sizes.{illegal_field, cycle_limit, most_ports, most_channels}
 use Rattle.arbiter.specs.Arbiter as arbiter
-use Rattle.arbiter.specs.Arbiter.{of_narrow, of_wide}
 use Rattle.arbiter.specs.Matrix.{blank_from}
 use Rattle.state.specs.declared.Binding.{Binding}
 use Rattle.state.specs.declared.Binding.TheVariants.{Unbound, Bound}
-use Rattle.state.specs.declared.Holder.{Holder}
-use Rattle.state.specs.declared.Holder.TheVariants.{Nobody, Held}
 use Rattle.state.specs.declared.InputVc.{InputVc}
 use Rattle.state.specs.declared.OutputVc.{OutputVc}
 use Rattle.state.specs.declared.Arbiters.{Arbiters}
@@ -27,8 +26,8 @@ use Rattle.state.specs.Views.{input_at, output_at, queue_of, wire_place, wire_fl
 use Rattle.state.specs.Views.{vc_arbiter, input_arbiter, output_arbiter}
 
 unfoldable pub is_none : Option ℕ → Bool
-is_none none = true
-is_none (some k) = false
+is_none None = true
+is_none (Some k) = false
 
 unfoldable pub all : {A : Type 0} → (A → Bool) → List A → Bool
 all test [] = true
@@ -85,18 +84,18 @@ abbrev pub binding_is : ℕ → ℕ → Binding → Bool
 binding_is o w Unbound = false
 binding_is o w (Bound b) = eqb b.output o && eqb b.vc w
 
-abbrev pub holder_is : ℕ → ℕ → Holder → Bool
-holder_is i v Nobody = false
-holder_is i v (Held h) = eqb h.input i && eqb h.vc v
+abbrev pub holder_is : ℕ → ℕ → Option InVc → Bool
+holder_is i v None = false
+holder_is i v (Some h) = eqb h.input i && eqb h.vc v
 
 abbrev pub input_named : Config → List OutputVc → ℕ → ℕ → Binding → Bool
 input_named c outputs i v Unbound = true
 input_named c outputs i v (Bound b) =
     ltb b.output c.ports && ltb b.vc c.vcs && holder_is i v (output_at c outputs b.output b.vc).holder
 
-abbrev pub output_named : Config → List InputVc → ℕ → ℕ → Holder → Bool
-output_named c inputs o w Nobody = true
-output_named c inputs o w (Held h) =
+abbrev pub output_named : Config → List InputVc → ℕ → ℕ → Option InVc → Bool
+output_named c inputs o w None = true
+output_named c inputs o w (Some h) =
     ltb h.input c.ports && ltb h.vc c.vcs && binding_is o w (input_at c inputs h.input h.vc).binding
 
 -- "input VC and output VC name each other or neither does"
@@ -109,19 +108,19 @@ names_agree c inputs outputs =
 unfoldable pub arbiters_sound : Config → Arbiters → Bool
 arbiters_sound c a =
     every c.ports (λ (i : ℕ).
-    arbiter.sound 32 c.arbiter (c.ports * c.vcs) (of_wide (vc_arbiter a i))
-    && arbiter.sound 8 c.arbiter c.vcs (of_narrow (input_arbiter a i))
-    && arbiter.sound 8 c.arbiter c.ports (of_narrow (output_arbiter a i)))
+    arbiter.sound 32 c.arbiter (c.ports * c.vcs) (vc_arbiter a i)
+    && arbiter.sound 8 c.arbiter c.vcs (input_arbiter a i)
+    && arbiter.sound 8 c.arbiter c.ports (output_arbiter a i))
 
 -- Flits read as packets, from between packets or from inside one: what follows the last, or none where they do not read.
 -- "A packet is S alone, or H, any number of B, then T."
 unfoldable pub reading : Bool → List Flit → Option Bool
-reading inside [] = some inside
-reading inside (f ∷ fs) = cond (xor inside (starts_kind (kind_of f))) (reading (not (ends_kind (kind_of f))) fs) none
+reading inside [] = Some inside
+reading inside (f ∷ fs) = cond (xor inside (starts_kind (kind_of f))) (reading (not (ends_kind (kind_of f))) fs) None
 
 abbrev pub ends_as : Bool → Option Bool → Bool
-ends_as inside none = false
-ends_as inside (some after) = beq after inside
+ends_as inside None = false
+ends_as inside (Some after) = beq after inside
 
 -- "the queue's front is H or S for the bound output"
 abbrev pub front_is_for : ℕ → List Flit → Bool
@@ -149,9 +148,9 @@ abbrev pub is_unbound : Binding → Bool
 is_unbound Unbound = true
 is_unbound (Bound b) = false
 
-abbrev pub is_vc_free : Holder → Bool
-is_vc_free Nobody = true
-is_vc_free (Held h) = false
+abbrev pub is_vc_free : Option InVc → Bool
+is_vc_free None = true
+is_vc_free (Some h) = false
 
 abbrev pub input_unused : InputVc → Bool
 input_unused x = is_unbound x.binding && eqb x.credit 0 && not x.opened && eqb x.queued 0
@@ -160,7 +159,7 @@ abbrev pub output_unused : OutputVc → Bool
 output_unused y = is_vc_free y.holder && eqb y.credit 0
 
 -- pointer and rows are zero
-abbrev pub arbiter_unused : ℕ → arbiter.Arbiter → Bool
+abbrev pub arbiter_unused : (places : ℕ) → Arbiter places → Bool
 arbiter_unused places a = eqb (length a.rows) places && (eqb a.pointer 0 && blank_from 0 places a.rows)
 
 -- channels "beyond P and V .. are as on a fresh router of this configuration"
@@ -185,8 +184,8 @@ unfoldable pub arbiters_unused : Config → Arbiters → Bool
 arbiters_unused c a =
     every most_ports (λ (i : ℕ).
     ltb i c.ports
-    || arbiter_unused 32 (of_wide (vc_arbiter a i)) && arbiter_unused 8 (of_narrow (input_arbiter a i))
-    && arbiter_unused 8 (of_narrow (output_arbiter a i)))
+    || arbiter_unused 32 (vc_arbiter a i) && arbiter_unused 8 (input_arbiter a i)
+    && arbiter_unused 8 (output_arbiter a i))
 
 -- the arrays are as long as the struct has them; of a struct that is always so
 unfoldable pub shaped : Router → Bool

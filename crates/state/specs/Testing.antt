@@ -1,15 +1,13 @@
 -- What the sound test looks at in one turn: the clauses of one input VC, of one channel and of one port's arbiters together.
 -- Assumes nothing.
+use Rattle.std.specs.Prelude.{Option, Some, None}
+use Rattle.state.specs.declared.InVc.{InVc}
+use Rattle.arbiter.specs.declared.Arbiter.{Arbiter}
 use Rattle.std.specs.Prelude.{Bool, true, ◌&&◌, List, ℕ, ◌*◌, ◌%◌, leb, ltb}
 use Rattle.base.specs.declared.config.Config.{Config}
-use Rattle.arbiter.specs.declared.Narrow.{Narrow}
-use Rattle.arbiter.specs.declared.Wide.{Wide}
 use Rattle.arbiter.specs.Arbiter as arbiter
-use Rattle.arbiter.specs.Arbiter.{of_narrow, of_wide}
 use Rattle.state.specs.declared.Binding.{Binding}
 use Rattle.state.specs.declared.Binding.TheVariants.{Unbound, Bound}
-use Rattle.state.specs.declared.Holder.{Holder}
-use Rattle.state.specs.declared.Holder.TheVariants.{Nobody, Held}
 use Rattle.state.specs.declared.InputVc.{InputVc}
 use Rattle.state.specs.declared.OutputVc.{OutputVc}
 use Rattle.state.specs.Views.{channel_number, input_at, output_at, queue_of, wire_of, flat}
@@ -31,21 +29,21 @@ abbrev pub place_bound : Config → Binding → ℕ
 place_bound c Unbound = 0
 place_bound c (Bound b) = place_of c b.output b.vc
 
-abbrev pub place_held : Config → Holder → ℕ
-place_held c Nobody = 0
-place_held c (Held h) = place_of c h.input h.vc
+abbrev pub place_held : Config → Option InVc → ℕ
+place_held c None = 0
+place_held c (Some h) = place_of c h.input h.vc
 
 -- what input VC v of port i names is held by it; what output VC w of port o names is bound to it
-abbrev pub input_names : Config → ℕ → ℕ → Binding → Holder → Bool
+abbrev pub input_names : Config → ℕ → ℕ → Binding → Option InVc → Bool
 input_names c i v Unbound holder = true
 input_names c i v (Bound b) holder = ltb b.output c.ports && ltb b.vc c.vcs && holder_is i v holder
 
-abbrev pub output_names : Config → ℕ → ℕ → Holder → Binding → Bool
-output_names c o w Nobody binding = true
-output_names c o w (Held h) binding = ltb h.input c.ports && ltb h.vc c.vcs && binding_is o w binding
+abbrev pub output_names : Config → ℕ → ℕ → Option InVc → Binding → Bool
+output_names c o w None binding = true
+output_names c o w (Some h) binding = ltb h.input c.ports && ltb h.vc c.vcs && binding_is o w binding
 
 -- output credit and names of a channel, where the VCs that it names have this holder and this binding
-unfoldable pub names_pass : Config → ℕ → ℕ → InputVc → OutputVc → Holder → Binding → Bool
+unfoldable pub names_pass : Config → ℕ → ℕ → InputVc → OutputVc → Option InVc → Binding → Bool
 names_pass c i v input output holder binding =
     leb output.credit c.downstream && (input_names c i v input.binding holder && output_names c i v output.holder binding)
 
@@ -61,11 +59,11 @@ channel_sound c inputs outputs store wire home i v =
     names_sound c inputs outputs i v && input_sound c store wire home i v (input_at c inputs i v)
 
 -- the arbiters of a port that there is, and of one that there is not
-unfoldable pub port_arbiters : Config → Wide → Narrow → Narrow → Bool
+unfoldable pub port_arbiters : Config → Arbiter 32 → Arbiter 8 → Arbiter 8 → Bool
 port_arbiters c vcs input output =
-    arbiter.sound 32 c.arbiter (c.ports * c.vcs) (of_wide vcs) && arbiter.sound 8 c.arbiter c.vcs (of_narrow input)
-    && arbiter.sound 8 c.arbiter c.ports (of_narrow output)
+    arbiter.sound 32 c.arbiter (c.ports * c.vcs) vcs && arbiter.sound 8 c.arbiter c.vcs input
+    && arbiter.sound 8 c.arbiter c.ports output
 
-unfoldable pub no_arbiters : Wide → Narrow → Narrow → Bool
+unfoldable pub no_arbiters : Arbiter 32 → Arbiter 8 → Arbiter 8 → Bool
 no_arbiters vcs input output =
-    arbiter_unused 32 (of_wide vcs) && arbiter_unused 8 (of_narrow input) && arbiter_unused 8 (of_narrow output)
+    arbiter_unused 32 vcs && arbiter_unused 8 input && arbiter_unused 8 output

@@ -1,14 +1,13 @@
 -- What a router holds, channel by channel: VC v of port i, where i is below P and v below V. Each view takes the parts that it reads.
 -- Assumes nothing.
+use Rattle.arbiter.specs.declared.Arbiter.{Arbiter}
 use Rattle.std.specs.Prelude.{cond, not, ◌&&◌, List, [], ◌∷◌, ◌++◌, map, ℕ, zero, suc, ◌+◌, ◌*◌, ◌/◌, ◌%◌, ◌^◌, eqb, get_or, take, drop}
 use Rattle.base.specs.declared.config.Config.{Config}
 use Rattle.base.specs.declared.flit.Flit.{Flit}
-use Rattle.arbiter.specs.declared.Narrow.{Narrow}
-use Rattle.arbiter.specs.declared.Wide.{Wide}
 use Rattle.state.specs.declared.InputVc.{InputVc}
 use Rattle.state.specs.declared.OutputVc.{OutputVc}
 use Rattle.state.specs.declared.Arbiters.{Arbiters}
-use Rattle.state.specs.Fresh.{fresh_input, fresh_output, past_narrow, past_wide}
+use Rattle.state.specs.Fresh.{fresh_input, fresh_output, past_arbiter}
 use Rattle.store.specs.Store.{first_slot}
 
 -- "requester number i·V+v": the place of a channel in the arrays
@@ -79,11 +78,11 @@ total [] = 0
 total (n ∷ ns) = n + total ns
 
 -- the arbiters: an output's over all input VCs, an input's over its VCs, an output's over the inputs
-abbrev pub vc_arbiter : Arbiters → ℕ → Wide
-vc_arbiter a o = get_or a.vcs o past_wide
+abbrev pub vc_arbiter : Arbiters → ℕ → Arbiter 32
+vc_arbiter a o = get_or a.vcs o past_arbiter
 
-abbrev pub input_arbiter : Arbiters → ℕ → Narrow
-input_arbiter a i = get_or a.inputs i past_narrow
+abbrev pub input_arbiter : Arbiters → ℕ → Arbiter 8
+input_arbiter a i = get_or a.inputs i past_arbiter
 
-abbrev pub output_arbiter : Arbiters → ℕ → Narrow
-output_arbiter a o = get_or a.outputs o past_narrow
+abbrev pub output_arbiter : Arbiters → ℕ → Arbiter 8
+output_arbiter a o = get_or a.outputs o past_arbiter

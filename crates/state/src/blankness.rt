@@ -5,42 +5,18 @@ ghost use Rattle.state.specs.Blank.{no_sizes, blank};
 use crate::{Router, arbitration, channels, lines};
 use base::Config;
 
-fn is_none(config: Config) -> bool
-    ensures { result ≡ no_sizes config }
-{
-    if config.ports != 0 {
-        return false;
-    }
-    if config.vcs != 0 {
-        return false;
-    }
-    if config.depth != 0 {
-        return false;
-    }
-    if config.downstream != 0 {
-        return false;
-    }
-    if config.forward != 0 {
-        return false;
-    }
-    if config.back != 0 {
-        return false;
-    }
-    config.arbiter == 0
-}
-
 // "an all-zero state": the tests of what is not in use, where nothing is.
 pub fn is_blank(router: Router) -> bool
     ensures { result ≡ blank router }
 {
     let config = router.config;
-    if !is_none(config) {
+    let none = Config::none();
+    if config != none {
         return false;
     }
     if router.cycle != 0 {
         return false;
     }
-    let none = Config::none();
     let wire = router.wire;
     if !lines::is_wire_sound(none, &wire) {
         return false;

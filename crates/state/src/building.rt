@@ -1,19 +1,31 @@
 // A fresh router, or the number 1 with the field.
 ghost use Rattle.std.specs.Prelude.{◌≡◌, ◌≤◌};
 ghost use Rattle.base.specs.Sizes.{illegal_field};
+ghost use Rattle.arbiter.specs.Requests.{width};
 ghost use Rattle.arbiter.specs.Arbiter.{fresh};
-ghost use Rattle.state.specs.Fresh.{filled, fresh_input, fresh_output, zero_narrow, zero_wide, fresh_router, built_of};
-ghost use Rattle.arbiter.specs.Arbiter.{as_narrow, as_wide};
+ghost use Rattle.state.specs.Fresh.{filled, fresh_input, fresh_output, no_arbiter, fresh_router, built_of};
 
-use crate::{Arbiters, Binding, Holder, InputVc, OutputVc, Router};
-use arbiter::{Narrow, Wide};
-use base::{Config, Judged};
+use crate::{Arbiters, Binding, InputVc, OutputVc, Router};
+use arbiter::Arbiter;
+use base::{Config, Refusal};
 
 // What a construction gives: the configuration judged, and the router, which is all zero where the configuration is refused.
-#[derive(Clone, Copy)]
+#[derive(Clone, Copy, PartialEq, Eq)]
 pub struct Built {
-    pub judged: Judged,
+    pub judged: Result<(), Refusal>,
     pub router: Router,
+}
+
+// So many places with what is used there, the others with what is not.
+fn filled<T: Copy, const PLACES: usize>(n: usize, used: T, unused: T) -> [T; PLACES]
+    requires { n ≤ PLACES }
+    ensures { result ≡ filled n PLACES used unused }
+{
+    let mut made = [unused; PLACES];
+    for k in 0..n {
+        made[k] = used;
+    }
+    made
 }
 
 // "each sender credit is D, .. no packet open, nothing bound", of the channels that there are.
@@ -27,15 +39,7 @@ fn inputs(channels: usize, credit: u8) -> [InputVc; 32]
         opened: false,
         queued: 0,
     };
-    let mut used = unused;
-    used.credit = credit;
-    let mut made = [unused; 32];
-    let mut x: usize = 0;
-    while x < channels {
-        made[x] = used;
-        x += 1;
-    }
-    made
+    filled(channels, InputVc { credit, ..unused }, unused)
 }
 
 // "each output credit E .. nothing bound", of the channels that there are.
@@ -44,54 +48,21 @@ fn outputs(channels: usize, credit: u8) -> [OutputVc; 32]
     ensures { result ≡ filled channels 32 (fresh_output credit) (fresh_output 0) }
 {
     let unused = OutputVc {
-        holder: Holder::Nobody,
+        holder: None,
         credit: 0,
     };
-    let mut used = unused;
-    used.credit = credit;
-    let mut made = [unused; 32];
-    let mut y: usize = 0;
-    while y < channels {
-        made[y] = used;
-        y += 1;
-    }
-    made
+    filled(channels, OutputVc { credit, ..unused }, unused)
 }
 
-fn narrow(ports: usize, code: u8, n: u32) -> [Narrow; 8]
+fn arbiters<const PLACES: usize>(ports: usize, code: u8, n: u32) -> [Arbiter<PLACES>; 8]
     requires { ports ≤ 8 }
-    ensures { result ≡ filled ports 8 (as_narrow (fresh 8 code n)) zero_narrow }
+    ensures { result ≡ filled ports 8 (fresh PLACES code (width PLACES n)) (no_arbiter PLACES) }
 {
-    let unused = Narrow {
+    let unused = Arbiter {
         pointer: 0,
-        rows: [0u32; 8],
+        rows: [0u32; PLACES],
     };
-    let used = Narrow::fresh(code, n);
-    let mut made = [unused; 8];
-    let mut i: usize = 0;
-    while i < ports {
-        made[i] = used;
-        i += 1;
-    }
-    made
-}
-
-fn wide(ports: usize, code: u8, n: u32) -> [Wide; 8]
-    requires { ports ≤ 8 }
-    ensures { result ≡ filled ports 8 (as_wide (fresh 32 code n)) zero_wide }
-{
-    let unused = Wide {
-        pointer: 0,
-        rows: [0u32; 32],
-    };
-    let used = Wide::fresh(code, n);
-    let mut made = [unused; 8];
-    let mut i: usize = 0;
-    while i < ports {
-        made[i] = used;
-        i += 1;
-    }
-    made
+    filled(ports, Arbiter::fresh(code, n), unused)
 }
 
 // The router of a configuration in which nothing has happened.
@@ -103,9 +74,9 @@ fn untouched(config: Config) -> Router
     let vcs = config.vcs as usize;
     let channels = ports * vcs;
     let arbiters = Arbiters {
-        vcs: wide(ports, config.arbiter, channels as u32),
-        inputs: narrow(ports, config.arbiter, vcs as u32),
-        outputs: narrow(ports, config.arbiter, ports as u32),
+        vcs: arbiters(ports, config.arbiter, channels as u32),
+        inputs: arbiters(ports, config.arbiter, vcs as u32),
+        outputs: arbiters(ports, config.arbiter, ports as u32),
     };
     Router {
         config,
@@ -120,18 +91,19 @@ fn untouched(config: Config) -> Router
 }
 
 // The fresh router of a configuration, or 1 with the field and an all-zero router.
+#[tactic(auto, unfolding(crate::specs::Fresh::built_of))]
 pub fn fresh(config: Config) -> Built
     ensures { result ≡ built_of (illegal_field config) config }
 {
     let judged = config.judged();
-    if let Judged::Illegal(field) = judged {
+    if judged.is_err() {
         return Built {
-            judged: Judged::Illegal(field),
+            judged,
             router: untouched(Config::none()),
         };
     }
     Built {
-        judged: Judged::Legal,
+        judged,
         router: untouched(config),
     }
 }

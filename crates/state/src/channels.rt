@@ -5,141 +5,92 @@ ghost use Rattle.base.specs.Sizes.{Bounds};
 ghost use Rattle.state.specs.Sound.{credits_whole, every_channel, input_unused, output_unused, channels_unused, slots_empty};
 ghost use Rattle.state.specs.Testing.{input_sound, names_pass, channel_sound};
 
-use crate::{Binding, Holder, InputVc, OutputVc, lines, names, packets};
+use crate::{Binding, InVc, InputVc, OutputVc, Router, lines, names, packets};
 use base::{CHANNEL_PLACES, Config};
 
 // "sender credit + wire + queue + credits going home = D"
-fn are_credits_whole(
-    config: Config,
-    i: u8,
-    v: u8,
-    input: InputVc,
-    wire: &[u64; 64],
-    home: &[u8; 64],
-) -> bool
-    requires { (config.forward ≤ 8) × (config.back ≤ 8) × (i < 8) }
-    ensures { result ≡ credits_whole config wire.now home.now i v input }
+#[tactic(auto, unfolding(crate::specs::Sound::credits_whole), using(crate::proofs::Places::wire_few, crate::proofs::Places::home_few))]
+fn are_credits_whole(router: &Router, i: u8, v: u8, input: InputVc) -> bool
+    requires { Bounds 0 router.now.config × (i < router.now.config.ports) }
+    ensures { result ≡ credits_whole router.now.config router.now.wire router.now.home i v input }
 {
-    let credit = input.credit as u32;
-    let queued = input.queued as u32;
-    let wired = lines::on_wire(config, i as usize, v, wire);
-    let homing = lines::going_home(config, i as usize, v, home);
-    credit + wired + queued + homing == config.depth as u32
+    let config = router.config;
+    let wired = lines::on_wire(config, i as usize, v, &router.wire);
+    let homing = lines::going_home(config, i as usize, v, &router.home);
+    input.credit as u32 + wired + input.queued as u32 + homing == config.depth as u32
 }
 
 // One input VC: its credits, its queue, its packets.
-fn is_input_sound(
-    config: Config,
-    i: u8,
-    v: u8,
-    input: InputVc,
-    store: &[u64; 512],
-    wire: &[u64; 64],
-    home: &[u8; 64],
-) -> bool
-    requires { Bounds 0 config × (i < config.ports) × (v < config.vcs) × (length store.now ≡ 512) }
-    ensures { result ≡ input_sound config store.now wire.now home.now i v input }
+#[tactic(auto, unfolding(crate::specs::Testing::input_sound), using(crate::proofs::Clauses::queued_fits))]
+fn is_input_sound(router: &Router, i: u8, v: u8, input: InputVc) -> bool
+    requires { Bounds 0 router.now.config × (i < router.now.config.ports) × (v < router.now.config.vcs) }
+    ensures { result ≡ input_sound router.now.config router.now.store router.now.wire router.now.home i v input }
 {
-    if !are_credits_whole(config, i, v, input, wire, home) {
-        return false;
-    }
-    let base = 16 * ((i as usize) * (config.vcs as usize) + (v as usize));
-    let queued = input.queued as usize;
-    let binding = input.binding;
-    let start = packets::starts_inside(base, queued, binding, store);
-    packets::reads(
-        config,
-        i as usize,
-        v,
-        base,
-        queued,
-        start,
-        input.opened,
-        store,
-        wire,
-    )
+    are_credits_whole(router, i, v, input) && packets::reads(router, i, v, input)
 }
 
 // One channel's output credit, and the names of both its VCs: what holds the output VC it names, and what the input VC it names is
 // bound to.
+#[tactic(auto, unfolding(crate::specs::Testing::names_pass))]
 fn are_names_sound(
     config: Config,
     i: u8,
     v: u8,
     input: InputVc,
     output: OutputVc,
-    holder: Holder,
+    holder: Option<InVc>,
     binding: Binding,
 ) -> bool
     ensures { result ≡ names_pass config i v input output holder binding }
 {
-    if config.downstream < output.credit {
-        return false;
-    }
-    let bound = input.binding;
-    if !names::is_input_named(config, i, v, bound, holder) {
-        return false;
-    }
-    let held = output.holder;
-    names::is_output_named(config, i, v, held, binding)
+    output.credit <= config.downstream
+        && names::is_input_named(config, i, v, input.binding, holder)
+        && names::is_output_named(config, i, v, output.holder, binding)
 }
 
-fn is_port_sound(
-    config: Config,
-    i: u8,
-    inputs: [InputVc; 32],
-    outputs: [OutputVc; 32],
-    store: &[u64; 512],
-    wire: &[u64; 64],
-    home: &[u8; 64],
-) -> bool
-    requires { Bounds 0 config × (i < config.ports) × (length store.now ≡ 512) }
-    ensures { result ≡ every config.vcs (channel_sound config inputs outputs store.now wire.now
-        home.now i) }
+// Every clause of one channel.
+#[tactic(auto, unfolding(crate::specs::Testing::channel_sound))]
+fn is_channel_sound(router: &Router, i: u8, v: u8) -> bool
+    requires { Bounds 0 router.now.config × (i < router.now.config.ports) × (v < router.now.config.vcs) }
+    ensures { result ≡ channel_sound router.now.config router.now.inputs router.now.outputs router.now.store router.now.wire
+        router.now.home i v }
 {
-    let mut v: u8 = 0;
-    while v < config.vcs {
-        let x = (i as usize) * (config.vcs as usize) + (v as usize);
-        let input = inputs[x];
-        let output = outputs[x];
-        let bound = input.binding;
-        let y = names::bound_place(config, bound);
-        let there = outputs[y];
-        let holder = there.holder;
-        let held = output.holder;
-        let z = names::held_place(config, held);
-        let back = inputs[z];
-        let binding = back.binding;
-        if !are_names_sound(config, i, v, input, output, holder, binding) {
+    let config = router.config;
+    let x = (i as usize) * (config.vcs as usize) + v as usize;
+    let input = router.inputs[x];
+    let output = router.outputs[x];
+    let there = router.outputs[names::bound_place(config, input.binding)];
+    let back = router.inputs[names::held_place(config, output.holder)];
+    are_names_sound(config, i, v, input, output, there.holder, back.binding)
+        && is_input_sound(router, i, v, input)
+}
+
+// Every VC of one port.
+#[tactic(auto, using(crate::proofs::Passed::passed))]
+fn is_port_sound(router: &Router, i: u8) -> bool
+    requires { Bounds 0 router.now.config × (i < router.now.config.ports) }
+    ensures { result ≡ every router.now.config.vcs (channel_sound router.now.config router.now.inputs router.now.outputs
+        router.now.store router.now.wire router.now.home i) }
+{
+    for v in 0..router.config.vcs {
+        if !is_channel_sound(router, i, v) {
             return false;
         }
-        if !is_input_sound(config, i, v, input, store, wire, home) {
-            return false;
-        }
-        v += 1;
     }
     true
 }
 
 // Every VC of every port that there is.
-pub(crate) fn are_sound(
-    config: Config,
-    inputs: [InputVc; 32],
-    outputs: [OutputVc; 32],
-    store: &[u64; 512],
-    wire: &[u64; 64],
-    home: &[u8; 64],
-) -> bool
-    requires { Bounds 0 config × (length store.now ≡ 512) }
-    ensures { result ≡ every_channel config (channel_sound config inputs outputs store.now wire.now
-        home.now) }
+#[tactic(auto, using(crate::proofs::Passed::passed))]
+pub(crate) fn are_sound(router: &Router) -> bool
+    requires { Bounds 0 router.now.config }
+    ensures { result ≡ every_channel router.now.config (channel_sound router.now.config router.now.inputs router.now.outputs
+        router.now.store router.now.wire router.now.home) }
 {
-    let mut i: u8 = 0;
-    while i < config.ports {
-        if !is_port_sound(config, i, inputs, outputs, store, wire, home) {
+    for i in 0..router.config.ports {
+        if !is_port_sound(router, i) {
             return false;
         }
-        i += 1;
     }
     true
 }
@@ -147,75 +98,58 @@ pub(crate) fn are_sound(
 fn is_input_unused(input: InputVc) -> bool
     ensures { result ≡ input_unused input }
 {
-    let binding = input.binding;
-    let Binding::Unbound = binding else {
-        return false;
-    };
-    if input.credit != 0 {
-        return false;
-    }
-    if input.opened {
-        return false;
-    }
-    input.queued == 0
+    matches!(input.binding, Binding::Unbound)
+        && input.credit == 0
+        && !input.opened
+        && input.queued == 0
 }
 
 fn is_output_unused(output: OutputVc) -> bool
     ensures { result ≡ output_unused output }
 {
-    let holder = output.holder;
-    let Holder::Nobody = holder else {
-        return false;
-    };
-    output.credit == 0
+    output.holder.is_none() && output.credit == 0
 }
 
 // channels "beyond P and V"
+#[tactic(auto, unfolding(crate::specs::Sound::channels_unused), using(crate::proofs::Made::channels_fit, crate::proofs::Passed::passed))]
 pub(crate) fn are_unused(config: Config, inputs: [InputVc; 32], outputs: [OutputVc; 32]) -> bool
     requires { Bounds 0 config }
     ensures { result ≡ channels_unused config inputs outputs }
 {
-    let mut x = (config.ports as usize) * (config.vcs as usize);
-    while x < CHANNEL_PLACES {
+    for x in (config.ports as usize) * (config.vcs as usize)..CHANNEL_PLACES {
         let input = inputs[x];
-        if !is_input_unused(input) {
-            return false;
-        }
         let output = outputs[x];
-        if !is_output_unused(output) {
+        if !is_input_unused(input) || !is_output_unused(output) {
             return false;
         }
-        x += 1;
     }
     true
 }
 
 // Of the 16 slots from `base` on, those behind the queue are zero.
+#[tactic(auto, using(crate::proofs::Passed::passed))]
 fn are_empty_behind(base: usize, queued: u8, store: &[u64; 512]) -> bool
     requires { base + 16 ≤ 512 }
     ensures { result ≡ every 16 (λ (k : ℕ). ltb k queued || eqb (get_or store.now (base + k) 0) 0) }
 {
-    let mut k = queued as usize;
-    while k < 16 {
+    for k in queued as usize..16 {
         if store[base + k] != 0 {
             return false;
         }
-        k += 1;
     }
     true
 }
 
 // "an empty slot is zero"
+#[tactic(auto, unfolding(crate::specs::Sound::slots_empty), using(crate::proofs::Passed::passed))]
 pub(crate) fn are_slots_empty(inputs: [InputVc; 32], store: &[u64; 512]) -> bool
     ensures { result ≡ slots_empty inputs store.now }
 {
-    let mut x: usize = 0;
-    while x < CHANNEL_PLACES {
+    for x in 0..CHANNEL_PLACES {
         let input = inputs[x];
         if !are_empty_behind(16 * x, input.queued, store) {
             return false;
         }
-        x += 1;
     }
     true
 }

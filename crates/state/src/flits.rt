@@ -7,6 +7,7 @@ ghost use Rattle.state.specs.Sound.{legal_flit};
 use base::{Config, Flit, ends, starts};
 
 // Whether some row can bring this flit: the pairs of kind and destination that can come, as the bits of a word.
+#[tactic(auto, using(crate::proofs::Pairs::shifted_range, crate::proofs::Pairs::legal_pair, crate::proofs::Pairs::legal_long))]
 pub(crate) fn is_legal(config: Config, flit: Flit) -> bool
     requires { config.ports ≤ 8 }
     ensures { result ≡ legal_flit config flit }
@@ -15,20 +16,16 @@ pub(crate) fn is_legal(config: Config, flit: Flit) -> bool
     if 274877906944 <= word {
         return false;
     }
-    let one: u64 = 1;
-    let ports = (one << (config.ports as u32)) - 1;
+    let ports = (1u64 << config.ports) - 1;
     let pairs = ports * 256 + 65536 + 16777216 + ports * 4294967296;
-    (pairs >> ((word / 4294967296) as u32)) % 2 == 1
+    (pairs >> (word / 4294967296)) % 2 == 1
 }
 
 // Whether a flit of this kind can come next, inside a packet or between packets.
 pub(crate) fn may_come(inside: bool, kind: u8) -> bool
     ensures { result ≡ xor inside (starts_kind kind) }
 {
-    if inside {
-        return !starts(kind);
-    }
-    starts(kind)
+    inside != starts(kind)
 }
 
 // Whether a packet is open after a flit of this kind.

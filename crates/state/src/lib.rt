@@ -7,7 +7,7 @@
 ghost use Rattle.std.specs.Prelude.{◌≡◌};
 ghost use Rattle.state.specs.Setters.{set_binding, set_holder};
 
-use arbiter::{Narrow, Wide};
+use arbiter::Arbiter;
 use base::Config;
 
 mod arbitration;
@@ -25,28 +25,28 @@ pub use building::{Built, fresh};
 pub use soundness::is_sound;
 
 // One VC of one output.
-#[derive(Clone, Copy)]
+#[derive(Clone, Copy, PartialEq, Eq)]
 pub struct OutVc {
     pub output: u8,
     pub vc: u8,
 }
 
 // One VC of one input.
-#[derive(Clone, Copy)]
+#[derive(Clone, Copy, PartialEq, Eq)]
 pub struct InVc {
     pub input: u8,
     pub vc: u8,
 }
 
 // "An input VC is either unbound or bound to one output and one of its VCs."
-#[derive(Clone, Copy)]
+#[derive(Clone, Copy, PartialEq, Eq)]
 pub enum Binding {
     Unbound,
     Bound(OutVc),
 }
 
 // An input VC: what it is bound to, its sender's credit, whether its sender has a packet open, and how many flits are queued.
-#[derive(Clone, Copy)]
+#[derive(Clone, Copy, PartialEq, Eq)]
 pub struct InputVc {
     pub binding: Binding,
     pub credit: u8,
@@ -55,54 +55,39 @@ pub struct InputVc {
 }
 
 impl InputVc {
-    // The same input VC with this binding. The literal is here since, with the older kit, a field that is an enum could not be written by
-    // itself.
+    // The same input VC with this binding.
     pub fn with_binding(self, binding: Binding) -> Self
         ensures { result ≡ set_binding binding self }
     {
-        InputVc {
-            binding,
-            credit: self.credit,
-            opened: self.opened,
-            queued: self.queued,
-        }
+        InputVc { binding, ..self }
     }
 }
 
-// Who holds an output VC.
-#[derive(Clone, Copy)]
-pub enum Holder {
-    Nobody,
-    Held(InVc),
-}
-
-#[derive(Clone, Copy)]
+// An output VC: which input VC holds it, if one does, and its credit downstream.
+#[derive(Clone, Copy, PartialEq, Eq)]
 pub struct OutputVc {
-    pub holder: Holder,
+    pub holder: Option<InVc>,
     pub credit: u8,
 }
 
 impl OutputVc {
     // The same output VC with this holder.
-    pub fn with_holder(self, holder: Holder) -> Self
+    pub fn with_holder(self, holder: Option<InVc>) -> Self
         ensures { result ≡ set_holder holder self }
     {
-        OutputVc {
-            holder,
-            credit: self.credit,
-        }
+        OutputVc { holder, ..self }
     }
 }
 
 // The arbiters: for each output one over all input VCs and one over the inputs, for each input one over its VCs.
-#[derive(Clone, Copy)]
+#[derive(Clone, Copy, PartialEq, Eq)]
 pub struct Arbiters {
-    pub vcs: [Wide; 8],
-    pub inputs: [Narrow; 8],
-    pub outputs: [Narrow; 8],
+    pub vcs: [Arbiter<32>; 8],
+    pub inputs: [Arbiter<8>; 8],
+    pub outputs: [Arbiter<8>; 8],
 }
 
-#[derive(Clone, Copy)]
+#[derive(Clone, Copy, PartialEq, Eq)]
 pub struct Router {
     pub config: Config,
     pub cycle: u64,

@@ -3,15 +3,14 @@ ghost use Rattle.std.specs.Prelude.{◌≡◌};
 ghost use Rattle.state.specs.Sound.{sound};
 
 use crate::{Router, arbitration, channels, lines};
-use base::{CYCLE_LIMIT, Judged};
+use base::CYCLE_LIMIT;
 
 // "A state handed in is sound when": all clauses. The configuration comes first, so that every index after it is in range.
 pub fn is_sound(router: Router) -> bool
     ensures { result ≡ sound router }
 {
     let config = router.config;
-    let judged = config.judged();
-    if let Judged::Illegal(_) = judged {
+    if config.judged().is_err() {
         return false;
     }
     if CYCLE_LIMIT < router.cycle {
@@ -44,5 +43,5 @@ pub fn is_sound(router: Router) -> bool
     if !channels::are_slots_empty(inputs, &store) {
         return false;
     }
-    channels::are_sound(config, inputs, outputs, &store, &wire, &home)
+    channels::are_sound(&router)
 }

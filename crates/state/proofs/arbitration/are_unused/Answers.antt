@@ -1,7 +1,6 @@
 -- `state::arbitration::are_unused` meets its contract: the ports passed so far have no arbiters.
 -- Assumes nothing.
 use mathlib.Core.Path.{sym, ◌∙◌}
-use borrow.Author.Tests.{not-true, not-false}
 use borrow.Author.Rules.{rules}
 use Rattle.state.specs.Sound.{arbiters_unused}
 use Rattle.state.specs.Testing.{no_arbiters}

@@ -10,7 +10,7 @@ use Rattle.base.specs.Sizes.{no_config, Bounds}
 use Rattle.base.specs.declared.config.Config.{Config}
 use Rattle.state.specs.Blank.{no_sizes}
 use Rattle.state.specs.Sound.{wire_legal, home_legal, line_unused, arbiters_unused, channels_unused}
-use Rattle.state.proofs.Blank.{bounded_none, not_blank, wire_blank, home_blank, last_blank, rooms_are}
+use Rattle.state.proofs.Blank.{bounded_none, no_sizes_exactly, some_size, not_blank, wire_blank, home_blank, last_blank, rooms_are}
 use Rattle.state.proofs.Exact.{shape_is, length_any}
 use Rattle.state.proofs.blankness.is_blank.Goals as goal
 use Rattle.state.proofs.blankness.is_blank.Goals.{After-are_unused, After-are_unused-2, After-is_home_sound, After-is_wire_sound}
@@ -71,12 +71,6 @@ channels-said c =
     let s = c.args.router in
     c.are_unused-2.ensures ∙ ap (λ (n : Config). channels_unused n s.inputs s.outputs) c.none-none.ensures
 
-pub returns-then-not-is_none : goal.returns-then-not-is_none
-returns-then-not-is_none c =
-    let s = c.args.router in
-    not_blank s (no_sizes s.config) (λ b. b.config) (sym c.is_none.ensures
-    ∙ c.if-not-is_none.true)
-
 pub returns-then-router-ne0 : goal.returns-then-router-ne0
 returns-then-router-ne0 c =
     let s = c.args.router in
@@ -109,8 +103,9 @@ returns-then-not-are_unused-2 c =
 pub returns : goal.returns
 returns c =
     let s = c.args.router in
-    last_blank s c.are_slots_empty.result c.are_slots_empty.ensures
-    (sym c.is_none.ensures ∙ c.if-not-is_none.false)
+    let h = c.if-ne.ensures in
+    let same : s.config ≡ c.none-none.result = search rules in
+    last_blank s c.are_slots_empty.result c.are_slots_empty.ensures ((no_sizes_exactly s.config).1 (same ∙ c.none-none.ensures))
     (eq-eqb s.cycle 0 c.if-router-ne0.false) (sym (wire-said (goal.at.returns c).After-is_wire_sound)
     ∙ c.if-not-is_wire_sound.false)
     (sym (home-said (goal.at.returns c).After-is_home_sound) ∙ c.if-not-is_home_sound.false)
@@ -135,3 +130,10 @@ are_unused-requires c =
 pub are_unused-requires-2 : goal.are_unused-requires-2
 are_unused-requires-2 c =
     bounded (goal.at.are_unused-requires-2 c).After-none-none
+
+pub returns-then-ne : goal.returns-then-ne
+returns-then-ne c =
+    let s = c.args.router in
+    let h = c.if-ne.ensures in
+    let d : s.config ≡ c.none-none.result → ⊥ = search rules in
+    not_blank s (no_sizes s.config) (λ b. b.config) (sym (some_size s.config (λ e. d (e ∙ sym c.none-none.ensures))))

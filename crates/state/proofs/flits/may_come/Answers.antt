@@ -1,12 +1,14 @@
 -- `state::flits::may_come` meets its contract.
 -- Assumes nothing.
-use mathlib.Core.Path.{sym, ap₂, ◌∙◌}
-use mathlib.Core.Bool.{xor}
-use Rattle.state.proofs.Reading.{comes_inside, comes_between}
+use Rattle.std.proofs.Common.{◌≡◌, refl, Bool, true, false, not}
+use Rattle.std.proofs.Math.Bool.{beq, xor}
 use Rattle.state.proofs.flits.may_come.Goals as goal
 
-pub returns-then-inside : goal.returns-then-inside
-returns-then-inside c = comes_inside c.starts.result ∙ ap₂ (λ a b. xor a b) (sym c.if-inside.true) c.starts.ensures
+differ : (a b : Bool) → not (beq a b) ≡ xor a b
+unfolding xor
+differ true b = refl
+differ false true = refl
+differ false false = refl
 
 pub returns : goal.returns
-returns c = comes_between c.starts-2.result ∙ ap₂ (λ a b. xor a b) (sym c.if-inside.false) c.starts-2.ensures
+returns c = rw (← c.starts.ensures) (differ c.args.inside c.starts.result)
