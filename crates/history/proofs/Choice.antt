@@ -1,10 +1,12 @@
 -- What is chosen in a cycle: THE choice of the arbiters, in crates/model's words. What it grants, and whose front leaves, is on a channel
 -- that there is, and is what the rules grant and let leave.
 -- Assumes nothing.
+use Rattle.std.specs.Prelude.{Ok}
 use mathlib.Core.Path.{◌≡◌, refl, sym, ◌∙◌}
 use mathlib.Core.Bool.{Bool, true, false}
 use mathlib.Core.List.{List}
-use mathlib.Core.Option.{some, none-ne-some}
+use Rattle.std.specs.Prelude.{Some}
+use Rattle.std.proofs.lemmas.Option.{none-some}
 use Prim.Native.Nat.{ℕ, ◌<◌}
 use lib.Dec.{ltb}
 use borrow.Author.Tests.{ltb-true}
@@ -16,7 +18,6 @@ use Rattle.state.specs.declared.Router.{Router}
 use Rattle.state.specs.Channels.{is_there}
 use Rattle.state.specs.Views.{channel_number}
 use Rattle.trace.specs.Bytes.{AreBytes}
-use Rattle.rules.specs.declared.Verdict.TheVariants.{Accepted}
 use Rattle.rules.specs.Chosen.{chosen}
 use Rattle.rules.specs.Free.{name_of, free_of, event_of}
 use Rattle.rules.specs.Step.{taken_in, step_of}
@@ -34,10 +35,10 @@ there_is c i v e = let p = both (ltb i c.ports) (ltb v c.vcs) e in (ltb-true i c
 pub record GrantedTo (s : Router) (part : List ℕ) (i v : ℕ) (b : OutVc) : Type 0 where
   pub port : i < s.config.ports
   pub vc : v < s.config.vcs
-  pub is : name_of (grant_to (taken_in part s) (channel_number s.config i v)) ≡ some b
+  pub is : name_of (grant_to (taken_in part s) (channel_number s.config i v)) ≡ Some b
 
-pub grant_there : (s : Router) (part : List ℕ) → AreBytes part → (step_of s part).verdict ≡ Accepted
-    → (i v : ℕ) (b : OutVc) → (choice_of s part).grant i v ≡ some b → GrantedTo s part i v b
+pub grant_there : (s : Router) (part : List ℕ) → AreBytes part → (step_of s part).verdict ≡ Ok tt
+    → (i v : ℕ) (b : OutVc) → (choice_of s part).grant i v ≡ Some b → GrantedTo s part i v b
 unfolding chosen
 grant_there s part bytes accepted i v b q = go (is_there s.config i v) refl
   where
@@ -45,4 +46,4 @@ grant_there s part bytes accepted i v b q = go (is_there s.config i v) refl
     go true e =
         let l = there_is s.config i v e in
         record { port = l.0; vc = l.1; is = sym (grant_alike s part bytes accepted i v l.0 l.1) ∙ q }
-    go false e = absurd (none-ne-some b (sym (grant_beyond s part bytes accepted i v e) ∙ q))
+    go false e = absurd (none-some b (sym (grant_beyond s part bytes accepted i v e) ∙ q))

@@ -1,8 +1,9 @@
 -- Demand 3 of the router that steps: any legal configuration, any list of cycle parts.
 -- Assumes nothing.
+use Rattle.std.specs.Prelude.{Ok}
 use mathlib.Core.Path.{◌≡◌, refl, sym, ap, subst, ◌∙◌}
 use mathlib.Core.List.{List, [], ◌∷◌, ◌++◌}
-use mathlib.Core.Option.{none}
+use Rattle.std.specs.Prelude.{None}
 use Prim.Native.Nat.{ℕ, suc, ◌+◌, ◌-◌, ◌<◌}
 use native.Mathlib.Omega.{arith}
 use lib.ListN.{length}
@@ -19,7 +20,6 @@ use Rattle.state.specs.Channels.{ChannelView, channel_view}
 use Rattle.state.specs.Sound.{Sound}
 use Rattle.state.specs.Views.{input_at, wire_of, home_of, flat, total}
 use Rattle.trace.specs.Bytes.{AreBytes}
-use Rattle.rules.specs.declared.Verdict.TheVariants.{Accepted}
 use Rattle.rules.specs.Free.{look, sizes_of, channel_of, free_of}
 use Rattle.rules.specs.Step.{step_of}
 use Rattle.rules.proofs.ChosenViews.{view_there}
@@ -79,7 +79,7 @@ module _ (s : Router) (sound : Sound s) (h : History Flit) (t : ℕ) where
       }
 
 -- so it holds wherever a run of a legal configuration has come to, after its last accepted cycle t
-runs_demand : (c : Config) → illegal_field c ≡ none → (r : Ran) → Runs c r → (t : ℕ) → length r.history ≡ suc t
+runs_demand : (c : Config) → illegal_field c ≡ None → (r : Ran) → Runs c r → (t : ℕ) → length r.history ≡ suc t
     → Demand3 c r.router r.history t
 runs_demand c legal r runs t count =
     subst (λ (d : Config). Demand3 d r.router r.history t) runs.config
@@ -89,16 +89,16 @@ runs_demand c legal r runs t count =
     (demand3_at look (sizes_of c) (legal_delayed c legal) runs.run t
     (length_alike runs.by_input r.history runs.alike ∙ count)))))
 
-module _ (c : Config) (legal : illegal_field c ≡ none) (parts : List (List ℕ)) (bytes : lists.All AreBytes parts) where
+module _ (c : Config) (legal : illegal_field c ≡ None) (parts : List (List ℕ)) (bytes : lists.All AreBytes parts) where
   -- A run of any parts, refused ones skipped, of which t is the last accepted cycle.
   pub demand3 : (t : ℕ) → length (run_of c parts).history ≡ suc t → Demand3 c (run_of c parts).router (run_of c parts).history t
   demand3 t count = runs_demand c legal (run_of c parts) (run_runs c legal parts bytes) t count
 
   -- The same of one more cycle: "After each accepted cycle", whatever came before it.
-  pub demand3_after : (part : List ℕ) → AreBytes part → (step_of (run_of c parts).router part).verdict ≡ Accepted
+  pub demand3_after : (part : List ℕ) → AreBytes part → (step_of (run_of c parts).router part).verdict ≡ Ok tt
       → Demand3 c (step_of (run_of c parts).router part).router
       (entry_of c (length (run_of c parts).history) part (step_of (run_of c parts).router part).reply ∷ (run_of c parts).history)
       (length (run_of c parts).history)
   demand3_after part next accepted =
-      runs_demand c legal (recorded c part (run_of c parts) Accepted (step_of (run_of c parts).router part))
+      runs_demand c legal (recorded c part (run_of c parts) (Ok tt) (step_of (run_of c parts).router part))
       (accepted_runs c (run_of c parts) part next (run_runs c legal parts bytes) accepted) (length (run_of c parts).history) refl

@@ -1,21 +1,18 @@
 -- The entry of an accepted cycle: what is read off its part and its reply is the free router's entry, but that this lists the departures
 -- input by input.
 -- Assumes nothing.
+use Rattle.std.specs.Prelude.{Ok}
 use mathlib.Core.Path.{◌≡◌, refl, sym, ap, ap₂, subst, ◌∙◌}
 use mathlib.Core.Bool.{Bool, true, false, cond, ◌&&◌, true≢false}
 use mathlib.Core.List.{List, [], ◌∷◌}
-use mathlib.Core.Option.{Option, some, none}
+use Rattle.std.specs.Prelude.{Option, Some, None}
 use Prim.Native.Nat.{ℕ, zero, suc, ◌+◌, ◌<◌}
 use native.Mathlib.Omega.{arith}
 use lib.ListN.{get_or, replicate}
 use borrow.Author.Tests.{lt-ltb, eq-eqb, ne_eqb}
 use Rattle.base.specs.declared.config.Config.{Config}
 use Rattle.base.specs.declared.flit.Flit.{Flit}
-use Rattle.base.specs.declared.reply.Sender.{Sender}
-use Rattle.base.specs.declared.reply.Left.{Left}
-use Rattle.base.specs.declared.reply.Left.TheVariants as left
 use Rattle.base.specs.declared.reply.Departure as reply
-use Rattle.base.specs.Reply.{credit_of, departure_of}
 use Rattle.model.specs.Channel as model
 use Rattle.model.specs.Channel.{queue_now}
 use Rattle.model.specs.Alike.{SameCycle}
@@ -30,12 +27,11 @@ use Rattle.state.specs.Channels.{ChannelView}
 use Rattle.state.specs.Sound.{Sound}
 use Rattle.state.specs.Views.{channel_number, home_place, to_vc}
 use Rattle.trace.specs.Bytes.{AreBytes}
-use Rattle.rules.specs.declared.Verdict.TheVariants.{Accepted}
 use Rattle.rules.specs.declared.Stepped.{Stepped}
 use Rattle.rules.specs.Allocation.{allocated}
 use Rattle.rules.specs.Chosen.{chosen}
 use Rattle.rules.specs.Free.{sizes_of, channel_of, free_of, event_of}
-use Rattle.rules.specs.Intake.{reaching, credits_reached, credits_returned, landed, offers_taken}
+use Rattle.rules.specs.Intake.{credits_reached, credits_returned, landed, offers_taken}
 use Rattle.rules.specs.Ports.{named}
 use Rattle.rules.specs.Rows.{credit_at, brings, vc_at, flit_at}
 use Rattle.rules.specs.Step.{taken_in, reply_of, step_of}
@@ -47,7 +43,6 @@ use Rattle.rules.proofs.Departed.{report_of, reported_exits, exits_reported}
 use Rattle.rules.proofs.Exits.{Exit, exit, exits_differ}
 use Rattle.rules.proofs.Facts.{sound_legal, home_at}
 use Rattle.rules.proofs.IntakeChannel.{home_out}
-use Rattle.rules.proofs.Left.{no_output}
 use Rattle.rules.proofs.Named.{named_there}
 use Rattle.rules.proofs.Reported.{reported_at}
 use Rattle.history.specs.Run.{offer_in, departure_in, departures_in, reached_in, entry_of}
@@ -57,13 +52,8 @@ use Rattle.history.proofs.Sorted.{each_ext, from, sorted, sorted_from, sorted_fe
 use Rattle.history.proofs.Told.{told_inside, told_once}
 use Rattle.history.proofs.Written.{exit_written}
 
--- the VC that a reply names as reached
-reached_back : (m : Option ℕ) → credit_of (reaching m).reached ≡ m
-reached_back none = refl
-reached_back (some v) = refl
-
 -- of all VCs of an input, the named one's credit reaches its sender
-reached_named : (n i place : ℕ) → ((v : ℕ) → named place ≡ some v → v < n)
+reached_named : (n i place : ℕ) → ((v : ℕ) → named place ≡ Some v → v < n)
     → each n (λ v. replicate (to_vc v place) (record { input = i; vc = v })) ≡ reached_in i (named place)
 reached_named n i zero near =
     each_none n (λ v. replicate (to_vc v 0) (record { input = i; vc = v })) (λ v l.
@@ -73,7 +63,7 @@ reached_named n i (suc u) near =
     ap (λ (b : Bool). replicate (cond b 1 0) (record { input = i; vc = v })) (ne_eqb (suc u) (v + 1) (λ e. ne (omega arith))))
     ∙ ap (λ (b : Bool). replicate (cond b 1 0) (record { input = i; vc = u })) (eq-eqb (suc u) (u + 1) (omega arith))
 
-module _ (s : Router) (part : List ℕ) (bytes : AreBytes part) (accepted : (step_of s part).verdict ≡ Accepted) where
+module _ (s : Router) (part : List ℕ) (bytes : AreBytes part) (accepted : (step_of s part).verdict ≡ Ok tt) where
   abbrev c : Config
   c = s.config
 
@@ -87,23 +77,23 @@ module _ (s : Router) (part : List ℕ) (bytes : AreBytes part) (accepted : (ste
   offers_same : (i : ℕ) → i < c.ports → offers_at i ((event_of c part).offer i) ≡ offer_in part i
   unfolding event_of
   offers_same i h =
-      ap (λ (t : Bool). offers_at i (cond (t && brings part i) (some (record { vc = vc_at part i; flit = flit_at part i })) none))
+      ap (λ (t : Bool). offers_at i (cond (t && brings part i) (Some (record { vc = vc_at part i; flit = flit_at part i })) None))
       (lt-ltb i c.ports h)
       ∙ go (brings part i)
     where
-      go : (b : Bool) → offers_at i (cond b (some (record { vc = vc_at part i; flit = flit_at part i })) none)
+      go : (b : Bool) → offers_at i (cond b (Some (record { vc = vc_at part i; flit = flit_at part i })) None)
           ≡ cond b (record { input = i; vc = vc_at part i; flit = flit_at part i } ∷ []) []
       go true = refl
       go false = refl
 
   credits_same : (o : ℕ) → o < c.ports → credits_at o ((event_of c part).credit o) ≡ credits_at o (named (credit_at part o))
   unfolding event_of
-  credits_same o h = ap (λ (t : Bool). credits_at o (cond t (named (credit_at part o)) none)) (lt-ltb o c.ports h)
+  credits_same o h = ap (λ (t : Bool). credits_at o (cond t (named (credit_at part o)) None)) (lt-ltb o c.ports h)
 
   -- a credit that reaches its sender is reported
   reached_same : (i : ℕ) → i < c.ports
       → each c.vcs (λ v. replicate (model.reaching ((free_of s).channel i v)) (record { input = i; vc = v }))
-      ≡ reached_in i (credit_of (get_or (step_of s part).reply.senders i (reaching none)).reached)
+      ≡ reached_in i (get_or (step_of s part).reply.senders i None)
   unfolding free_of reply_of
   reached_same i h =
       let before = accepted_before s part bytes accepted in
@@ -115,27 +105,26 @@ module _ (s : Router) (part : List ℕ) (bytes : AreBytes part) (accepted : (ste
       ∙ home_out c i v s.home legal.back.0))
       ∙ reached_named c.vcs i (home_place s.home 0 i) (λ v e. named_there (home_place s.home 0 i) c.vcs v
       (home_at s before 0 i legal.back.0 h) e)
-      ∙ ap (reached_in i) (sym (reached_back (named (home_place s.home 0 i)))
-      ∙ ap (λ (x : Sender). credit_of x.reached) (sym (reported_at c s.home i h legal.ports.1))
-      ∙ ap (λ (x : Stepped). credit_of (get_or x.reply.senders i (reaching none)).reached) (sym (accepted_steps s part bytes accepted)))
+      ∙ ap (reached_in i) ((sym (reported_at c s.home i h legal.ports.1))
+      ∙ ap (λ (x : Stepped). (get_or x.reply.senders i None)) (sym (accepted_steps s part bytes accepted)))
 
   module _ (i v : ℕ) (port : i < c.ports) (vc : v < c.vcs) where
     -- what the reply reports at output o, and of it what left VC v of input i
-    abbrev left_at : ℕ → Left
-    left_at o = (get_or (step_of s part).reply.outputs o no_output).left
+    abbrev left_at : ℕ → Option reply.Departure
+    left_at o = (get_or (step_of s part).reply.outputs o None)
 
     abbrev found : ℕ → List (Departure Flit)
-    found o = keep (from i v) (departure_in o (departure_of (left_at o)))
+    found o = keep (from i v) (departure_in o (left_at o))
 
     -- an output at which nothing is reported that the rules let leave from there
-    none_found : (o : ℕ) → ((e : Exit) → exit mid o ≡ some e → e.input ≡ i → e.vc ≡ v → ⊥) → found o ≡ []
+    none_found : (o : ℕ) → ((e : Exit) → exit mid o ≡ Some e → e.input ≡ i → e.vc ≡ v → ⊥) → found o ≡ []
     none_found o off = go (left_at o) refl
       where
-        go : (l : Left) → left_at o ≡ l → keep (from i v) (departure_in o (departure_of l)) ≡ []
-        go left.Nothing q = refl
-        go (left.Flit d) q = test (same d.input d.vc i v) refl
+        go : (l : Option reply.Departure) → left_at o ≡ l → keep (from i v) (departure_in o l) ≡ []
+        go None q = refl
+        go (Some d) q = test (same d.input d.vc i v) refl
           where
-            test : (t : Bool) → same d.input d.vc i v ≡ t → cond t (departure_in o (some d)) [] ≡ []
+            test : (t : Bool) → same d.input d.vc i v ≡ t → cond t (departure_in o (Some d)) [] ≡ []
             test true t =
                 let r = reported_exits s part bytes accepted o d q in
                 let here = same_true d.input d.vc i v t in
@@ -146,7 +135,7 @@ module _ (s : Router) (part : List ℕ) (bytes : AreBytes part) (accepted : (ste
     departures_same : departure (free_of s) (choice_of s part) i v ≡ keep (from i v) (departures_in c (step_of s part).reply)
     unfolding chosen allocated taken_in offers_taken landed credits_returned credits_reached
     departures_same =
-        go ((choice_of s part).leaves i v) refl ∙ sym (keep_each (from i v) c.ports (λ o. departure_in o (departure_of (left_at o))))
+        go ((choice_of s part).leaves i v) refl ∙ sym (keep_each (from i v) c.ports (λ o. departure_in o (left_at o)))
       where
         go : (l : Bool) → (choice_of s part).leaves i v ≡ l → departure (free_of s) (choice_of s part) i v ≡ each c.ports found
         go true q =
@@ -160,8 +149,8 @@ module _ (s : Router) (part : List ℕ) (bytes : AreBytes part) (accepted : (ste
             let is : same e.input e.vc i v ≡ true = ap₂ (λ (j u : ℕ). same j u i v) g.input g.vc ∙ same_own i v in
             departure_is s part bytes accepted i v q
             ∙ (λ t. record { output = o; out_vc = e.by; input = sym g.input t; vc = sym g.vc t; flit = written t } ∷ [])
-            ∙ ap (λ (b : Bool). cond b (departure_in o (some (report_of e))) []) (sym is)
-            ∙ ap (λ (l : Left). keep (from i v) (departure_in o (departure_of l))) (sym there) ∙ sym only
+            ∙ ap (λ (b : Bool). cond b (departure_in o (Some (report_of e))) []) (sym is)
+            ∙ ap (λ (l : Option reply.Departure). keep (from i v) (departure_in o l)) (sym there) ∙ sym only
         go false q =
             ap (λ (l : Bool). leaving i v l (bound_now (free_of s) (choice_of s part) i v) (queue_now ((free_of s).channel i v))) q
             ∙ sym (each_none c.ports found (λ o l. none_found o (λ e r a b.

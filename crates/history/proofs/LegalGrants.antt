@@ -1,11 +1,13 @@
 -- Whom the rules bind in an accepted cycle is within the free router's limits: an unbound input VC whose front asks there, to an output VC
 -- that was free before the cycle, at most one for each output.
 -- Assumes nothing.
+use Rattle.std.specs.Prelude.{Ok}
 use mathlib.Core.Path.{◌≡◌, refl, sym, ap, subst, ◌∙◌}
 use mathlib.Core.Logic.{◌⊎◌, inl, inr}
 use mathlib.Core.Bool.{Bool, true, false, false≢true}
 use mathlib.Core.List.{List, [], ◌∷◌}
-use mathlib.Core.Option.{some, none, some-injective, none-ne-some}
+use Rattle.std.specs.Prelude.{Some, None}
+use Rattle.std.proofs.lemmas.Option.{same_Some, none-some}
 use Prim.Native.Nat.{ℕ, ◌<◌}
 use lib.Dec.{eqb}
 use lib.ListN.{get_or}
@@ -26,7 +28,6 @@ use Rattle.state.specs.Sound.{Sound, front_is_for}
 use Rattle.store.specs.Store.{first_slot}
 use Rattle.state.specs.Views.{channel_number, input_at, output_at, queue_at}
 use Rattle.trace.specs.Bytes.{AreBytes}
-use Rattle.rules.specs.declared.Verdict.TheVariants.{Accepted}
 use Rattle.rules.specs.Allocation.{Grant, grant_of}
 use Rattle.rules.specs.Free.{look, name_of, free_of}
 use Rattle.rules.specs.Intake.{credits_reached, credits_returned, landed, offers_taken}
@@ -50,13 +51,13 @@ front_asks o (f ∷ q) e =
     (p.0, eqb-true (destination_of f) o p.1)
 
 -- a binding that has the free router's name b
-bound_named : (x : Binding) (b : free.OutVc) → name_of (bound_to x) ≡ some b → x ≡ Bound (record { output = b.output; vc = b.vc })
-bound_named Unbound b q = absurd (none-ne-some b q)
+bound_named : (x : Binding) (b : free.OutVc) → name_of (bound_to x) ≡ Some b → x ≡ Bound (record { output = b.output; vc = b.vc })
+bound_named Unbound b q = absurd (none-some b q)
 bound_named (Bound a) b q =
     ap (λ (n : free.OutVc). Bound (record { output = n.output; vc = n.vc }))
-    (some-injective (record { output = a.output; vc = a.vc }) b q)
+    (same_Some (record { output = a.output; vc = a.vc }) b q)
 
-module _ (s : Router) (part : List ℕ) (bytes : AreBytes part) (accepted : (step_of s part).verdict ≡ Accepted) where
+module _ (s : Router) (part : List ℕ) (bytes : AreBytes part) (accepted : (step_of s part).verdict ≡ Ok tt) where
   abbrev c : Config
   c = s.config
 
@@ -72,22 +73,22 @@ module _ (s : Router) (part : List ℕ) (bytes : AreBytes part) (accepted : (ste
     pub port : i < c.ports
     pub below : v < c.vcs
     pub deed : Grant
-    pub acts : grant_of came b.output ≡ some deed
+    pub acts : grant_of came b.output ≡ Some deed
     pub there : deed.requester ≡ channel_number c i v
     pub vc : deed.vc ≡ b.vc
 
-  pub grant_gives : (i v : ℕ) (b : free.OutVc) → (choice_of s part).grant i v ≡ some b → Gives i v b
+  pub grant_gives : (i v : ℕ) (b : free.OutVc) → (choice_of s part).grant i v ≡ Some b → Gives i v b
   unfolding taken_in offers_taken landed credits_returned credits_reached
   grant_gives i v b q = let r = grant_there s part bytes accepted i v b q in
       go r.port r.vc r.is (granted_or_not came (channel_number c i v))
     where
-      go : i < c.ports → v < c.vcs → name_of (grant_to came (channel_number c i v)) ≡ some b
+      go : i < c.ports → v < c.vcs → name_of (grant_to came (channel_number c i v)) ≡ Some b
           → Actor (grant_of came) (asking came) c.ports (channel_number c i v) ⊎ Untouched (grant_of came) (asking came) c.ports
           (channel_number c i v)
           → Gives i v b
       go h g e (inl a) =
           let same : record { output = a.port; vc = a.deed.vc } ≡ b =
-          some-injective (record { output = a.port; vc = a.deed.vc }) b
+          same_Some (record { output = a.port; vc = a.deed.vc }) b
           (ap name_of (sym (grant_to-law came (channel_number c i v) a)) ∙ e) in
           record {
             port = h;
@@ -97,9 +98,9 @@ module _ (s : Router) (part : List ℕ) (bytes : AreBytes part) (accepted : (ste
             there = a.there;
             vc = ap (λ (x : free.OutVc). x.vc) same;
           }
-      go h g e (inr off) = absurd (none-ne-some b (ap name_of (sym (no_grant_to came (channel_number c i v) off)) ∙ e))
+      go h g e (inr off) = absurd (none-some b (ap name_of (sym (no_grant_to came (channel_number c i v) off)) ∙ e))
 
-  module _ (i v : ℕ) (b : free.OutVc) (q : (choice_of s part).grant i v ≡ some b) where
+  module _ (i v : ℕ) (b : free.OutVc) (q : (choice_of s part).grant i v ≡ Some b) where
     it : Gives i v b
     it = grant_gives i v b q
 
@@ -107,7 +108,7 @@ module _ (s : Router) (part : List ℕ) (bytes : AreBytes part) (accepted : (ste
     granted = grant_is came b.output it.deed it.acts
 
     -- it was unbound
-    pub binds_unbound-law : (free_of s).bound i v ≡ none
+    pub binds_unbound-law : (free_of s).bound i v ≡ None
     unfolding taken_in offers_taken landed credits_returned credits_reached
     binds_unbound-law =
         bound_came s part bytes accepted i v it.port it.below
@@ -141,14 +142,14 @@ module _ (s : Router) (part : List ℕ) (bytes : AreBytes part) (accepted : (ste
             nobody_not (output_at c s.outputs b.output b.vc).holder (record { input = j; vc = u })
             (ap (λ (w : ℕ). (output_at c s.outputs b.output w).holder) (sym it.vc)
             ∙ granted_was_free s part bytes accepted b.output it.deed it.acts) held.2
-        go false e = none-ne-some b (ap (λ (ch : ChannelView). name_of ch.bound) (sym (view_beyond s j u e)) ∙ p)
+        go false e = none-some b (ap (λ (ch : ChannelView). name_of ch.bound) (sym (view_beyond s j u e)) ∙ p)
 
   -- two grants of one output are one
-  pub binds_once-law : (i v j u : ℕ) (a b : free.OutVc) → (choice_of s part).grant i v ≡ some a → (choice_of s part).grant j u ≡ some b
+  pub binds_once-law : (i v j u : ℕ) (a b : free.OutVc) → (choice_of s part).grant i v ≡ Some a → (choice_of s part).grant j u ≡ Some b
       → a.output ≡ b.output → (i ≡ j) × (v ≡ u)
   binds_once-law i v j u a b p q same =
       let x = grant_gives i v a p in
       let y = grant_gives j u b q in
-      let deed : x.deed ≡ y.deed = some-injective x.deed y.deed (sym x.acts ∙ ap (grant_of came) same ∙ y.acts) in
+      let deed : x.deed ≡ y.deed = same_Some x.deed y.deed (sym x.acts ∙ ap (grant_of came) same ∙ y.acts) in
       channel_apart c i v j u x.below y.below
       (sym x.there ∙ ap (λ (g : Grant). g.requester) deed ∙ y.there)

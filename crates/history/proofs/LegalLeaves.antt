@@ -1,10 +1,12 @@
 -- What the rules let leave in an accepted cycle is within the free router's limits: from a bound input VC with a flit, by an output VC
 -- with a credit, at most one for each input and each output.
 -- Assumes nothing.
+use Rattle.std.specs.Prelude.{Ok}
 use mathlib.Core.Path.{◌≡◌, refl, sym, ap, ap₂, subst, ◌∙◌}
 use mathlib.Core.Bool.{Bool, true}
 use mathlib.Core.List.{List, [], ◌∷◌}
-use mathlib.Core.Option.{some, some-injective}
+use Rattle.std.specs.Prelude.{Some}
+use Rattle.std.proofs.lemmas.Option.{same_Some}
 use Prim.Native.Nat.{ℕ, ◌<◌}
 use native.Mathlib.Omega.{arith}
 use lib.ListN.{length}
@@ -23,7 +25,6 @@ use Rattle.state.specs.Channels.{bound_to}
 use Rattle.state.specs.Sound.{Sound}
 use Rattle.state.specs.Views.{channel_number, input_at, output_at, queue_of}
 use Rattle.trace.specs.Bytes.{AreBytes}
-use Rattle.rules.specs.declared.Verdict.TheVariants.{Accepted}
 use Rattle.rules.specs.Allocation.{allocated}
 use Rattle.rules.specs.Chosen as second
 use Rattle.rules.specs.Departures.{leaving_of}
@@ -41,7 +42,7 @@ use Rattle.rules.proofs.LeftNames.{exit_named}
 use Rattle.rules.proofs.LeftPackets.{exit_front}
 use Rattle.history.proofs.Choice.{choice_of}
 
-module _ (s : Router) (part : List ℕ) (bytes : AreBytes part) (accepted : (step_of s part).verdict ≡ Accepted) where
+module _ (s : Router) (part : List ℕ) (bytes : AreBytes part) (accepted : (step_of s part).verdict ≡ Ok tt) where
   abbrev c : Config
   c = s.config
 
@@ -59,7 +60,7 @@ module _ (s : Router) (part : List ℕ) (bytes : AreBytes part) (accepted : (ste
     pub output : ℕ
     pub deed : Exit
     pub below : output < c.ports
-    pub acts : exit mid output ≡ some deed
+    pub acts : exit mid output ≡ Some deed
     pub input : deed.input ≡ i
     pub vc : deed.vc ≡ v
 
@@ -87,7 +88,7 @@ module _ (s : Router) (part : List ℕ) (bytes : AreBytes part) (accepted : (ste
     is = exit_is mid it.output it.deed it.acts
 
     -- it is bound to the output VC that it leaves by
-    pub leaves_bound-law : bound_now (free_of s) (choice_of s part) i v ≡ some (record { output = it.output; vc = it.deed.by })
+    pub leaves_bound-law : bound_now (free_of s) (choice_of s part) i v ≡ Some (record { output = it.output; vc = it.deed.by })
     unfolding second.chosen second.bound_now allocated taken_in offers_taken landed credits_returned credits_reached
     leaves_bound-law =
         bound_alike s part bytes accepted i v it.port it.vc_there
@@ -112,11 +113,11 @@ module _ (s : Router) (part : List ℕ) (bytes : AreBytes part) (accepted : (ste
     leaves_flit-law = subst (λ (l : List Flit). 0 < length l) (sym leaves_front) (omega arith)
 
     -- its output VC has a credit
-    pub leaves_credit-law : (b : free.OutVc) → bound_now (free_of s) (choice_of s part) i v ≡ some b
+    pub leaves_credit-law : (b : free.OutVc) → bound_now (free_of s) (choice_of s part) i v ≡ Some b
         → 0 < out_credit_now (free_of s) (event_of c part) b.output b.vc
     unfolding allocated taken_in offers_taken landed credits_returned credits_reached
     leaves_credit-law b p =
-        let by : record { output = it.output; vc = it.deed.by } ≡ b = some-injective _ b (sym leaves_bound-law ∙ p) in
+        let by : record { output = it.output; vc = it.deed.by } ≡ b = same_Some _ b (sym leaves_bound-law ∙ p) in
         let w = is.wins in
         let one : Bound w.to ≡ Bound (record { output = it.output; vc = it.deed.by }) = sym w.bound ∙ is.bound in
         let to : w.to ≡ record { output = it.output; vc = it.deed.by } = cc in
@@ -150,18 +151,18 @@ module _ (s : Router) (part : List ℕ) (bytes : AreBytes part) (accepted : (ste
       let x = leaves_exits i v p in
       let y = leaves_exits i u q in
       let o = exits_differ mid x.output y.output x.deed y.deed x.acts y.acts (x.input ∙ sym y.input) in
-      let deed : x.deed ≡ y.deed = some-injective x.deed y.deed (sym x.acts ∙ ap (exit mid) o ∙ y.acts) in
+      let deed : x.deed ≡ y.deed = same_Some x.deed y.deed (sym x.acts ∙ ap (exit mid) o ∙ y.acts) in
       sym x.vc ∙ ap (λ (e : Exit). e.vc) deed ∙ y.vc
 
   -- two departures by one output are one
   pub leaves_output_once : (i v j u : ℕ) (a b : free.OutVc) → (choice_of s part).leaves i v ≡ true → (choice_of s part).leaves j u ≡ true
-      → bound_now (free_of s) (choice_of s part) i v ≡ some a → bound_now (free_of s) (choice_of s part) j u ≡ some b → a.output ≡ b.output
+      → bound_now (free_of s) (choice_of s part) i v ≡ Some a → bound_now (free_of s) (choice_of s part) j u ≡ Some b → a.output ≡ b.output
       → (i ≡ j) × (v ≡ u)
   leaves_output_once i v j u a b p q f g same =
       let x = leaves_exits i v p in
       let y = leaves_exits j u q in
-      let at : record { output = x.output; vc = x.deed.by } ≡ a = some-injective _ a (sym (leaves_bound-law i v p) ∙ f) in
-      let bt : record { output = y.output; vc = y.deed.by } ≡ b = some-injective _ b (sym (leaves_bound-law j u q) ∙ g) in
+      let at : record { output = x.output; vc = x.deed.by } ≡ a = same_Some _ a (sym (leaves_bound-law i v p) ∙ f) in
+      let bt : record { output = y.output; vc = y.deed.by } ≡ b = same_Some _ b (sym (leaves_bound-law j u q) ∙ g) in
       let o : x.output ≡ y.output = ap (λ (z : free.OutVc). z.output) at ∙ same ∙ ap (λ (z : free.OutVc). z.output) (sym bt) in
-      let deed : x.deed ≡ y.deed = some-injective x.deed y.deed (sym x.acts ∙ ap (exit mid) o ∙ y.acts) in
+      let deed : x.deed ≡ y.deed = same_Some x.deed y.deed (sym x.acts ∙ ap (exit mid) o ∙ y.acts) in
       (sym x.input ∙ ap (λ (e : Exit). e.input) deed ∙ y.input, sym x.vc ∙ ap (λ (e : Exit). e.vc) deed ∙ y.vc)

@@ -1,9 +1,11 @@
 -- What an accepted cycle's part brings is within the free router's limits: in range (3), in turn (4), paid for (5), and with room (6).
 -- Assumes nothing.
+use Rattle.std.specs.Prelude.{Ok}
 use mathlib.Core.Path.{◌≡◌, refl, sym, ap, subst, ◌∙◌}
 use mathlib.Core.Bool.{Bool, true, false, cond, not, xor, ◌&&◌}
 use mathlib.Core.List.{List}
-use mathlib.Core.Option.{some, none, some-injective, none-ne-some}
+use Rattle.std.specs.Prelude.{Some, None}
+use Rattle.std.proofs.lemmas.Option.{same_Some, none-some}
 use Prim.Native.Nat.{ℕ, ◌+◌, ◌≤◌, ◌<◌}
 use native.Mathlib.Omega.{arith}
 use lib.Arith.{lt_of_le-ne}
@@ -20,7 +22,6 @@ use Rattle.state.specs.Channels.{ChannelView, out_credit_of}
 use Rattle.state.specs.Sound.{Sound, output_credits_fit}
 use Rattle.state.specs.Views.{input_at, output_at, home_of}
 use Rattle.trace.specs.Bytes.{AreBytes}
-use Rattle.rules.specs.declared.Verdict.TheVariants.{Accepted}
 use Rattle.rules.specs.Free.{look, channel_of, free_of, event_of}
 use Rattle.rules.specs.Intake.{senders_paid}
 use Rattle.rules.specs.Ports.{named}
@@ -42,26 +43,26 @@ pub record Brings (c : Config) (part : List ℕ) (i : ℕ) (b : Brought Flit) : 
   pub brought : brings part i ≡ true
   pub is : record { vc = vc_at part i; flit = flit_at part i } ≡ b
 
-pub offer_is : (c : Config) (part : List ℕ) (i : ℕ) (b : Brought Flit) → (event_of c part).offer i ≡ some b → Brings c part i b
+pub offer_is : (c : Config) (part : List ℕ) (i : ℕ) (b : Brought Flit) → (event_of c part).offer i ≡ Some b → Brings c part i b
 unfolding event_of
 offer_is c part i b = go (ltb i c.ports) refl (brings part i) refl
   where
     go : (t : Bool) → ltb i c.ports ≡ t → (u : Bool) → brings part i ≡ u
-        → cond (t && u) (some (record { vc = vc_at part i; flit = flit_at part i })) none ≡ some b → Brings c part i b
-    go true e true f q = record { port = ltb-true i c.ports e; brought = f; is = some-injective _ b q }
-    go true e false f q = absurd (none-ne-some b q)
-    go false e u f q = absurd (none-ne-some b q)
+        → cond (t && u) (Some (record { vc = vc_at part i; flit = flit_at part i })) None ≡ Some b → Brings c part i b
+    go true e true f q = record { port = ltb-true i c.ports e; brought = f; is = same_Some _ b q }
+    go true e false f q = absurd (none-some b q)
+    go false e u f q = absurd (none-some b q)
 
 -- the credit that comes back at output o, if it is there and its row names a VC
-pub credit_is : (c : Config) (part : List ℕ) (o w : ℕ) → (event_of c part).credit o ≡ some w → (o < c.ports)
-    × (named (credit_at part o) ≡ some w)
+pub credit_is : (c : Config) (part : List ℕ) (o w : ℕ) → (event_of c part).credit o ≡ Some w → (o < c.ports)
+    × (named (credit_at part o) ≡ Some w)
 unfolding event_of
 credit_is c part o w = go (ltb o c.ports) refl
   where
-    go : (t : Bool) → ltb o c.ports ≡ t → cond t (named (credit_at part o)) none ≡ some w → (o < c.ports)
-        × (named (credit_at part o) ≡ some w)
+    go : (t : Bool) → ltb o c.ports ≡ t → cond t (named (credit_at part o)) None ≡ Some w → (o < c.ports)
+        × (named (credit_at part o) ≡ Some w)
     go true e q = (ltb-true o c.ports e, q)
-    go false e q = absurd (none-ne-some w q)
+    go false e q = absurd (none-some w q)
 
 turned : (inside starts : Bool) → xor inside starts ≡ true → starts ≡ not inside
 unfolding xor
@@ -70,7 +71,7 @@ turned true false q = refl
 turned false true q = refl
 turned false false q = q
 
-module _ (s : Router) (part : List ℕ) (bytes : AreBytes part) (accepted : (step_of s part).verdict ≡ Accepted) where
+module _ (s : Router) (part : List ℕ) (bytes : AreBytes part) (accepted : (step_of s part).verdict ≡ Ok tt) where
   abbrev c : Config
   c = s.config
 
@@ -81,7 +82,7 @@ module _ (s : Router) (part : List ℕ) (bytes : AreBytes part) (accepted : (ste
   permitted = none_permits s part (sound_legal s sound) (accepted_none s part bytes accepted)
 
   -- a port that brings a flit
-  module _ (i : ℕ) (b : Brought Flit) (q : (event_of c part).offer i ≡ some b) where
+  module _ (i : ℕ) (b : Brought Flit) (q : (event_of c part).offer i ≡ Some b) where
     it : Brings c part i b
     it = offer_is c part i b q
 
@@ -127,11 +128,11 @@ module _ (s : Router) (part : List ℕ) (bytes : AreBytes part) (accepted : (ste
         ∙ ap (λ (n : ℕ). (input_at c s.inputs i b.vc).credit + n) (sym (home_out c i b.vc s.home legal.back.0)))
         (subst (λ (x : Brought Flit). 1 ≤ (input_at c (senders_paid c s.home s.inputs) i x.vc).credit) it.is
         (permitted.paid i it.port it.brought)) in
-        let some = legal.depth.0 in
+        let Some = legal.depth.0 in
         omega arith)
 
   -- not 6
-  pub credit_room : (o w : ℕ) → (event_of c part).credit o ≡ some w → (free_of s).out_credit o w < c.downstream
+  pub credit_room : (o w : ℕ) → (event_of c part).credit o ≡ Some w → (free_of s).out_credit o w < c.downstream
   unfolding free_of out_credit_of output_credits_fit
   credit_room o w q =
       let r = credit_is c part o w q in

@@ -1,14 +1,15 @@
 -- An accepted cycle is within the limits: what its part brings and what the rules choose in it is `Legal`, clause by clause.
 -- Assumes nothing.
-use mathlib.Core.Path.{◌≡◌, sym, subst}
+use Rattle.std.specs.Prelude.{Ok}
+use mathlib.Core.Path.{◌≡◌, refl, sym, subst}
 use mathlib.Core.List.{List}
-use mathlib.Core.Option.{Option, IsSome}
+use Rattle.std.specs.Prelude.{Option}
+use Rattle.std.specs.Prelude.{IsSome}
 use Prim.Native.Nat.{ℕ}
 use Rattle.model.specs.Router.{OutVc}
 use Rattle.model.specs.Legal.{Legal}
 use Rattle.state.specs.declared.Router.{Router}
 use Rattle.trace.specs.Bytes.{AreBytes}
-use Rattle.rules.specs.declared.Verdict.TheVariants.{Accepted}
 use Rattle.rules.specs.Free.{look, sizes_of, free_of, event_of}
 use Rattle.rules.specs.Step.{step_of}
 use Rattle.history.proofs.Choice.{choice_of}
@@ -16,7 +17,7 @@ use Rattle.history.proofs.LegalOffers.{offer_is, offer_vc-law, offer_destination
 use Rattle.history.proofs.LegalGrants.{binds_unbound-law, binds_front-law, binds_free-law, binds_vc-law, binds_once-law}
 use Rattle.history.proofs.LegalLeaves.{leaves_bound-law, leaves_flit-law, leaves_credit-law, leaves_input_once, leaves_output_once}
 
-pub legal_step : (s : Router) (part : List ℕ) → AreBytes part → (step_of s part).verdict ≡ Accepted
+pub legal_step : (s : Router) (part : List ℕ) → AreBytes part → (step_of s part).verdict ≡ Ok tt
     → Legal look (sizes_of s.config) (free_of s) (event_of s.config part) (choice_of s part)
 legal_step s part bytes accepted =
     record {
@@ -31,7 +32,7 @@ legal_step s part bytes accepted =
       binds_free = binds_free-law s part bytes accepted;
       binds_vc = binds_vc-law s part bytes accepted;
       binds_once = binds_once-law s part bytes accepted;
-      leaves_bound = λ i v q. subst (λ (b : Option OutVc). IsSome b) (sym (leaves_bound-law s part bytes accepted i v q)) tt;
+      leaves_bound = λ i v q. subst (λ (b : Option OutVc). IsSome b) (sym (leaves_bound-law s part bytes accepted i v q)) refl;
       leaves_flit = leaves_flit-law s part bytes accepted;
       leaves_credit = λ i v b q. leaves_credit-law s part bytes accepted i v q b;
       input_once = leaves_input_once s part bytes accepted;

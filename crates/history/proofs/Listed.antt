@@ -1,6 +1,7 @@
 -- The history of a run and its list are one: as many flits left in the history as the list has F lines of the accepted cycles, and it has
 -- as many entries as the router counts cycles, which are 10^9 at most. Of any configuration and any parts, each a list of bytes.
 -- Assumes nothing.
+use Rattle.std.specs.Prelude.{Ok, Err}
 use mathlib.Core.Path.{◌≡◌, refl, sym, ap, subst, ◌∙◌}
 use mathlib.Core.List.{List, [], ◌∷◌}
 use Prim.Native.Nat.{ℕ, suc, ◌+◌, ◌≤◌, zero-le}
@@ -16,8 +17,7 @@ use Rattle.model.specs.Lists.{All}
 use Rattle.state.specs.Fresh.{fresh_router}
 use Rattle.state.proofs.Legal.{sound_cycle}
 use Rattle.trace.specs.Bytes.{AreBytes}
-use Rattle.rules.specs.declared.Verdict.{Verdict}
-use Rattle.rules.specs.declared.Verdict.TheVariants.{Accepted, Refused}
+use Rattle.base.specs.Refusal.{Verdict}
 use Rattle.rules.specs.Step.{step_of}
 use Rattle.rules.proofs.ChosenStep.{config_stays, cycle_steps}
 use Rattle.rules.proofs.StepSound.{accepted_after}
@@ -32,7 +32,7 @@ record Counts (c : Config) (r : Ran) : Type 0 where
   limit : length r.history ≤ cycle_limit
 
 module _ (c : Config) (r : Ran) (part : List ℕ) (bytes : AreBytes part) (counts : Counts c r) where
-  accepted_counts : (step_of r.router part).verdict ≡ Accepted → Counts c (recorded c part r Accepted (step_of r.router part))
+  accepted_counts : (step_of r.router part).verdict ≡ Ok tt → Counts c (recorded c part r (Ok tt) (step_of r.router part))
   accepted_counts e =
       let count = cycle_steps r.router part bytes e ∙ ap suc counts.count in
       record {
@@ -42,8 +42,8 @@ module _ (c : Config) (r : Ran) (part : List ℕ) (bytes : AreBytes part) (count
       }
 
   -- the entry of an accepted cycle has one departure for each of its F lines
-  accepted_departed : (step_of r.router part).verdict ≡ Accepted
-      → departed (recorded c part r Accepted (step_of r.router part)).history
+  accepted_departed : (step_of r.router part).verdict ≡ Ok tt
+      → departed (recorded c part r (Ok tt) (step_of r.router part)).history
       ≡ departed r.history + flit_lines (cycle_lines r.router.cycle (step_of r.router part).reply)
   accepted_departed e =
       let now = entry_of c (length r.history) part (step_of r.router part).reply in
@@ -64,16 +64,16 @@ from_departed c r (part ∷ parts) bytes counts =
         → ((q : Ran) → Counts c q → departed (run_from c q parts).history ≡ departed q.history + flit_lines (lines_from q.router parts))
         → departed (run_from c (recorded c part r v (step_of r.router part)) parts).history
         ≡ departed r.history + flit_lines (lines_then v (step_of r.router part) r.router (λ t. lines_from t parts))
-    go Accepted e more =
+    go (Ok _) e more =
         let x = step_of r.router part in
         omega (
           arith,
-          more (recorded c part r Accepted x) (accepted_counts c r part bytes.0 counts e),
+          more (recorded c part r (Ok tt) x) (accepted_counts c r part bytes.0 counts e),
           accepted_departed c r part
               bytes.0 counts e,
           flit_lines_append (cycle_lines r.router.cycle x.reply) (lines_from x.router parts),
         )
-    go (Refused n) e more = more r counts
+    go (Err n) e more = more r counts
 
 from_counts : (c : Config) (r : Ran) (parts : List (List ℕ)) → All AreBytes parts → Counts c r → Counts c (run_from c r parts)
 unfolding run_from
@@ -81,8 +81,8 @@ from_counts c r [] bytes counts = counts
 from_counts c r (part ∷ parts) bytes counts = from_counts c (cycled c r part) parts bytes.1 (go (step_of r.router part).verdict refl)
   where
     go : (v : Verdict) → (step_of r.router part).verdict ≡ v → Counts c (recorded c part r v (step_of r.router part))
-    go Accepted e = accepted_counts c r part bytes.0 counts e
-    go (Refused n) e = counts
+    go (Ok _) e = accepted_counts c r part bytes.0 counts e
+    go (Err n) e = counts
 
 module _ (c : Config) (parts : List (List ℕ)) (bytes : All AreBytes parts) where
   abbrev fresh : Ran

@@ -1,10 +1,12 @@
 -- The reply of an accepted cycle is within the writer's ranges: its lines are never refused with 12, they have at most 376 bytes, and F
 -- lines at most as many as ports. Only that the cycle is accepted is asked: then the router was sound, and the run not full.
 -- Assumes nothing.
+use Rattle.std.specs.Prelude.{Ok}
 use mathlib.Core.Path.{◌≡◌, refl, sym, ap, ap₂, subst, ◌∙◌}
 use mathlib.Core.Bool.{Bool, true, false, ◌&&◌}
 use mathlib.Core.List.{List, [], ◌∷◌, ◌++◌}
-use mathlib.Core.Option.{Option, some, none, none-ne-some}
+use Rattle.std.specs.Prelude.{Option, Some, None}
+use Rattle.std.proofs.lemmas.Option.{none-some}
 use Prim.Native.Nat.{ℕ, zero, suc, ◌+◌, ◌^◌, ◌≤◌, ◌<◌, zero-le}
 use native.Mathlib.Omega.{arith}
 use lib.Dec.{leb, ltb}
@@ -13,12 +15,7 @@ use borrow.Author.Tests.{leb-true, ltb-true, ltb-false}
 use Rattle.base.specs.declared.config.Config.{Config}
 use Rattle.base.specs.declared.flit.Flit.{Flit}
 use Rattle.base.specs.declared.reply.Departure.{Departure}
-use Rattle.base.specs.declared.reply.Left.{Left}
-use Rattle.base.specs.declared.reply.Left.TheVariants as left
-use Rattle.base.specs.declared.reply.Reached.{Reached}
-use Rattle.base.specs.declared.reply.Reached.TheVariants as reached
 use Rattle.base.specs.declared.reply.Reply.{Reply}
-use Rattle.base.specs.declared.reply.Sender.{Sender}
 use Rattle.base.specs.Flit.{kind_of, head, single}
 use Rattle.base.specs.Numbers.{room}
 use Rattle.base.specs.Sizes.{cycle_limit}
@@ -35,16 +32,13 @@ use Rattle.state.specs.Sound.{Sound, legal_flit}
 use Rattle.state.specs.Views.{home_place}
 use Rattle.trace.specs.Bytes.{AreBytes}
 use Rattle.rules.specs.declared.Stepped.{Stepped}
-use Rattle.rules.specs.declared.Verdict.TheVariants.{Accepted}
 use Rattle.rules.specs.Allocation.{allocated}
-use Rattle.rules.specs.Intake.{reaching, reported, credits_reached, credits_returned, landed, offers_taken}
-use Rattle.rules.specs.Ports.{named}
+use Rattle.rules.specs.Intake.{reported, credits_reached, credits_returned, landed, offers_taken}
 use Rattle.rules.specs.Step.{taken_in, reply_of, step_of}
 use Rattle.rules.proofs.Accepted.{none_early, readied, accepted_none, accepted_before, accepted_steps, readied_sound}
 use Rattle.rules.proofs.Departed.{LeavesBy, reported_exits}
 use Rattle.rules.proofs.Exits.{exit_is}
 use Rattle.rules.proofs.Facts.{sound_legal, home_at}
-use Rattle.rules.proofs.Left.{no_output}
 use Rattle.rules.proofs.LeftNames.{exit_named}
 use Rattle.rules.proofs.Named.{named_there}
 use Rattle.rules.proofs.Reported.{reported_at, reported_past}
@@ -75,11 +69,6 @@ module _ (f : ℕ → List Line) where
   ports_print (suc n) each =
       printable_append (by_port f n) (f n) ∙ ap₂ ◌&&◌ (ports_print n (λ i h. each i (omega arith))) (each n (omega arith))
 
--- what is reported as reached was named
-reaching_named : (m : Option ℕ) (v : ℕ) → (reaching m).reached ≡ reached.Vc v → m ≡ some v
-reaching_named none v e = let z : ◌≡◌ {A = ℕ} 0 1 = cc in absurd (omega arith)
-reaching_named (some u) v e = let q : u ≡ v = cc in ap some q
-
 -- the kind of a legal flit
 legal_kind : (c : Config) (f : Flit) → legal_flit c f ≡ true → (1 ≤ kind_of f) × (kind_of f ≤ 4)
 unfolding legal_flit
@@ -89,7 +78,7 @@ legal_kind c f e =
     let r = both (leb head (kind_of f)) (leb (kind_of f) single) q.0 in
     (leb-true head (kind_of f) r.0, leb-true (kind_of f) single r.1)
 
-module _ (s : Router) (part : List ℕ) (bytes : AreBytes part) (accepted : (step_of s part).verdict ≡ Accepted) where
+module _ (s : Router) (part : List ℕ) (bytes : AreBytes part) (accepted : (step_of s part).verdict ≡ Ok tt) where
   abbrev c : Config
   c = s.config
 
@@ -110,23 +99,20 @@ module _ (s : Router) (part : List ℕ) (bytes : AreBytes part) (accepted : (ste
   early = none_early s part (accepted_none s part bytes accepted)
 
   -- a credit is reported at a port that there is, for a VC that there is
-  reached_there : (i v : ℕ) → i < 8 → (get_or reply.senders i (reaching none)).reached ≡ reached.Vc v → v < c.vcs
+  reached_there : (i v : ℕ) → i < 8 → (get_or reply.senders i None) ≡ Some v → v < c.vcs
   unfolding reply_of
   reached_there i v h e = go (ltb i c.ports) refl
     where
-      said : (get_or (reported c s.home) i (reaching none)).reached ≡ reached.Vc v
-      said = ap (λ (x : Stepped). (get_or x.reply.senders i (reaching none)).reached) (sym (accepted_steps s part bytes accepted)) ∙ e
+      said : (get_or (reported c s.home) i None) ≡ Some v
+      said = ap (λ (x : Stepped). (get_or x.reply.senders i None)) (sym (accepted_steps s part bytes accepted)) ∙ e
 
       go : (b : Bool) → ltb i c.ports ≡ b → v < c.vcs
       go true t =
           let port = ltb-true i c.ports t in
           named_there (home_place s.home 0 i) c.vcs v (home_at s before 0 i legal.back.0 port)
-          (reaching_named (named (home_place s.home 0 i)) v
-          (ap (λ (x : Sender). x.reached) (sym (reported_at c s.home i port legal.ports.1)) ∙ said))
+          (sym (reported_at c s.home i port legal.ports.1) ∙ said)
       go false t =
-          let none_named = reaching_named none v
-          (ap (λ (x : Sender). x.reached) (sym (reported_past c s.home i (ltb-false i c.ports t) h)) ∙ said) in
-          absurd (none-ne-some v none_named)
+          absurd (none-some v (sym (reported_past c s.home i (ltb-false i c.ports t) h) ∙ said))
 
   -- a flit is reported at an output that there is
   pub left_there : (o : ℕ) (d : Departure) → LeavesBy reply o d → o < c.ports
@@ -158,22 +144,22 @@ module _ (s : Router) (part : List ℕ) (bytes : AreBytes part) (accepted : (ste
 
   credit_lines_print : (i : ℕ) → i < 8 → printable (credit_line s.cycle reply i) ≡ true
   unfolding printable
-  credit_lines_print i h = go (get_or reply.senders i (reaching none)).reached refl
+  credit_lines_print i h = go (get_or reply.senders i None) refl
     where
-      go : (r : Reached) → (get_or reply.senders i (reaching none)).reached ≡ r → printable (credit_line s.cycle reply i) ≡ true
-      go reached.Nothing e = ap printable (no_credit s.cycle reply i e)
-      go (reached.Vc v) e =
+      go : (r : Option ℕ) → (get_or reply.senders i None) ≡ r → printable (credit_line s.cycle reply i) ≡ true
+      go None e = ap printable (no_credit s.cycle reply i e)
+      go (Some v) e =
           let there = reached_there i v h e in
           let vcs = legal.vcs.1 in
           ap printable (one_credit s.cycle reply i v e) ∙ credit_prints s.cycle i v early h (omega arith)
 
   flit_lines_print : (o : ℕ) → o < 8 → printable (flit_line s.cycle reply o) ≡ true
   unfolding printable
-  flit_lines_print o h = go (get_or reply.outputs o no_output).left refl
+  flit_lines_print o h = go (get_or reply.outputs o None) refl
     where
-      go : (r : Left) → (get_or reply.outputs o no_output).left ≡ r → printable (flit_line s.cycle reply o) ≡ true
-      go left.Nothing e = ap printable (no_flit s.cycle reply o e)
-      go (left.Flit d) e = ap printable (one_flit s.cycle reply o d e) ∙ flit_prints s.cycle o d (left_in o d e)
+      go : (r : Option Departure) → (get_or reply.outputs o None) ≡ r → printable (flit_line s.cycle reply o) ≡ true
+      go None e = ap printable (no_flit s.cycle reply o e)
+      go (Some d) e = ap printable (one_flit s.cycle reply o d e) ∙ flit_prints s.cycle o d (left_in o d e)
 
   -- "Range: kind 1..4; cycle below 10^9 in C and F lines, ..; ports 0..7, VCs 0..3": of every line of an accepted cycle
   pub reply_printable : printable (cycle_lines s.cycle reply) ≡ true
@@ -188,11 +174,11 @@ module _ (s : Router) (part : List ℕ) (bytes : AreBytes part) (accepted : (ste
 
   -- an output that there is not has no F line
   past_none : (o : ℕ) → c.ports ≤ o → flit_lines (flit_line s.cycle reply o) ≡ 0
-  past_none o past = go (get_or reply.outputs o no_output).left refl
+  past_none o past = go (get_or reply.outputs o None) refl
     where
-      go : (r : Left) → (get_or reply.outputs o no_output).left ≡ r → flit_lines (flit_line s.cycle reply o) ≡ 0
-      go left.Nothing e = flit_none s.cycle reply o e
-      go (left.Flit d) e = let there = left_there o d e in absurd (omega (arith, there, past))
+      go : (r : Option Departure) → (get_or reply.outputs o None) ≡ r → flit_lines (flit_line s.cycle reply o) ≡ 0
+      go None e = flit_none s.cycle reply o e
+      go (Some d) e = let there = left_there o d e in absurd (omega (arith, there, past))
 
   flits_few : (n : ℕ) → flit_lines (by_port (flit_line s.cycle reply) n) ≤ c.ports
   unfolding by_port flit_lines

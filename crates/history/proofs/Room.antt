@@ -1,6 +1,7 @@
 -- "A queue can't overflow, so no number exists for it." (01, Numbers given back): of every sound router, whoever hands it in, and in the
 -- middle of every cycle that it accepts. Of a run also Times.queue_fits.
 -- Assumes nothing.
+use Rattle.std.specs.Prelude.{Ok}
 use mathlib.Core.Path.{◌≡◌, ◌∙◌}
 use mathlib.Core.List.{List}
 use Prim.Native.Nat.{ℕ, ◌+◌, ◌≤◌, ◌<◌}
@@ -13,7 +14,6 @@ use Rattle.state.specs.Sound.{Sound}
 use Rattle.state.specs.Views.{channel_number, slot_flit, queue_at}
 use Rattle.store.specs.Store.{first_slot}
 use Rattle.trace.specs.Bytes.{AreBytes}
-use Rattle.rules.specs.declared.Verdict.TheVariants.{Accepted}
 use Rattle.rules.specs.Intake.{credits_reached, credits_returned, landed, offers_taken}
 use Rattle.rules.specs.Step.{taken_in, step_of}
 use Rattle.rules.proofs.Accepted.{taken_sound}
@@ -47,7 +47,7 @@ module _ (s : Router) (sound : Sound s) (i v : ℕ) (port : i < s.config.ports) 
 
 -- In a cycle that is accepted, from any state: after phases 1 to 4, when flits have joined the queues and none has left, D at most are
 -- queued.
-pub landing_fits : (s : Router) (part : List ℕ) → AreBytes part → (step_of s part).verdict ≡ Accepted → (i v : ℕ)
+pub landing_fits : (s : Router) (part : List ℕ) → AreBytes part → (step_of s part).verdict ≡ Ok tt → (i v : ℕ)
     → i < s.config.ports → v < s.config.vcs → length (queue s.config (taken_in part s) i v) ≤ s.config.depth
 unfolding taken_in offers_taken landed credits_returned credits_reached
 landing_fits s part bytes accepted i v port vc =

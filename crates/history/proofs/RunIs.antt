@@ -1,9 +1,10 @@
 -- The run of the router that steps is a run of the free router, and the history that its parts and replies write is alike to that run's:
 -- the free router lists the departures of a cycle input by input, a reply output by output.
 -- Assumes nothing.
+use Rattle.std.specs.Prelude.{Ok, Err}
 use mathlib.Core.Path.{◌≡◌, refl, sym, ap, subst, subst₂, ◌∙◌}
 use mathlib.Core.List.{List, [], ◌∷◌}
-use mathlib.Core.Option.{none}
+use Rattle.std.specs.Prelude.{None}
 use Prim.Native.Nat.{ℕ, suc}
 use lib.ListN.{length}
 use Rattle.base.specs.declared.config.Config.{Config}
@@ -22,8 +23,7 @@ use Rattle.state.specs.Fresh.{fresh_router}
 use Rattle.state.specs.Sound.{Sound}
 use Rattle.state.proofs.FreshIsSound.{fresh_is_sound}
 use Rattle.trace.specs.Bytes.{AreBytes}
-use Rattle.rules.specs.declared.Verdict.{Verdict}
-use Rattle.rules.specs.declared.Verdict.TheVariants.{Accepted, Refused}
+use Rattle.base.specs.Refusal.{Verdict}
 use Rattle.rules.specs.Free.{look, sizes_of, free_of, event_of}
 use Rattle.rules.specs.Step.{step_of}
 use Rattle.rules.proofs.ChosenStep.{config_stays, cycle_steps, step_chosen}
@@ -48,7 +48,7 @@ abbrev entry_by : Router → List ℕ → Entry Flit
 entry_by s part = entry (sizes_of s.config) (free_of s) (event_of s.config part) (choice_of s part)
 
 -- an accepted cycle is a cycle of the free router's run
-run_accepts : (s : Router) (h : History Flit) (part : List ℕ) → AreBytes part → (step_of s part).verdict ≡ Accepted
+run_accepts : (s : Router) (h : History Flit) (part : List ℕ) → AreBytes part → (step_of s part).verdict ≡ Ok tt
     → Run look (sizes_of s.config) (free_of s) h
     → Run look (sizes_of s.config) (free_of (step_of s part).router) (entry_by s part ∷ h)
 run_accepts s h part bytes accepted run =
@@ -57,7 +57,7 @@ run_accepts s h part bytes accepted run =
 
 module _ (c : Config) (r : Ran) (part : List ℕ) (bytes : AreBytes part) (runs : Runs c r) where
   -- an accepted cycle keeps it so
-  pub accepted_runs : (step_of r.router part).verdict ≡ Accepted → Runs c (recorded c part r Accepted (step_of r.router part))
+  pub accepted_runs : (step_of r.router part).verdict ≡ Ok tt → Runs c (recorded c part r (Ok tt) (step_of r.router part))
   accepted_runs e =
       record {
         config = config_stays r.router part bytes e ∙ runs.config;
@@ -81,8 +81,8 @@ module _ (c : Config) (r : Ran) (part : List ℕ) (bytes : AreBytes part) (runs 
   cycle_runs = go (step_of r.router part).verdict refl
     where
       go : (v : Verdict) → (step_of r.router part).verdict ≡ v → Runs c (recorded c part r v (step_of r.router part))
-      go Accepted e = accepted_runs e
-      go (Refused n) e = runs
+      go (Ok _) e = accepted_runs e
+      go (Err n) e = runs
 
 from_runs : (c : Config) (r : Ran) (parts : List (List ℕ)) → All AreBytes parts → Runs c r → Runs c (run_from c r parts)
 unfolding run_from
@@ -90,10 +90,10 @@ from_runs c r [] bytes runs = runs
 from_runs c r (part ∷ parts) bytes runs = from_runs c (cycled c r part) parts bytes.1 (cycle_runs c r part bytes.0 runs)
 
 -- "Forward delay F 1..8, credit delay B 1..8": no delay is zero
-pub legal_delayed : (c : Config) → illegal_field c ≡ none → Delayed (sizes_of c)
+pub legal_delayed : (c : Config) → illegal_field c ≡ None → Delayed (sizes_of c)
 legal_delayed c legal = let l = (legal_exact c).0 legal in record { on_the_way = l.forward.0; on_the_way_home = l.back.0 }
 
-module _ (c : Config) (legal : illegal_field c ≡ none) (parts : List (List ℕ)) (bytes : All AreBytes parts) where
+module _ (c : Config) (legal : illegal_field c ≡ None) (parts : List (List ℕ)) (bytes : All AreBytes parts) where
   pub run_runs : Runs c (run_of c parts)
   unfolding run_of fresh_router
   run_runs =

@@ -4,7 +4,7 @@
 use mathlib.Core.Path.{◌≡◌, sym, ap, ap₂, subst, subst₂, ◌∙◌}
 use mathlib.Core.Bool.{Bool, cond}
 use mathlib.Core.List.{List, [], ◌∷◌, ◌++◌, map}
-use mathlib.Core.Option.{none}
+use Rattle.std.specs.Prelude.{None}
 use Prim.Native.Nat.{ℕ, suc, ◌+◌, ◌≤◌, ◌<◌}
 use native.Mathlib.Omega.{arith}
 use lib.ListN.{length}
@@ -37,7 +37,7 @@ use Rattle.history.specs.Demand3.{queue}
 use Rattle.history.specs.Run.{run_of}
 use Rattle.history.proofs.RunIs.{legal_delayed, run_runs, run_is}
 
-module _ (c : Config) (legal : illegal_field c ≡ none) (parts : List (List ℕ)) (bytes : All AreBytes parts) where
+module _ (c : Config) (legal : illegal_field c ≡ None) (parts : List (List ℕ)) (bytes : All AreBytes parts) where
   -- the free router's history and run, and the run's own history, which is alike
   abbrev by_input : History Flit
   by_input = (run_is c legal parts bytes).0

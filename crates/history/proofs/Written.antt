@@ -4,7 +4,7 @@
 use mathlib.Core.Path.{◌≡◌, refl, sym, ap, ap₂, ◌∙◌}
 use mathlib.Core.Bool.{Bool, true, false, cond, not, xor, ◌&&◌, false≢true}
 use mathlib.Core.List.{List, ◌∷◌, ◌++◌}
-use mathlib.Core.Option.{some, none}
+use Rattle.std.specs.Prelude.{Some, None}
 use Prim.Native.Nat.{ℕ, ◌+◌, ◌*◌, ◌/◌, ◌%◌, ◌^◌, ◌<◌}
 use native.Mathlib.Omega.{arith}
 use lib.Dec.{eqb, leb, ltb}
@@ -41,10 +41,10 @@ front_for f queue wire to inside starts e = go (eqb (destination_of f) to.output
     go true r = eqb-true (destination_of f) to.output r
     go false r =
         absurd (false≢true (sym (ap₂ (λ (x y : Bool).
-        ends_as inside (cond (xor (not (x && y)) x) (reading (not (ends_kind (kind_of f))) (queue ++ wire)) none)) starts r)
+        ends_as inside (cond (xor (not (x && y)) x) (reading (not (ends_kind (kind_of f))) (queue ++ wire)) None)) starts r)
         ∙ e))
 
-module _ (s : Router) (sound : Sound s) (o : ℕ) (e : Exit) (below : o < s.config.ports) (acts : exit s o ≡ some e) where
+module _ (s : Router) (sound : Sound s) (o : ℕ) (e : Exit) (below : o < s.config.ports) (acts : exit s o ≡ Some e) where
   abbrev c : Config
   c = s.config
 

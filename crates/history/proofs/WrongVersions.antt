@@ -1,21 +1,21 @@
 -- What each edit under must-fail makes of its definition, kept alone under a wrong name, and by value a run or cycle where the two differ.
 -- Assumes nothing.
+use Rattle.std.specs.Prelude.{Ok, Err}
 use mathlib.Core.Path.{◌≡◌, refl}
 use mathlib.Core.Bool.{cond, xor}
 use mathlib.Core.List.{List, [], ◌∷◌, map}
-use mathlib.Core.Option.{Option, some, none}
+use Rattle.std.specs.Prelude.{Option, Some, None}
 use Prim.Native.Nat.{ℕ, suc, ◌+◌}
 use native.Mathlib.Omega.{arith}
 use lib.ListN.{length, get_or, set, replicate}
 use borrow.Author.Tests.{eqb-false}
 use Rattle.base.specs.declared.config.Config.{Config}
 use Rattle.base.specs.declared.flit.Flit.{Flit}
-use Rattle.base.specs.declared.reply.Left.TheVariants as left
 use Rattle.base.specs.declared.reply.Departure as reply
 use Rattle.base.specs.declared.reply.Reply.{Reply}
 use Rattle.base.specs.Flit as kinds
 use Rattle.base.specs.Flit.{flit_of, kind_of, destination_of, payload_of, starts_kind, ends_kind}
-use Rattle.base.specs.Reply.{departure_of, empty_reply}
+use Rattle.base.specs.Reply.{empty_reply}
 use Rattle.base.specs.Search.{first_from, every, or_else}
 use Rattle.base.specs.Sizes.{sized, in_range, first_illegal, illegal_field}
 use Rattle.arbiter.specs.RoundRobin.{next_in_turn, pointer_after}
@@ -32,14 +32,13 @@ use Rattle.state.specs.Views.{queue_at, places, wire_of, home_of, flat, total}
 use Rattle.store.specs.Store.{front_of, pushed, moved_up, popped}
 use Rattle.trace.specs.Bytes.{AreBytes, big_endian}
 use Rattle.trace.proofs.Sealed.{known_bytes}
-use Rattle.rules.specs.declared.Verdict.{Verdict}
-use Rattle.rules.specs.declared.Verdict.TheVariants.{Accepted, Refused}
+use Rattle.base.specs.Refusal.{Verdict}
 use Rattle.rules.specs.declared.Stepped.{Stepped}
 use Rattle.rules.specs.Ports.{over_ports}
 use Rattle.rules.specs.Rows.{row_zero, no_offer, legal_offer, row_legal}
 use Rattle.rules.specs.Intake.{advanced, senders_paid, reported, credits_reached, outputs_paid, credits_returned, landings, landed, offers}
 use Rattle.rules.specs.Intake.{offers_taken}
-use Rattle.rules.specs.Allocation.{asks, lowest_free_vc, grant_of, bindings, wide_moved, narrow_moved, allocated, is_ready, input_pick, request}
+use Rattle.rules.specs.Allocation.{asks, lowest_free_vc, grant_of, bindings, arbiters_moved, allocated, is_ready, input_pick, request}
 use Rattle.rules.specs.Allocation.{output_pick, switched, winner}
 use Rattle.rules.specs.Departures.{departures, leaving_of}
 use Rattle.rules.specs.Numbers.{run_full, part_wrong, row_wrong, credit_past_room, out_of_turn, no_sender_credit, first_of, judged}
@@ -74,13 +73,13 @@ module _ (c : Config) (s : Router) (h : History Flit) (t i v : ℕ) where
 
 -- of a departure
 abbrev wrong_body_has_a_destination : ℕ → Option reply.Departure → List (Departure Flit)
-wrong_body_has_a_destination o none = []
-wrong_body_has_a_destination o (some d) =
+wrong_body_has_a_destination o None = []
+wrong_body_has_a_destination o (Some d) =
     record { output = o; out_vc = d.out_vc; input = d.input; vc = d.vc; flit = flit_of d.kind o d.payload } ∷ []
 
 abbrev wrong_input_vc_for_output_vc : ℕ → Option reply.Departure → List (Departure Flit)
-wrong_input_vc_for_output_vc o none = []
-wrong_input_vc_for_output_vc o (some d) =
+wrong_input_vc_for_output_vc o None = []
+wrong_input_vc_for_output_vc o (Some d) =
     record {
       output = o;
       out_vc = d.vc;
@@ -91,24 +90,24 @@ wrong_input_vc_for_output_vc o (some d) =
 
 abbrev wrong_departures_of_the_last_outputs_lost : Config → Reply → List (Departure Flit)
 wrong_departures_of_the_last_outputs_lost c r =
-    each c.vcs (λ o. departure_in o (departure_of (get_or r.outputs o (record { left = left.Nothing })).left))
+    each c.vcs (λ o. departure_in o (get_or r.outputs o None))
 
 -- of a cycle of a run
 abbrev wrong_cycles_numbered_from_one : Config → List ℕ → Ran → Verdict → Stepped → Ran
-wrong_cycles_numbered_from_one c part r Accepted x = record
+wrong_cycles_numbered_from_one c part r (Ok _) x = record
     { router = x.router; history = entry_of c (suc (length r.history)) part x.reply ∷ r.history }
-wrong_cycles_numbered_from_one c part r (Refused n) x = r
+wrong_cycles_numbered_from_one c part r (Err n) x = r
 
 abbrev wrong_refused_cycle_leaves_a_trace : Config → List ℕ → Ran → Verdict → Stepped → Ran
-wrong_refused_cycle_leaves_a_trace c part r Accepted x = record
+wrong_refused_cycle_leaves_a_trace c part r (Ok _) x = record
     { router = x.router; history = entry_of c (length r.history) part x.reply ∷ r.history }
-wrong_refused_cycle_leaves_a_trace c part r (Refused n) x = record
+wrong_refused_cycle_leaves_a_trace c part r (Err n) x = record
     { router = x.router; history = entry_of c (length r.history) part x.reply ∷ r.history }
 
 abbrev wrong_run_only_counts : Config → List ℕ → Ran → Verdict → Stepped → Ran
-wrong_run_only_counts c part r Accepted x = record
+wrong_run_only_counts c part r (Ok _) x = record
     { router = r.router; history = entry_of c (length r.history) part x.reply ∷ r.history }
-wrong_run_only_counts c part r (Refused n) x = r
+wrong_run_only_counts c part r (Err n) x = r
 
 -- BY VALUE: P = 3, V = 2, D = 2, E = 2, F = B = 1. VC 1 of input 0 offers H for output 2, then B, then T.
 abbrev c : Config
@@ -139,7 +138,7 @@ abbrev departing : reply.Departure
 departing = record { out_vc = 0; input = 0; vc = 1; kind = kinds.body; payload = 8 }
 
 abbrev reporting : Reply
-reporting = record { senders = empty_reply.senders; outputs = set empty_reply.outputs 2 (record { left = left.Flit departing }) }
+reporting = record { senders = empty_reply.senders; outputs = set empty_reply.outputs 2 (Some departing) }
 
 -- what is asked of the first departure
 abbrev of_first : (Departure Flit → ℕ) → List (Departure Flit) → ℕ
@@ -163,10 +162,10 @@ pub record WrongVersions : Type 0 where
   pub credit_serves_when_the_flit_leaves : Said ServesWhenTheFlitLeaves → ⊥
   pub credit_counted_twice_on_its_way_home : (Said CountedTwiceOnItsWay → ⊥) × (Said CountedTwiceInTheDepth → ⊥)
   -- the destination of the body, and its output VC
-  pub body_has_a_destination : Differ (of_first (λ (d : Departure Flit). destination_of d.flit) (departure_in 2 (some departing)))
-      (of_first (λ (d : Departure Flit). destination_of d.flit) (wrong_body_has_a_destination 2 (some departing))) 0 2
-  pub input_vc_for_output_vc : Differ (of_first (λ (d : Departure Flit). d.out_vc) (departure_in 2 (some departing)))
-      (of_first (λ (d : Departure Flit). d.out_vc) (wrong_input_vc_for_output_vc 2 (some departing))) 0 1
+  pub body_has_a_destination : Differ (of_first (λ (d : Departure Flit). destination_of d.flit) (departure_in 2 (Some departing)))
+      (of_first (λ (d : Departure Flit). destination_of d.flit) (wrong_body_has_a_destination 2 (Some departing))) 0 2
+  pub input_vc_for_output_vc : Differ (of_first (λ (d : Departure Flit). d.out_vc) (departure_in 2 (Some departing)))
+      (of_first (λ (d : Departure Flit). d.out_vc) (wrong_input_vc_for_output_vc 2 (Some departing))) 0 1
   -- how many departures the reply has
   pub departures_of_the_last_outputs_lost : Differ (length (departures_in c reporting)) (length (wrong_departures_of_the_last_outputs_lost c reporting))
       1 0
@@ -185,8 +184,8 @@ unfolding fresh_router xor first_from every or_else in_range first_illegal illeg
     queue_at places wire_of home_of flat total is_none all configuration_legal cycles_fit credits_whole credits_add_up legal_flit wire_place_legal
     wire_legal home_legal queues_legal output_credits_fit names_agree arbiters_sound reading reads packets_read channels_unused slots_empty line_unused
     arbiters_unused shaped sound front_of pushed moved_up popped big_endian over_ports row_zero no_offer legal_offer row_legal advanced senders_paid
-    reported credits_reached outputs_paid credits_returned landings landed offers offers_taken asks lowest_free_vc grant_of bindings wide_moved
-    narrow_moved allocated is_ready input_pick request output_pick switched winner departures leaving_of run_full part_wrong row_wrong
+    reported credits_reached outputs_paid credits_returned landings landed offers offers_taken asks lowest_free_vc grant_of bindings arbiters_moved
+    allocated is_ready input_pick request output_pick switched winner departures leaving_of run_full part_wrong row_wrong
     credit_past_room out_of_turn no_sender_credit first_of judged taken_in sent_out router_after reply_of step_of entry_of run_from run_of
 wrong_versions =
     record {

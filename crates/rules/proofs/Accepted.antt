@@ -1,5 +1,6 @@
 -- An accepted cycle: the router was sound before it, the run was not full, and phases 5 to 7 start from a sound router too.
 -- Assumes nothing.
+use Rattle.std.specs.Prelude.{Ok}
 use mathlib.Core.Path.{◌≡◌, sym, ap, ◌∙◌}
 use mathlib.Core.List.{List}
 use Prim.Native.Nat.{ℕ, ◌-◌, ◌<◌}
@@ -12,8 +13,7 @@ use Rattle.state.specs.Sound as soundness
 use Rattle.state.specs.Views.{home_place}
 use Rattle.state.proofs.Exact.{passed_sound}
 use Rattle.trace.specs.Bytes.{AreBytes}
-use Rattle.rules.specs.declared.Verdict.{Verdict}
-use Rattle.rules.specs.declared.Verdict.TheVariants.{Accepted}
+use Rattle.base.specs.Refusal.{Verdict}
 use Rattle.rules.specs.Allocation.{allocated}
 use Rattle.rules.specs.Intake.{credits_reached, credits_returned, landed, offers_taken}
 use Rattle.rules.specs.Numbers.{rules_of, run_full}
@@ -22,14 +22,14 @@ use Rattle.rules.proofs.Advance.{advanced_newest}
 use Rattle.rules.proofs.AllocatedSound.{allocated_sound}
 use Rattle.rules.proofs.Exactness.{verdict_judged, accepted_exactly}
 use Rattle.rules.proofs.Facts.{sound_legal, sound_lengths}
-use Rattle.rules.proofs.FirstRule.{None, also}
+use Rattle.rules.proofs.FirstRule.{NoneHolds, also}
 use Rattle.rules.proofs.IntakeSound.{taken_in_sound}
 
 -- where no rule refuses, the router is sound and the run is not full
-none_sound : (s : Router) (part : List ℕ) → None (rules_of s part) → Sound s
+none_sound : (s : Router) (part : List ℕ) → NoneHolds (rules_of s part) → Sound s
 none_sound s part (also two rest) = passed_sound s (not-false (soundness.sound s) (two 0 (omega arith)))
 
-pub none_early : (s : Router) (part : List ℕ) → None (rules_of s part) → s.cycle < cycle_limit
+pub none_early : (s : Router) (part : List ℕ) → NoneHolds (rules_of s part) → s.cycle < cycle_limit
 unfolding run_full
 none_early s part (also two (also ten rest)) = leb-false cycle_limit s.cycle (ten 0 (omega arith))
 
@@ -37,15 +37,15 @@ none_early s part (also two (also ten rest)) = leb-false cycle_limit s.cycle (te
 abbrev pub readied : List ℕ → Router → Router
 readied part s = allocated (taken_in part s)
 
-module _ (s : Router) (part : List ℕ) (bytes : AreBytes part) (accepted : (step_of s part).verdict ≡ Accepted) where
-  pub accepted_none : None (rules_of s part)
+module _ (s : Router) (part : List ℕ) (bytes : AreBytes part) (accepted : (step_of s part).verdict ≡ Ok tt) where
+  pub accepted_none : NoneHolds (rules_of s part)
   accepted_none = (accepted_exactly s part).0 accepted
 
   pub accepted_before : Sound s
   accepted_before = none_sound s part accepted_none
 
   -- an accepted cycle is the seven phases
-  pub accepted_steps : step_of s part ≡ step_by Accepted part s
+  pub accepted_steps : step_of s part ≡ step_by (Ok tt) part s
   unfolding step_of
   accepted_steps = ap (λ (v : Verdict). step_by v part s) (sym (verdict_judged s part) ∙ accepted)
 

@@ -4,7 +4,8 @@ use mathlib.Core.Path.{◌≡◌, refl, sym, ap, ◌∙◌}
 use mathlib.Core.Logic.{◌≢◌, ◌⊎◌, inl, inr}
 use mathlib.Core.Bool.{Bool, true, false, cond}
 use mathlib.Core.List.{List}
-use mathlib.Core.Option.{Option, some, none, some-injective, none-ne-some}
+use Rattle.std.specs.Prelude.{Option, Some, None}
+use Rattle.std.proofs.lemmas.Option.{same_Some, none-some}
 use Prim.Native.Nat.{ℕ, zero, suc, ◌<◌}
 use native.Mathlib.Nat.{le_refl}
 use native.Mathlib.Omega.{arith}
@@ -20,19 +21,19 @@ pub record Actor {E : Type 0} (act : ℕ → Option E) (place : ℕ → E → �
   pub port : ℕ
   pub deed : E
   pub below : port < n
-  pub acts : act port ≡ some deed
+  pub acts : act port ≡ Some deed
   pub there : place port deed ≡ y
 
 -- no port acts on place y
 abbrev pub Untouched : {E : Type 0} → (ℕ → Option E) → (ℕ → E → ℕ) → ℕ → ℕ → Type 0
-Untouched {E} act place n y = (i : ℕ) (e : E) → i < n → act i ≡ some e → place i e ≢ y
+Untouched {E} act place n y = (i : ℕ) (e : E) → i < n → act i ≡ Some e → place i e ≢ y
 
 -- some port acts on a place, or none does
 pub touched_or_not : {E : Type 0} (act : ℕ → Option E) (place : ℕ → E → ℕ) (n y : ℕ) → Actor act place n y ⊎ Untouched act place n y
 touched_or_not act place zero y = inr (λ i e l. absurd (omega arith))
 touched_or_not {E} act place (suc n) y = go (act n) refl (touched_or_not act place n y)
   where
-    more : ((e : E) → act n ≡ some e → place n e ≢ y) → Untouched act place n y → Untouched act place (suc n) y
+    more : ((e : E) → act n ≡ Some e → place n e ≢ y) → Untouched act place n y → Untouched act place (suc n) y
     more here below i e l q = last (eqb i n) refl
       where
         last : (b : Bool) → eqb i n ≡ b → place i e ≢ y
@@ -45,30 +46,30 @@ touched_or_not {E} act place (suc n) y = go (act n) refl (touched_or_not act pla
         → Actor act place (suc n) y ⊎ Untouched act place (suc n) y
     go o q (inl a) =
         inl (record { port = a.port; deed = a.deed; below = let l = a.below in omega arith; acts = a.acts; there = a.there })
-    go none q (inr off) = inr (more (λ e r. absurd (none-ne-some e (sym q ∙ r))) off)
-    go (some e) q (inr off) = here (eqb (place n e) y) refl
+    go None q (inr off) = inr (more (λ e r. absurd (none-some e (sym q ∙ r))) off)
+    go (Some e) q (inr off) = here (eqb (place n e) y) refl
       where
         here : (b : Bool) → eqb (place n e) y ≡ b → Actor act place (suc n) y ⊎ Untouched act place (suc n) y
         here true r = inl (record { port = n; deed = e; below = le_refl (suc n); acts = q; there = eqb-true (place n e) y r })
         here false r =
-            inr (more (λ d p f. eqb-false (place n e) y r (ap (place n) (some-injective e d (sym q ∙ p)) ∙ f)) off)
+            inr (more (λ d p f. eqb-false (place n e) y r (ap (place n) (same_Some e d (sym q ∙ p)) ∙ f)) off)
 
 -- a list after an act, if there is one
 abbrev pub acted : {A E : Type 0} → A → (E → ℕ) → (E → A → A) → Option E → List A → List A
-acted d place change none xs = xs
-acted d place change (some e) xs = set xs (place e) (change e (get_or xs (place e) d))
+acted d place change None xs = xs
+acted d place change (Some e) xs = set xs (place e) (change e (get_or xs (place e) d))
 
 module _ {A E : Type 0} (d : A) (act : ℕ → Option E) (place : ℕ → E → ℕ) (change : ℕ → E → A → A) where
   abbrev pub deeds : List A → ℕ → List A
   deeds xs i = acted d (place i) (change i) (act i) xs
 
   abbrev placed : ℕ → Option E → Option ℕ
-  placed i none = none
-  placed i (some e) = some (place i e)
+  placed i None = None
+  placed i (Some e) = Some (place i e)
 
   abbrev changing : ℕ → Option E → A → A
-  changing i none a = a
-  changing i (some e) a = change i e a
+  changing i None a = a
+  changing i (Some e) a = change i e a
 
   as_turns : (n : ℕ) (xs : List A) → over_ports n deeds xs ≡ over_ports n
       (turns d (λ (i : ℕ). placed i (act i)) (λ (i : ℕ). changing i (act i))) xs
@@ -77,12 +78,12 @@ module _ {A E : Type 0} (d : A) (act : ℕ → Option E) (place : ℕ → E → 
     where
       go : (t : List A) (i : ℕ) (o : Option E)
           → acted d (place i) (change i) o t ≡ changed d (changing i o) (placed i o) t
-      go t i none = refl
-      go t i (some e) = refl
+      go t i None = refl
+      go t i (Some e) = refl
 
-  placed_acts : (i y : ℕ) (o : Option E) → placed i o ≡ some y → (e : E) × (o ≡ some e) × (place i e ≡ y)
-  placed_acts i y none q = absurd (none-ne-some y q)
-  placed_acts i y (some e) q = (e, refl, some-injective (place i e) y q)
+  placed_acts : (i y : ℕ) (o : Option E) → placed i o ≡ Some y → (e : E) × (o ≡ Some e) × (place i e ≡ y)
+  placed_acts i y None q = absurd (none-some y q)
+  placed_acts i y (Some e) q = (e, refl, same_Some (place i e) y q)
 
   -- the list keeps its length
   pub deeds_length : (n : ℕ) (xs : List A) → length (over_ports n deeds xs) ≡ length xs
@@ -96,8 +97,8 @@ module _ {A E : Type 0} (d : A) (act : ℕ → Option E) (place : ℕ → E → 
       (λ i l q. let r = placed_acts i y (act i) q in off i r.0 l r.1 r.2)
 
   -- a place that one port alone acts on is changed by its act
-  pub touched_changes : (n : ℕ) (xs : List A) (i : ℕ) (e : E) → i < n → act i ≡ some e → place i e < length xs
-      → ((j : ℕ) (f : E) → j < n → act j ≡ some f → place j f ≡ place i e → j ≡ i)
+  pub touched_changes : (n : ℕ) (xs : List A) (i : ℕ) (e : E) → i < n → act i ≡ Some e → place i e < length xs
+      → ((j : ℕ) (f : E) → j < n → act j ≡ Some f → place j f ≡ place i e → j ≡ i)
       → get_or (over_ports n deeds xs) (place i e) d ≡ change i e (get_or xs (place i e) d)
   touched_changes n xs i e l q m alone =
       ap (λ (l : List A). get_or l (place i e) d) (as_turns n xs)

@@ -1,5 +1,6 @@
 -- Phase 5 and the names: an input VC and the output VC that it is bound to name each other, just now or as before.
 -- Assumes nothing.
+use Rattle.std.specs.Prelude.{Some, None}
 use mathlib.Core.Path.{◌≡◌, refl, sym, ap, ap₂, ◌∙◌}
 use mathlib.Core.Logic.{◌⊎◌, inl, inr}
 use mathlib.Core.Bool.{true}
@@ -11,7 +12,6 @@ use Rattle.base.specs.declared.config.Config.{Config}
 use Rattle.state.specs.declared.InVc.{InVc}
 use Rattle.state.specs.declared.OutVc.{OutVc}
 use Rattle.state.specs.declared.Binding.TheVariants.{Unbound, Bound}
-use Rattle.state.specs.declared.Holder.TheVariants.{Nobody, Held}
 use Rattle.state.specs.declared.InputVc.{InputVc}
 use Rattle.state.specs.declared.OutputVc.{OutputVc}
 use Rattle.state.specs.declared.Router.{Router}
@@ -69,7 +69,7 @@ module _ (s : Router) (sound : Sound s) where
           (channel_number c b.output b.vc) → BoundTo c (allocated s).inputs (allocated s).outputs i v b
       later p (inl a) =
           let n = grant_is s a.port a.deed a.acts in
-          let free : (output_at c s.outputs b.output b.vc).holder ≡ Nobody =
+          let free : (output_at c s.outputs b.output b.vc).holder ≡ None =
           ap (λ (x : ℕ). (get_or s.outputs x (fresh_output 0)).holder) (sym a.there) ∙ n.free in
           absurd (nobody_not (output_at c s.outputs b.output b.vc).holder (record { input = i; vc = v }) free p.2)
       later p (inr off) = (p.0, p.1, ap (λ (y : OutputVc). y.holder) (ungiven_stays s (channel_number c b.output b.vc) off) ∙ p.2)
@@ -84,11 +84,11 @@ module _ (s : Router) (sound : Sound s) where
           made to (a.below, n.vc_below, held a n)
         where
           held : (a : Granting (channel_number c i v)) → Granted s a.port a.deed
-              → (output_at c (allocated s).outputs a.port a.deed.vc).holder ≡ Held (record { input = i; vc = v })
+              → (output_at c (allocated s).outputs a.port a.deed.vc).holder ≡ Some (record { input = i; vc = v })
           held a n =
               ap (λ (y : OutputVc). y.holder) (held_at (channel_number c a.port a.deed.vc)
               (record { port = a.port; deed = a.deed; below = a.below; acts = a.acts; there = refl }))
-              ∙ ap₂ (λ (x y : ℕ). Held (record { input = x; vc = y })) (ap (λ (x : ℕ). x / c.vcs) a.there ∙ digits_div i g)
+              ∙ ap₂ (λ (x y : ℕ). Some (record { input = x; vc = y })) (ap (λ (x : ℕ). x / c.vcs) a.there ∙ digits_div i g)
               (ap (λ (x : ℕ). x % c.vcs) a.there ∙ digits_mod i g)
 
           made : {x y : OutVc} → x ≡ y → BoundTo c (allocated s).inputs (allocated s).outputs i v x
@@ -99,7 +99,7 @@ module _ (s : Router) (sound : Sound s) where
           (given_or_not s (channel_number c b.output b.vc))
 
   -- an output VC that is held: given out just now, or as before
-  still_held : (o w : ℕ) → o < c.ports → w < c.vcs → (b : InVc) → (output_at c (allocated s).outputs o w).holder ≡ Held b
+  still_held : (o w : ℕ) → o < c.ports → w < c.vcs → (b : InVc) → (output_at c (allocated s).outputs o w).holder ≡ Some b
       → HeldBy c (allocated s).inputs (allocated s).outputs o w b
   still_held o w h g b q = go (given_or_not s (channel_number c o w))
     where
@@ -117,7 +117,7 @@ module _ (s : Router) (sound : Sound s) where
           → HeldBy c (allocated s).inputs (allocated s).outputs o w b
       go (inl a) =
           let n = grant_is s a.port a.deed a.acts in
-          let e : Held (record { input = a.deed.requester / c.vcs; vc = a.deed.requester % c.vcs }) ≡ Held b =
+          let e : Some (record { input = a.deed.requester / c.vcs; vc = a.deed.requester % c.vcs }) ≡ Some b =
           sym (ap (λ (y : OutputVc). y.holder) (held_at (channel_number c o w) a)) ∙ q in
           let by : record { input = a.deed.requester / c.vcs; vc = a.deed.requester % c.vcs } ≡ b = cc in
           let some = (sound_legal s sound).vcs.0 in

@@ -22,7 +22,7 @@ use Rattle.state.proofs.Exact.{shape_is}
 use Rattle.rules.specs.Allocation.{grant_of, requester_of, bind_to, held_by, allocated}
 use Rattle.rules.proofs.AllocatedNames.{bound_at, held_at, allocated_names}
 use Rattle.rules.proofs.Acts.{Actor, Untouched}
-use Rattle.rules.proofs.Arbiters.{wide_moved_sound, wide_beyond, arbiters_kept, unused_arbiters_kept}
+use Rattle.rules.proofs.Arbiters.{arbiters_moved_sound, arbiters_beyond, arbiters_kept, unused_arbiters_kept}
 use Rattle.rules.proofs.Bound.{asking, giving, allocated_inputs_length, allocated_outputs_length, ungranted_stays, ungiven_stays}
 use Rattle.rules.proofs.Bound.{beyond_ungranted, beyond_ungiven, granted_or_not, given_or_not}
 use Rattle.rules.proofs.Channels.{channels_ext}
@@ -140,12 +140,12 @@ module _ (s : Router) (sound : Sound s) where
             record {
               arbiters =
                   arbiters_kept c (allocated s).arbiters s.arbiters sound.arbitration.arbiters
-                  (λ o h e. wide_moved_sound c (c.ports * c.vcs) (λ (o : ℕ). requester_of (grant_of s o)) o s.arbiters.vcs h e)
+                  (λ o h e. arbiters_moved_sound 32 c (c.ports * c.vcs) (λ (o : ℕ). requester_of (grant_of s o)) o (omega arith) s.arbiters.vcs h e)
                   (λ i h e. e)
                   (λ o h e. e);
               others =
                   unused_arbiters_kept c (allocated s).arbiters s.arbiters
-                  (λ o h. wide_beyond c (c.ports * c.vcs) (λ (o : ℕ). requester_of (grant_of s o)) o s.arbiters.vcs h) (λ i h. refl)
+                  (λ o h. arbiters_beyond 32 c (c.ports * c.vcs) (λ (o : ℕ). requester_of (grant_of s o)) o s.arbiters.vcs h) (λ i h. refl)
                   (λ o h. refl)
                   ∙ sound.arbitration.others;
             };

@@ -3,7 +3,7 @@
 use mathlib.Core.Path.{◌≡◌, refl, ap, ◌∙◌}
 use mathlib.Core.Logic.{◌⊎◌}
 use mathlib.Core.List.{List}
-use mathlib.Core.Option.{Option, some, none}
+use Rattle.std.specs.Prelude.{Option, Some, None}
 use Prim.Native.Nat.{ℕ, ◌*◌, ◌/◌, ◌%◌, ◌≤◌, ◌<◌}
 use native.Mathlib.Omega.{arith}
 use lib.ListN.{length, get_or}
@@ -45,8 +45,8 @@ module _ (s : Router) where
     where
       go : (m : Vcs) (o : ℕ) (q : Option Grant) → (bound_by s.config o q m).inputs
           ≡ acted (fresh_input 0) (asking o) (bind o) q m.inputs
-      go m o none = refl
-      go m o (some g) = refl
+      go m o None = refl
+      go m o (Some g) = refl
 
   outputs_fold : (allocated s).outputs ≡ over_ports s.config.ports (deeds (fresh_output 0) (grant_of s) giving hold) s.outputs
   unfolding allocated bindings
@@ -56,8 +56,8 @@ module _ (s : Router) where
     where
       go : (m : Vcs) (o : ℕ) (q : Option Grant) → (bound_by s.config o q m).outputs
           ≡ acted (fresh_output 0) (giving o) (hold o) q m.outputs
-      go m o none = refl
-      go m o (some g) = refl
+      go m o None = refl
+      go m o (Some g) = refl
 
   -- the lists keep their lengths
   pub allocated_inputs_length : length (allocated s).inputs ≡ length s.inputs
@@ -67,7 +67,7 @@ module _ (s : Router) where
   allocated_outputs_length = ap length outputs_fold ∙ deeds_length (fresh_output 0) (grant_of s) giving hold s.config.ports s.outputs
 
   -- the requester that output o grants is bound to o and the VC given out
-  pub granted_bound : (o : ℕ) (g : Grant) → o < s.config.ports → grant_of s o ≡ some g → g.requester < length s.inputs
+  pub granted_bound : (o : ℕ) (g : Grant) → o < s.config.ports → grant_of s o ≡ Some g → g.requester < length s.inputs
       → get_or (allocated s).inputs g.requester (fresh_input 0) ≡ bind_to o g.vc (get_or s.inputs g.requester (fresh_input 0))
   granted_bound o g l e m =
       ap (λ (xs : List InputVc). get_or xs g.requester (fresh_input 0)) inputs_fold
@@ -82,7 +82,7 @@ module _ (s : Router) where
       ∙ untouched_stays (fresh_input 0) (grant_of s) asking bind s.config.ports s.inputs x off
 
   -- the output VC that is given out is held by the requester that gets it
-  pub given_held : (o : ℕ) (g : Grant) → o < s.config.ports → grant_of s o ≡ some g
+  pub given_held : (o : ℕ) (g : Grant) → o < s.config.ports → grant_of s o ≡ Some g
       → channel_number s.config o g.vc < length s.outputs
       → output_at s.config (allocated s).outputs o g.vc
       ≡ held_by (g.requester / s.config.vcs) (g.requester % s.config.vcs) (output_at s.config s.outputs o g.vc)

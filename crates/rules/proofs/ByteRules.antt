@@ -22,7 +22,8 @@ use Rattle.rules.specs.Rows.{row_byte, kind_at, vc_at, destination_at, credit_at
 use Rattle.rules.specs.Rows.{row_legal}
 use Rattle.rules.specs.ByteRules.{BreaksRow, beyond_p, no_such_kind, idle_vc, idle_destination, idle_payload, vc_too_large}
 use Rattle.rules.specs.ByteRules.{destination_too_large, destination_inside, credit_too_large}
-use Rattle.rules.specs.Numbers.{refusing, row_wrong, rule3}
+use Rattle.base.specs.Refusal.{refusing}
+use Rattle.rules.specs.Numbers.{row_wrong, rule3}
 use Rattle.rules.specs.Step.{step_of}
 use Rattle.rules.proofs.FirstRule.{FirstAt}
 use Rattle.rules.proofs.Exactness.{NoneBefore, row_exactly}

@@ -1,9 +1,11 @@
 -- Phase 5 in both views: who asks, which VCs are free, and who is bound to which, of the free router and of the router after phase 4.
 -- Assumes nothing.
+use Rattle.std.specs.Prelude.{Ok}
+use Rattle.state.specs.declared.InVc.{InVc}
 use mathlib.Core.Path.{◌≡◌, refl, sym, ap, ap₂, ◌∙◌}
 use mathlib.Core.Bool.{Bool, true, false, not, ◌&&◌}
 use mathlib.Core.List.{List}
-use mathlib.Core.Option.{Option, some, none}
+use Rattle.std.specs.Prelude.{Option, Some, None}
 use Prim.Native.Nat.{ℕ, ◌*◌, ◌/◌, ◌%◌, ◌<◌}
 use native.Mathlib.Nat.{mod-lt, div-add-mod', div-lt_iff_lt-mul}
 use native.Mathlib.Omega.{arith}
@@ -13,22 +15,19 @@ use Rattle.base.specs.declared.config.Config.{Config}
 use Rattle.base.specs.declared.flit.Flit.{Flit}
 use Rattle.base.specs.Search.{every}
 use Rattle.base.proofs.Search.{both, first_ext, not_every, all_every}
-use Rattle.arbiter.specs.Arbiter.{of_wide, choice}
+use Rattle.arbiter.specs.Arbiter.{choice}
 use Rattle.arbiter.proofs.ByKind.{choice_same}
 use Rattle.model.specs.Cycle.{Event}
 use Rattle.model.specs.Router as free
 use Rattle.state.specs.declared.Arbiters.{Arbiters}
 use Rattle.state.specs.declared.Binding.{Binding}
 use Rattle.state.specs.declared.Binding.TheVariants.{Unbound, Bound}
-use Rattle.state.specs.declared.Holder.{Holder}
-use Rattle.state.specs.declared.Holder.TheVariants.{Nobody, Held}
 use Rattle.state.specs.declared.Router.{Router}
 use Rattle.state.specs.Channels.{bound_to}
 use Rattle.state.specs.Sound as sound
 use Rattle.state.specs.Sound.{binding_is, front_is_for}
 use Rattle.state.specs.Views.{channel_number, input_at, output_at, queue_of, vc_arbiter}
 use Rattle.trace.specs.Bytes.{AreBytes}
-use Rattle.rules.specs.declared.Verdict.TheVariants.{Accepted}
 use Rattle.rules.specs.Allocation.{asks, lowest_free_vc, granted, grant_of, requester_of}
 use Rattle.rules.specs.Chosen as chosen
 use Rattle.rules.specs.Chosen.{is_bound_to, asks_at, is_vc_free, least_free, if_free, binds_at}
@@ -49,7 +48,7 @@ bound_alike : (o w : ℕ) (b : Binding) → is_bound_to o w (name_of (bound_to b
 bound_alike o w Unbound = refl
 bound_alike o w (Bound b) = refl
 
-module _ (s : Router) (part : List ℕ) (bytes : AreBytes part) (accepted : (step_of s part).verdict ≡ Accepted) where
+module _ (s : Router) (part : List ℕ) (bytes : AreBytes part) (accepted : (step_of s part).verdict ≡ Ok tt) where
   abbrev c : Config
   c = s.config
 
@@ -99,7 +98,7 @@ module _ (s : Router) (part : List ℕ) (bytes : AreBytes part) (accepted : (ste
           ap (λ (b : Option free.OutVc). not (is_bound_to o w b)) (bound_came s part bytes accepted i v h g)
           ∙ ap not (bound_alike o w (input_at c came.inputs i v).binding)
 
-      apart : (output_at c came.outputs o w).holder ≡ Nobody → (i v : ℕ) → i < c.ports → v < c.vcs → (b : Binding)
+      apart : (output_at c came.outputs o w).holder ≡ None → (i v : ℕ) → i < c.ports → v < c.vcs → (b : Binding)
           → (input_at c came.inputs i v).binding ≡ b → not (binding_is o w b) ≡ true
       apart q i v h g Unbound r = refl
       apart q i v h g (Bound b) r = at (binding_is o w (Bound b)) refl
@@ -114,12 +113,12 @@ module _ (s : Router) (part : List ℕ) (bytes : AreBytes part) (accepted : (ste
               (sym (eqb-true b.vc w p.1))
               ∙ named.2))
 
-      go : (h : Holder) → (output_at c came.outputs o w).holder ≡ h
+      go : (h : Option InVc) → (output_at c came.outputs o w).holder ≡ h
           → every c.ports (λ (i : ℕ). every c.vcs (λ (v : ℕ). not (is_bound_to o w (f.bound i v)))) ≡ sound.is_vc_free h
-      go Nobody q =
+      go None q =
           all_every c.ports _ (λ i h.
           all_every c.vcs _ (λ v g. told i v h g ∙ apart q i v h g (input_at c came.inputs i v).binding refl))
-      go (Held h) q =
+      go (Some h) q =
           let named = agree.held o w port vc h q in
           not_every c.ports _ h.input named.0 (not_every c.vcs _ h.vc named.1
           (told h.input h.vc named.0 named.1
@@ -134,7 +133,7 @@ module _ (s : Router) (part : List ℕ) (bytes : AreBytes part) (accepted : (ste
       (λ w h g. free_alike o w port (omega arith))
 
   abbrev chosen_at : ℕ → Option ℕ
-  chosen_at o = choice 32 c.arbiter (c.ports * c.vcs) (asks came.inputs came.store o) (of_wide (vc_arbiter a o))
+  chosen_at o = choice 32 c.arbiter (c.ports * c.vcs) (asks came.inputs came.store o) (vc_arbiter a o)
 
   grant_parts : (o : ℕ) → grant_of came o ≡ granted (lowest_free_vc c came.outputs o) (chosen_at o)
   unfolding grant_of taken_in offers_taken landed credits_returned credits_reached
@@ -145,10 +144,10 @@ module _ (s : Router) (part : List ℕ) (bytes : AreBytes part) (accepted : (ste
   unfolding binds_at
   binds_alike o port =
       ap₂ (if_free c a f e) (least_alike o port)
-      (choice_same 32 c.arbiter (c.ports * c.vcs) _ (asks came.inputs came.store o) (of_wide (vc_arbiter a o)) (requester_asks o))
+      (choice_same 32 c.arbiter (c.ports * c.vcs) _ (asks came.inputs came.store o) (vc_arbiter a o) (requester_asks o))
       ∙ go (lowest_free_vc c came.outputs o) (chosen_at o) ∙ ap requester_of (sym (grant_parts o))
     where
       go : (w x : Option ℕ) → if_free c a f e w x ≡ requester_of (granted w x)
-      go none x = refl
-      go (some w) none = refl
-      go (some w) (some x) = refl
+      go None x = refl
+      go (Some w) None = refl
+      go (Some w) (Some x) = refl

@@ -1,10 +1,12 @@
 -- What leaves by an output VC, in both views: at most one flit, from the one input VC that is bound to it.
 -- Assumes nothing.
+use Rattle.std.specs.Prelude.{Ok}
 use mathlib.Core.Path.{◌≡◌, refl, sym, ap, ap₂, ◌∙◌}
 use mathlib.Core.Logic.{◌⊎◌, inl, inr}
 use mathlib.Core.Bool.{Bool, true, false, false≢true}
 use mathlib.Core.List.{List, [], ◌∷◌}
-use mathlib.Core.Option.{Option, some, some-injective, none-ne-some}
+use Rattle.std.specs.Prelude.{Option, Some}
+use Rattle.std.proofs.lemmas.Option.{same_Some, none-some}
 use Prim.Native.Nat.{ℕ, ◌<◌}
 use lib.ListN.{length}
 use borrow.Author.Tests.{ltb-true}
@@ -23,13 +25,11 @@ use Rattle.state.specs.declared.OutVc.{OutVc}
 use Rattle.state.specs.declared.Arbiters.{Arbiters}
 use Rattle.state.specs.declared.Binding.{Binding}
 use Rattle.state.specs.declared.Binding.TheVariants.{Unbound, Bound}
-use Rattle.state.specs.declared.Holder.TheVariants.{Held}
 use Rattle.state.specs.declared.InputVc.{InputVc}
 use Rattle.state.specs.declared.Router.{Router}
 use Rattle.state.specs.Channels.{bound_to, is_there}
 use Rattle.state.specs.Views.{channel_number, input_at, output_at, queue_of}
 use Rattle.trace.specs.Bytes.{AreBytes}
-use Rattle.rules.specs.declared.Verdict.TheVariants.{Accepted}
 use Rattle.rules.specs.Allocation.{allocated, winner}
 use Rattle.rules.specs.Chosen.{bound_now, leaves, chosen}
 use Rattle.rules.specs.Free.{sizes_of, name_of, free_of, event_of}
@@ -49,19 +49,20 @@ use Rattle.rules.proofs.LeavingViews.{one}
 use Rattle.rules.proofs.LeftPackets.{exit_front}
 
 -- a binding that is named so
-named_is : (b : Binding) (o w : ℕ) → name_of (bound_to b) ≡ some (record { output = o; vc = w }) → b ≡ Bound (record { output = o; vc = w })
-named_is Unbound o w q = absurd (none-ne-some _ q)
+named_is : (b : Binding) (o w : ℕ) → name_of (bound_to b) ≡ Some (record { output = o; vc = w }) → b ≡ Bound (record { output = o; vc = w })
+named_is Unbound o w q = absurd (none-some _ q)
 named_is (Bound b) o w q =
-    let r = some-injective _ _ q in
+    let r = same_Some _ _ q in
     ap₂ (λ (o w : ℕ). Bound (record { output = o; vc = w })) (ap (λ (t : free.OutVc). t.output) r) (ap (λ (t : free.OutVc). t.vc) r)
 
 -- two holders that are one
-held_one : (i v j u : ℕ) → Held (record { input = i; vc = v }) ≡ Held (record { input = j; vc = u }) → (i ≡ j) × (v ≡ u)
+held_one : (i v j u : ℕ) → ◌≡◌ {A = Option InVc} (Some (record { input = i; vc = v })) (Some (record { input = j; vc = u }))
+    → (i ≡ j) × (v ≡ u)
 held_one i v j u q =
     let r : ◌≡◌ {A = InVc} (record { input = i; vc = v }) (record { input = j; vc = u }) = cc in
     (ap (λ (h : InVc). h.input) r, ap (λ (h : InVc). h.vc) r)
 
-module _ (s : Router) (part : List ℕ) (bytes : AreBytes part) (accepted : (step_of s part).verdict ≡ Accepted) where
+module _ (s : Router) (part : List ℕ) (bytes : AreBytes part) (accepted : (step_of s part).verdict ≡ Ok tt) where
   abbrev c : Config
   c = s.config
 
@@ -89,14 +90,14 @@ module _ (s : Router) (part : List ℕ) (bytes : AreBytes part) (accepted : (ste
   inside i v q = let g = leaves_goes s part bytes accepted i v q in (g.port, g.vc)
 
   -- who is bound there is, and is the holder
-  bound_holds : (i v o w : ℕ) → bound_now c a f e i v ≡ some (record { output = o; vc = w })
+  bound_holds : (i v o w : ℕ) → bound_now c a f e i v ≡ Some (record { output = o; vc = w })
       → (i < c.ports) × (v < c.vcs) × (o < c.ports) × (w < c.vcs)
-      × ((output_at c mid.outputs o w).holder ≡ Held (record { input = i; vc = v }))
+      × ((output_at c mid.outputs o w).holder ≡ Some (record { input = i; vc = v }))
   bound_holds i v o w q = go (is_there c i v) refl
     where
       go : (b : Bool) → is_there c i v ≡ b → (i < c.ports) × (v < c.vcs) × (o < c.ports) × (w < c.vcs)
-          × ((output_at c mid.outputs o w).holder ≡ Held (record { input = i; vc = v }))
-      go false r = absurd (none-ne-some _ (sym (bound_beyond s part bytes accepted i v r) ∙ q))
+          × ((output_at c mid.outputs o w).holder ≡ Some (record { input = i; vc = v }))
+      go false r = absurd (none-some _ (sym (bound_beyond s part bytes accepted i v r) ∙ q))
       go true r =
           let p = both _ _ r in
           let port = ltb-true i c.ports p.0 in
@@ -114,7 +115,7 @@ module _ (s : Router) (part : List ℕ) (bytes : AreBytes part) (accepted : (ste
       (sym (inputs_alike came (taken_sound s part bytes accepted) (λ (y : InputVc). y.queued) (λ o w y. refl) (channel_number c i v)))
 
   -- one flit leaves by the VC that an exit is by
-  exit_counts : (o : ℕ) (d : Exit) → o < c.ports → exit mid o ≡ some d → length (departures_on o d.by now) ≡ 1
+  exit_counts : (o : ℕ) (d : Exit) → o < c.ports → exit mid o ≡ Some d → length (departures_on o d.by now) ≡ 1
   unfolding chosen bound_now allocated taken_in offers_taken landed credits_returned credits_reached
   exit_counts o d port q =
       let x = exit_is mid o d q in
@@ -122,7 +123,7 @@ module _ (s : Router) (part : List ℕ) (bytes : AreBytes part) (accepted : (ste
       let v = d.vc in
       let h = x.wins.input_below in
       let g = x.wins.vc_below in
-      let to : bound_now c a f e i v ≡ some (record { output = o; vc = d.by }) =
+      let to : bound_now c a f e i v ≡ Some (record { output = o; vc = d.by }) =
       bound_alike s part bytes accepted i v h g ∙ ap (λ (b : Binding). name_of (bound_to b)) x.bound in
       let goes = goes_leaves s part bytes accepted i v o d.by h g x.bound x.won in
       let front = queue_now-law i v h g ∙ exit_front mid (readied_sound s part bytes accepted) i v h g
@@ -130,11 +131,11 @@ module _ (s : Router) (part : List ℕ) (bytes : AreBytes part) (accepted : (ste
       ap length (entry_on (sizes_of c) f e (chosen c a f e) inside i v (record { output = o; vc = d.by }) to
       (λ j u r. let k = bound_holds j u o d.by r in held_one j u i v (sym k.4 ∙ (bound_holds i v o d.by to).4)))
       ∙ ap₂ (λ (l : Bool) (b : Option free.OutVc). length (leaving i v l b (queue_now (f.channel i v)))) goes to
-      ∙ ap (λ (l : List Flit). length (leaving i v true (some (record { output = o; vc = d.by })) l)) front
+      ∙ ap (λ (l : List Flit). length (leaving i v true (Some (record { output = o; vc = d.by })) l)) front
 
   -- an input VC that leaves, bound so, is an exit by that VC
   leaves_by : (i v o w : ℕ) → leaves c a f e i v ≡ true → (input_at c mid.inputs i v).binding ≡ Bound (record { output = o; vc = w })
-      → (x : Exit) × (exit mid o ≡ some x) × (x.by ≡ w)
+      → (x : Exit) × (exit mid o ≡ Some x) × (x.by ≡ w)
   unfolding allocated taken_in offers_taken landed credits_returned credits_reached
   leaves_by i v o w q bound =
       let g = leaves_goes s part bytes accepted i v q in
@@ -152,14 +153,14 @@ module _ (s : Router) (part : List ℕ) (bytes : AreBytes part) (accepted : (ste
 
   -- whatever leaves by an output VC is an exit by it
   left_exits : (o w : ℕ) (d : Departure Flit) (ds : List (Departure Flit)) → departures_on o w now ≡ d ∷ ds
-      → (o < c.ports) × (w < c.vcs) × (x : Exit) × (exit mid o ≡ some x) × (x.by ≡ w)
+      → (o < c.ports) × (w < c.vcs) × (x : Exit) × (exit mid o ≡ Some x) × (x.by ≡ w)
   unfolding chosen bound_now
   left_exits o w d ds q =
       let r = entry_source (sizes_of c) f e (chosen c a f e) (record { output = o; vc = w }) d ds q in
       from r.0 r.1 r.2 r.3
     where
-      from : (i v : ℕ) → leaves c a f e i v ≡ true → bound_now c a f e i v ≡ some (record { output = o; vc = w })
-          → (o < c.ports) × (w < c.vcs) × (x : Exit) × (exit mid o ≡ some x) × (x.by ≡ w)
+      from : (i v : ℕ) → leaves c a f e i v ≡ true → bound_now c a f e i v ≡ Some (record { output = o; vc = w })
+          → (o < c.ports) × (w < c.vcs) × (x : Exit) × (exit mid o ≡ Some x) × (x.by ≡ w)
       from i v l b =
           let k = bound_holds i v o w b in
           let x = leaves_by i v o w l

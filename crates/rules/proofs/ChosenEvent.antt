@@ -1,9 +1,10 @@
 -- What a cycle brings, in both views; and a channel that there is not, which brings nothing and stays as on a fresh router.
 -- Assumes nothing.
+use Rattle.std.specs.Prelude.{Ok}
 use mathlib.Core.Path.{◌≡◌, refl, sym, ap, ◌∙◌}
 use mathlib.Core.Bool.{Bool, true, false, cond, ◌&&◌, false≢true}
 use mathlib.Core.List.{List, [], ◌∷◌}
-use mathlib.Core.Option.{some, none}
+use Rattle.std.specs.Prelude.{Some, None}
 use Prim.Native.Nat.{ℕ, zero, suc, ◌+◌, ◌-◌, ◌≤◌, ◌<◌}
 use native.Mathlib.Numerals.{add-one}
 use native.Mathlib.Omega.{arith}
@@ -18,7 +19,6 @@ use Rattle.model.specs.Phases.{credit_for, on_vc}
 use Rattle.state.specs.declared.Router.{Router}
 use Rattle.state.specs.Channels.{fresh_view, is_there}
 use Rattle.trace.specs.Bytes.{AreBytes}
-use Rattle.rules.specs.declared.Verdict.TheVariants.{Accepted}
 use Rattle.rules.specs.Free.{channel_of, event_of}
 use Rattle.rules.specs.Ports.{named}
 use Rattle.rules.specs.Rows.{credit_at, brings, vc_at, flit_at}
@@ -55,16 +55,16 @@ fresh_stays c f b =
 pub offered_alike : (c : Config) (part : List ℕ) (i v : ℕ) → i < c.ports → phases.offered (event_of c part) i v ≡ offered part i v
 unfolding event_of
 offered_alike c part i v port =
-    ap (λ (b : Bool). on_vc v (cond (b && brings part i) (some (record { vc = vc_at part i; flit = flit_at part i })) none))
+    ap (λ (b : Bool). on_vc v (cond (b && brings part i) (Some (record { vc = vc_at part i; flit = flit_at part i })) None))
     (lt-ltb i c.ports port)
     ∙ go (brings part i)
   where
-    go : (b : Bool) → on_vc v (cond b (some (record { vc = vc_at part i; flit = flit_at part i })) none)
+    go : (b : Bool) → on_vc v (cond b (Some (record { vc = vc_at part i; flit = flit_at part i })) None)
         ≡ cond (b && eqb (vc_at part i) v) (flit_at part i ∷ []) []
     go true = refl
     go false = refl
 
-module _ (s : Router) (part : List ℕ) (bytes : AreBytes part) (accepted : (step_of s part).verdict ≡ Accepted) where
+module _ (s : Router) (part : List ℕ) (bytes : AreBytes part) (accepted : (step_of s part).verdict ≡ Ok tt) where
   abbrev c : Config
   c = s.config
 
@@ -74,7 +74,7 @@ module _ (s : Router) (part : List ℕ) (bytes : AreBytes part) (accepted : (ste
   offered_beyond i v out = go (ltb i c.ports) refl (brings part i) refl
     where
       go : (b : Bool) → ltb i c.ports ≡ b → (d : Bool) → brings part i ≡ d
-          → on_vc v (cond (b && d) (some (record { vc = vc_at part i; flit = flit_at part i })) none) ≡ []
+          → on_vc v (cond (b && d) (Some (record { vc = vc_at part i; flit = flit_at part i })) None) ≡ []
       go false p d q = refl
       go true p false q = refl
       go true p true q =
@@ -88,7 +88,7 @@ module _ (s : Router) (part : List ℕ) (bytes : AreBytes part) (accepted : (ste
   unfolding event_of
   credit_beyond o w out = go (ltb o c.ports) refl
     where
-      go : (b : Bool) → ltb o c.ports ≡ b → credit_for w (cond b (named (credit_at part o)) none) ≡ 0
+      go : (b : Bool) → ltb o c.ports ≡ b → credit_for w (cond b (named (credit_at part o)) None) ≡ 0
       go false p = refl
       go true p =
           let port = ltb-true o c.ports p in

@@ -1,10 +1,11 @@
 -- Phase 5 from an input VC: the output VC that it is granted, in both views.
 -- Assumes nothing.
+use Rattle.std.specs.Prelude.{Ok}
 use mathlib.Core.Path.{◌≡◌, refl, sym, ap, ap₂, ◌∙◌}
 use mathlib.Core.Logic.{◌⊎◌, inl, inr}
 use mathlib.Core.Bool.{Bool, true, false, cond, ◌&&◌, false≢true}
 use mathlib.Core.List.{List, [], ◌∷◌}
-use mathlib.Core.Option.{Option, some, none}
+use Rattle.std.specs.Prelude.{Option, Some, None}
 use Prim.Native.Nat.{ℕ, ◌^◌, ◌<◌}
 use native.Mathlib.Omega.{arith}
 use lib.Dec.{eqb, leb, ltb}
@@ -26,7 +27,6 @@ use Rattle.state.specs.Sound.{all, legal_flit, queues_legal, front_is_for}
 use Rattle.store.specs.Store.{first_slot}
 use Rattle.state.specs.Views.{channel_number, input_at, output_at, queue_at, queue_of}
 use Rattle.trace.specs.Bytes.{AreBytes}
-use Rattle.rules.specs.declared.Verdict.TheVariants.{Accepted}
 use Rattle.rules.specs.Allocation.{Grant, lowest_free_vc, grant_of, requester_of}
 use Rattle.rules.specs.Chosen.{names, least_free, binds_at, to_vc, grant_by, grant}
 use Rattle.rules.specs.Free.{name_of, free_of, event_of}
@@ -54,7 +54,7 @@ destination_there c x pos e =
     go true t = ltb-true (destination_of x) c.ports t
     go false t = let z = eqb-true (destination_of x) 0 t in omega arith
 
-module _ (s : Router) (part : List ℕ) (bytes : AreBytes part) (accepted : (step_of s part).verdict ≡ Accepted) where
+module _ (s : Router) (part : List ℕ) (bytes : AreBytes part) (accepted : (step_of s part).verdict ≡ Ok tt) where
   abbrev c : Config
   c = s.config
 
@@ -71,7 +71,7 @@ module _ (s : Router) (part : List ℕ) (bytes : AreBytes part) (accepted : (ste
   e = event_of c part
 
   -- what an output grants is its lowest-numbered free VC
-  given_least : (o : ℕ) (g : Grant) → grant_of came o ≡ some g → lowest_free_vc c came.outputs o ≡ some g.vc
+  given_least : (o : ℕ) (g : Grant) → grant_of came o ≡ Some g → lowest_free_vc c came.outputs o ≡ Some g.vc
   unfolding lowest_free_vc taken_in offers_taken landed credits_returned credits_reached
   given_least o g q =
       let r = grant_is came o g q in
@@ -103,28 +103,28 @@ module _ (s : Router) (part : List ℕ) (bytes : AreBytes part) (accepted : (ste
         destination_there c y (omega arith) (both (legal_flit c y) (all (legal_flit c) q) (sym (ap (all (legal_flit c)) r) ∙ legal)).0
 
     -- an output grants it the VC
-    granted_at : (o : ℕ) (g : Grant) → o < c.ports → grant_of came o ≡ some g → g.requester ≡ x → (q : List Flit) → front_is_for o q ≡ true
-        → grant_by c a f e i v q ≡ some (record { output = o; vc = g.vc })
+    granted_at : (o : ℕ) (g : Grant) → o < c.ports → grant_of came o ≡ Some g → g.requester ≡ x → (q : List Flit) → front_is_for o q ≡ true
+        → grant_by c a f e i v q ≡ Some (record { output = o; vc = g.vc })
     granted_at o g h r there [] front = absurd (false≢true front)
     granted_at o g h r there (y ∷ q) front =
         let to : destination_of y ≡ o = eqb-true (destination_of y) o (both (starts_kind (kind_of y)) (eqb (destination_of y) o) front).1 in
-        ap (λ (o : ℕ). cond (names x (binds_at c a f e o)) (to_vc c a f e o (least_free c a f e o)) none) to
-        ∙ ap₂ (λ (b w : Option ℕ). cond (names x b) (to_vc c a f e o w) none) (binds_alike s part bytes accepted o h ∙ ap requester_of r)
+        ap (λ (o : ℕ). cond (names x (binds_at c a f e o)) (to_vc c a f e o (least_free c a f e o)) None) to
+        ∙ ap₂ (λ (b w : Option ℕ). cond (names x b) (to_vc c a f e o w) None) (binds_alike s part bytes accepted o h ∙ ap requester_of r)
         (least_alike s part bytes accepted o h ∙ given_least o g r)
-        ∙ ap (λ (b : Bool). cond b (some (record { output = o; vc = g.vc })) none) (eq-eqb g.requester x there)
+        ∙ ap (λ (b : Bool). cond b (Some (record { output = o; vc = g.vc })) None) (eq-eqb g.requester x there)
 
     -- no output grants it one
-    ungranted_at : Untouched (grant_of came) (asking came) c.ports x → (q : List Flit) → queue ≡ q → grant_by c a f e i v q ≡ none
+    ungranted_at : Untouched (grant_of came) (asking came) c.ports x → (q : List Flit) → queue ≡ q → grant_by c a f e i v q ≡ None
     ungranted_at off [] r = refl
     ungranted_at off (y ∷ q) r =
-        ap (λ (b : Option ℕ). cond (names x b) (to_vc c a f e (destination_of y) (least_free c a f e (destination_of y))) none)
+        ap (λ (b : Option ℕ). cond (names x b) (to_vc c a f e (destination_of y) (least_free c a f e (destination_of y))) None)
         (binds_alike s part bytes accepted (destination_of y) (front_there y q r))
-        ∙ ap (λ (b : Bool). cond b (to_vc c a f e (destination_of y) (least_free c a f e (destination_of y))) none)
+        ∙ ap (λ (b : Bool). cond b (to_vc c a f e (destination_of y) (least_free c a f e (destination_of y))) None)
         (go (grant_of came (destination_of y)) refl)
       where
         go : (m : Option Grant) → grant_of came (destination_of y) ≡ m → names x (requester_of m) ≡ false
-        go none k = refl
-        go (some g) k = ne_eqb g.requester x (off (destination_of y) g (front_there y q r) k)
+        go None k = refl
+        go (Some g) k = ne_eqb g.requester x (off (destination_of y) g (front_there y q r) k)
 
     by_alike : grant_by c a f e i v queue ≡ name_of (grant_to came x)
     unfolding taken_in offers_taken landed credits_returned credits_reached
@@ -144,11 +144,11 @@ module _ (s : Router) (part : List ℕ) (bytes : AreBytes part) (accepted : (ste
     pub grant_alike : grant c a f e i v ≡ name_of (grant_to came x)
     unfolding grant
     grant_alike =
-        ap₂ (λ (b : Bool) (q : List Flit). cond b (grant_by c a f e i v q) none) (is_there-law c i v port vc)
+        ap₂ (λ (b : Bool) (q : List Flit). cond b (grant_by c a f e i v q) None) (is_there-law c i v port vc)
         (queue_came s part bytes accepted i v port vc)
         ∙ by_alike
 
   -- none is granted to an input VC that there is not
-  pub grant_beyond : (i v : ℕ) → is_there c i v ≡ false → grant c a f e i v ≡ none
+  pub grant_beyond : (i v : ℕ) → is_there c i v ≡ false → grant c a f e i v ≡ None
   unfolding grant
-  grant_beyond i v out = ap (λ (b : Bool). cond b (grant_by c a f e i v (queue_now (f.channel i v))) none) out
+  grant_beyond i v out = ap (λ (b : Bool). cond b (grant_by c a f e i v (queue_now (f.channel i v))) None) out

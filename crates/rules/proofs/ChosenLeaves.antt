@@ -1,10 +1,11 @@
 -- Phases 6 and 7 in both views: whose front flit leaves.
 -- Assumes nothing.
+use Rattle.std.specs.Prelude.{Ok}
 use mathlib.Core.Path.{◌≡◌, refl, sym, ap, ap₂, ◌∙◌}
 use mathlib.Core.Logic.{◌⊎◌, inl, inr}
 use mathlib.Core.Bool.{Bool, true, false, ◌&&◌, false≢true}
 use mathlib.Core.List.{List}
-use mathlib.Core.Option.{Option, some, none}
+use Rattle.std.specs.Prelude.{Option, Some, None}
 use Prim.Native.Nat.{ℕ, ◌<◌}
 use lib.Dec.{ltb}
 use borrow.Author.Tests.{eqb-true, eq-eqb, ltb-true}
@@ -21,7 +22,6 @@ use Rattle.state.specs.declared.Router.{Router}
 use Rattle.state.specs.Channels.{bound_to, is_there}
 use Rattle.state.specs.Views.{channel_number, input_at}
 use Rattle.trace.specs.Bytes.{AreBytes}
-use Rattle.rules.specs.declared.Verdict.TheVariants.{Accepted}
 use Rattle.rules.specs.Allocation.{allocated, input_pick, output_pick, winning, vc_of, winner}
 use Rattle.rules.specs.Chosen.{names, bound_now, input_winner, wins_at, leaves}
 use Rattle.rules.specs.Free.{name_of, free_of, event_of}
@@ -38,11 +38,11 @@ use Rattle.rules.proofs.Left.{from_place}
 use Rattle.rules.proofs.Winners.{winner_picked}
 
 -- an option that names a number is that number
-names_is : (n : ℕ) (o : Option ℕ) → names n o ≡ true → o ≡ some n
-names_is n none q = absurd (false≢true q)
-names_is n (some m) q = ap some (eqb-true m n q)
+names_is : (n : ℕ) (o : Option ℕ) → names n o ≡ true → o ≡ Some n
+names_is n None q = absurd (false≢true q)
+names_is n (Some m) q = ap Some (eqb-true m n q)
 
-module _ (s : Router) (part : List ℕ) (bytes : AreBytes part) (accepted : (step_of s part).verdict ≡ Accepted) where
+module _ (s : Router) (part : List ℕ) (bytes : AreBytes part) (accepted : (step_of s part).verdict ≡ Ok tt) where
   abbrev c : Config
   c = s.config
 
@@ -64,7 +64,7 @@ module _ (s : Router) (part : List ℕ) (bytes : AreBytes part) (accepted : (ste
     pub vc : v < c.vcs
     pub to : OutVc
     pub bound : (input_at c mid.inputs i v).binding ≡ Bound to
-    pub won : winner mid to.output ≡ some (record { input = i; vc = v })
+    pub won : winner mid to.output ≡ Some (record { input = i; vc = v })
 
   -- it leaves exactly then
   pub leaves_goes : (i v : ℕ) → leaves c a f e i v ≡ true → Goes i v
@@ -75,19 +75,19 @@ module _ (s : Router) (part : List ℕ) (bytes : AreBytes part) (accepted : (ste
       let t = both (ltb i c.ports) (ltb v c.vcs) r.0 in
       let port = ltb-true i c.ports t.0 in
       let vc = ltb-true v c.vcs t.1 in
-      let picks : input_pick mid i ≡ some v = sym (input_alike s part bytes accepted i port) ∙ names_is v (input_winner c a f e i) r.1 in
+      let picks : input_pick mid i ≡ Some v = sym (input_alike s part bytes accepted i port) ∙ names_is v (input_winner c a f e i) r.1 in
       go port vc picks (input_at c mid.inputs i v).binding refl
       (sym (ap (wins_at c a f e i) (bound_alike s part bytes accepted i v port vc)) ∙ p.1)
     where
-      go : i < c.ports → v < c.vcs → input_pick mid i ≡ some v → (b : Binding) → (input_at c mid.inputs i v).binding ≡ b
+      go : i < c.ports → v < c.vcs → input_pick mid i ≡ Some v → (b : Binding) → (input_at c mid.inputs i v).binding ≡ b
           → wins_at c a f e i (name_of (bound_to b)) ≡ true → Goes i v
       go port vc picks Unbound b w = absurd (false≢true w)
       go port vc picks (Bound to) b w =
-          let row : output_pick mid to.output ≡ some i = sym (output_alike s part bytes accepted to.output) ∙ names_is i _ w in
+          let row : output_pick mid to.output ≡ Some i = sym (output_alike s part bytes accepted to.output) ∙ names_is i _ w in
           record { port = port; vc = vc; to = to; bound = b; won = ap (vc_of (input_pick mid)) row ∙ ap (winning i) picks }
 
   pub goes_leaves : (i v o w : ℕ) → i < c.ports → v < c.vcs → (input_at c mid.inputs i v).binding ≡ Bound (record { output = o; vc = w })
-      → winner mid o ≡ some (record { input = i; vc = v }) → leaves c a f e i v ≡ true
+      → winner mid o ≡ Some (record { input = i; vc = v }) → leaves c a f e i v ≡ true
   unfolding leaves
   goes_leaves i v o w port vc bound won =
       let p = winner_picked mid o (record { input = i; vc = v }) won in
@@ -119,7 +119,7 @@ module _ (s : Router) (part : List ℕ) (bytes : AreBytes part) (accepted : (ste
           let from = channel_apart c d.deed.input d.deed.vc i v x.wins.vc_below vc d.there in
           goes_leaves i v d.port d.deed.by port vc
           (ap₂ (λ (i v : ℕ). (input_at c mid.inputs i v).binding) (sym from.0) (sym from.1) ∙ x.bound)
-          (x.won ∙ ap₂ (λ (i v : ℕ). some (record { input = i; vc = v })) from.0 from.1)
+          (x.won ∙ ap₂ (λ (i v : ℕ). Some (record { input = i; vc = v })) from.0 from.1)
           ∙ sym (leaves_from-law mid (channel_number c i v) d)
       go (inr off) = stays off (leaves c a f e i v) refl ∙ sym (none_leaves mid (channel_number c i v) off)
 

@@ -1,10 +1,11 @@
 -- THE step in both views: an accepted cycle of the router is a step of the free router of crates/model, with the choice that the
 -- arbiters make.
 -- Assumes nothing.
+use Rattle.std.specs.Prelude.{Ok}
 use mathlib.Core.Path.{◌≡◌, refl, sym, ap, ap₂, ◌∙◌}
 use mathlib.Core.Bool.{Bool, true, false, cond, not, ◌&&◌}
 use mathlib.Core.List.{List, [], ◌∷◌}
-use mathlib.Core.Option.{Option, none}
+use Rattle.std.specs.Prelude.{Option, None}
 use Prim.Native.Nat.{ℕ, suc, ◌+◌, ◌-◌, ◌<◌}
 use native.Mathlib.Numerals.{add-one}
 use native.Mathlib.Omega.{arith}
@@ -28,7 +29,6 @@ use Rattle.state.specs.Channels.{ChannelView, fresh_view, is_there, channel_view
 use Rattle.state.specs.Sound.{Sound}
 use Rattle.state.specs.Views.{channel_number, output_at}
 use Rattle.trace.specs.Bytes.{AreBytes}
-use Rattle.rules.specs.declared.Verdict.TheVariants.{Accepted}
 use Rattle.rules.specs.declared.Stepped.{Stepped}
 use Rattle.rules.specs.Allocation.{allocated}
 use Rattle.rules.specs.Chosen.{bound_now, leaves, chosen}
@@ -57,11 +57,11 @@ ends_alike : (q : List Flit) → ends_packet look q ≡ front_ends q
 ends_alike [] = refl
 ends_alike (x ∷ q) = refl
 
-named_cond : (b : Bool) (o : Option OutVc) → name_of (cond b none o) ≡ cond b none (name_of o)
+named_cond : (b : Bool) (o : Option OutVc) → name_of (cond b None o) ≡ cond b None (name_of o)
 named_cond true o = refl
 named_cond false o = refl
 
-module _ (s : Router) (part : List ℕ) (bytes : AreBytes part) (accepted : (step_of s part).verdict ≡ Accepted) where
+module _ (s : Router) (part : List ℕ) (bytes : AreBytes part) (accepted : (step_of s part).verdict ≡ Ok tt) where
   abbrev c : Config
   c = s.config
 
@@ -190,7 +190,7 @@ module _ (s : Router) (part : List ℕ) (bytes : AreBytes part) (accepted : (ste
         (sym was) in
         ap (λ (y : ChannelView). name_of y.bound) later_there
         ∙ named_cond (leaves_from mid x && front_ends queue) (now_bound (grant_to came x) (channel_view s i v).bound)
-        ∙ ap₂ (λ (d : Bool) (b : Option free.OutVc). cond (leaves_from mid x && d) none b) (sym (ends_alike queue)) bound
+        ∙ ap₂ (λ (d : Bool) (b : Option free.OutVc). cond (leaves_from mid x && d) None b) (sym (ends_alike queue)) bound
         ∙ ap₂ (λ (l : Bool) (y : ChannelView). bound_after look l (queue_now (channel_of y)) (bound_now c a f e i v)) (sym goes) (sym was)
 
     credit_later_there : out_credit_of later i v ≡ out_credit_now f e i v - length (departures_on i v (entry (sizes_of c) f e k))

@@ -1,9 +1,10 @@
 -- The free router before phase 5: its bindings, its queues and its output credits are those of the router after phase 4.
 -- Assumes nothing.
+use Rattle.std.specs.Prelude.{Ok}
 use mathlib.Core.Path.{◌≡◌, refl, sym, ap, ap₂, ◌∙◌}
 use mathlib.Core.Bool.{Bool, true, false, cond, ◌&&◌}
 use mathlib.Core.List.{List, ◌++◌}
-use mathlib.Core.Option.{none}
+use Rattle.std.specs.Prelude.{None}
 use Prim.Native.Nat.{ℕ, zero, suc, ◌+◌, ◌<◌}
 use native.Mathlib.Omega.{arith}
 use lib.Dec.{eqb}
@@ -18,7 +19,6 @@ use Rattle.state.specs.Channels.{ChannelView, bound_to, fresh_view, is_there, ch
 use Rattle.state.specs.Sound.{Sound}
 use Rattle.state.specs.Views.{channel_number, input_at, output_at, queue_of, to_vc}
 use Rattle.trace.specs.Bytes.{AreBytes}
-use Rattle.rules.specs.declared.Verdict.TheVariants.{Accepted}
 use Rattle.rules.specs.Free.{channel_of, name_of, free_of, event_of}
 use Rattle.rules.specs.Ports.{named}
 use Rattle.rules.specs.Rows.{credit_at}
@@ -51,7 +51,7 @@ credit_named w (suc u) = ap one (go (eqb u w) refl)
     go true e = sym (eq-eqb (suc u) (w + 1) (let q = eqb-true u w e in omega arith))
     go false e = sym (ne_eqb (suc u) (w + 1) (λ r. eqb-false u w e (omega arith)))
 
-module _ (s : Router) (part : List ℕ) (bytes : AreBytes part) (accepted : (step_of s part).verdict ≡ Accepted) where
+module _ (s : Router) (part : List ℕ) (bytes : AreBytes part) (accepted : (step_of s part).verdict ≡ Ok tt) where
   abbrev c : Config
   c = s.config
 
@@ -86,7 +86,7 @@ module _ (s : Router) (part : List ℕ) (bytes : AreBytes part) (accepted : (ste
   unfolding free_of out_credit_of event_of
   credit_came o w port vc =
       ap₂ (λ (b d : Bool).
-      cond b (output_at c s.outputs o w).credit c.downstream + credit_for w (cond d (named (credit_at part o)) none))
+      cond b (output_at c s.outputs o w).credit c.downstream + credit_for w (cond d (named (credit_at part o)) None))
       (is_there-law c o w port vc) (lt-ltb o c.ports port)
       ∙ ap (λ (n : ℕ). (output_at c s.outputs o w).credit + n) (credit_named w (credit_at part o))
       ∙ sym (output_credit_after s part before (accepted_none s part bytes accepted) bytes o w port vc)

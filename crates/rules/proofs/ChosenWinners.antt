@@ -1,9 +1,10 @@
 -- Phase 6 in both views: what is bound by now, who is ready, and whom the inputs and the outputs pick.
 -- Assumes nothing.
+use Rattle.std.specs.Prelude.{Ok}
 use mathlib.Core.Path.{◌≡◌, refl, sym, ap, ap₂, ◌∙◌}
 use mathlib.Core.Bool.{Bool, false, not, ◌&&◌}
 use mathlib.Core.List.{List}
-use mathlib.Core.Option.{Option, some, none}
+use Rattle.std.specs.Prelude.{Option, Some, None}
 use Prim.Native.Nat.{ℕ, zero, suc, ◌≤◌, ◌<◌}
 use native.Mathlib.Numerals.{add-one}
 use native.Mathlib.Omega.{arith}
@@ -12,7 +13,6 @@ use lib.ListN.{length}
 use borrow.Author.Tests.{ne_eqb}
 use Rattle.base.specs.declared.config.Config.{Config}
 use Rattle.base.specs.declared.flit.Flit.{Flit}
-use Rattle.arbiter.specs.Arbiter.{of_narrow}
 use Rattle.arbiter.proofs.ByKind.{choice_same}
 use Rattle.model.specs.Cycle.{Event}
 use Rattle.model.specs.Phases.{granted}
@@ -28,7 +28,6 @@ use Rattle.state.specs.Channels.{ChannelView, bound_to, is_there}
 use Rattle.state.specs.Views.{channel_number, input_at, queue_of, input_arbiter, output_arbiter}
 use Rattle.state.proofs.Queues.{queue_in, none_queued, front_is_first}
 use Rattle.trace.specs.Bytes.{AreBytes}
-use Rattle.rules.specs.declared.Verdict.TheVariants.{Accepted}
 use Rattle.rules.specs.Allocation as allocation
 use Rattle.rules.specs.Allocation.{allocated, has_credit, ready, input_pick, picked, request, output_pick}
 use Rattle.rules.specs.Chosen.{is_empty, bound_now, paid, is_ready, input_winner, is_for, asks_for, output_winner}
@@ -49,8 +48,8 @@ use Rattle.rules.proofs.Winners.{pick_ready}
 
 -- a grant counts before what was bound, in both views
 pub named_granted : (g b : Option OutVc) → granted (name_of g) (name_of b) ≡ name_of (now_bound g b)
-named_granted none b = refl
-named_granted (some g) b = refl
+named_granted None b = refl
+named_granted (Some g) b = refl
 
 -- a queue is empty exactly if none is queued
 queue_empty : (store : List ℕ) (x q : ℕ) → x < 32 → length store ≡ 512 → q ≤ 16 → is_empty (queue_in store x q) ≡ eqb q 0
@@ -60,7 +59,7 @@ queue_empty store x (suc q) there whole few =
     ∙ ap is_empty (front_is_first store x there whole q (omega arith))
     ∙ sym (ne_eqb (suc q) 0 (λ z. omega arith))
 
-module _ (s : Router) (part : List ℕ) (bytes : AreBytes part) (accepted : (step_of s part).verdict ≡ Accepted) where
+module _ (s : Router) (part : List ℕ) (bytes : AreBytes part) (accepted : (step_of s part).verdict ≡ Ok tt) where
   abbrev c : Config
   c = s.config
 
@@ -93,7 +92,7 @@ module _ (s : Router) (part : List ℕ) (bytes : AreBytes part) (accepted : (ste
       ∙ ap name_of (sym (bound_now-law came (taken_sound s part bytes accepted) i v port vc))
 
   -- one that there is not is bound to nothing
-  pub bound_beyond : (i v : ℕ) → is_there c i v ≡ false → bound_now c a f e i v ≡ none
+  pub bound_beyond : (i v : ℕ) → is_there c i v ≡ false → bound_now c a f e i v ≡ None
   unfolding bound_now free_of
   bound_beyond i v out =
       ap₂ granted (grant_beyond s part bytes accepted i v out) (ap (λ (y : ChannelView). name_of y.bound) (view_beyond s i v out))
@@ -130,7 +129,7 @@ module _ (s : Router) (part : List ℕ) (bytes : AreBytes part) (accepted : (ste
   pub input_alike : (i : ℕ) → i < c.ports → input_winner c a f e i ≡ input_pick mid i
   unfolding input_winner input_pick allocated taken_in offers_taken landed credits_returned credits_reached
   input_alike i port =
-      choice_same 8 c.arbiter c.vcs (is_ready c a f e i) (ready c mid.inputs mid.outputs i) (of_narrow (input_arbiter a i))
+      choice_same 8 c.arbiter c.vcs (is_ready c a f e i) (ready c mid.inputs mid.outputs i) (input_arbiter a i)
       (λ v vc. ready_alike i v port vc)
 
   for_alike : (o : ℕ) (b : Binding) → is_for c a f e o (name_of (bound_to b)) ≡ allocation.is_for o b
@@ -143,12 +142,12 @@ module _ (s : Router) (part : List ℕ) (bytes : AreBytes part) (accepted : (ste
   asks_alike o i port = ap (asks_for c a f e o i) (input_alike i port) ∙ go (input_pick mid i) refl
     where
       go : (m : Option ℕ) → input_pick mid i ≡ m → asks_for c a f e o i m ≡ picked c mid.inputs i o m
-      go none q = refl
-      go (some v) q =
+      go None q = refl
+      go (Some v) q =
           ap (is_for c a f e o) (bound_alike i v port (pick_ready mid i v q).0) ∙ for_alike o (input_at c mid.inputs i v).binding
 
   -- the input that an output picks
   pub output_alike : (o : ℕ) → output_winner c a f e o ≡ output_pick mid o
   unfolding output_winner output_pick allocated taken_in offers_taken landed credits_returned credits_reached
   output_alike o =
-      choice_same 8 c.arbiter c.ports _ (λ (i : ℕ). request mid i o) (of_narrow (output_arbiter a o)) (λ i port. asks_alike o i port)
+      choice_same 8 c.arbiter c.ports _ (λ (i : ℕ). request mid i o) (output_arbiter a o) (λ i port. asks_alike o i port)

@@ -4,7 +4,7 @@
 use mathlib.Core.Path.{◌≡◌, refl, ap, ◌∙◌}
 use mathlib.Core.Bool.{true}
 use mathlib.Core.List.{List, [], ◌∷◌, ◌++◌}
-use mathlib.Core.Option.{Option, some, none}
+use Rattle.std.specs.Prelude.{Option, Some, None}
 use Prim.Native.Nat.{ℕ, ◌+◌, ◌*◌, ◌≤◌, ◌<◌}
 use native.Mathlib.Omega.{arith}
 use lib.Dec.{leb}
@@ -38,8 +38,8 @@ module _ (c : Config) (home : List ℕ) (inputs : List InputVc) where
   paid = record { is = over_same c.ports (λ inputs i. credit_to c i (arriving i) inputs) _ inputs (λ t i l. go t i (arriving i)) }
     where
       go : (t : List InputVc) (i : ℕ) (o : Option ℕ) → credit_to c i o t ≡ changed (fresh_input 0) sender_paid (on_channel c i o) t
-      go t i none = refl
-      go t i (some v) = refl
+      go t i None = refl
+      go t i (Some v) = refl
 
   pub paid_length : length (senders_paid c home inputs) ≡ length inputs
   paid_length = made_length paid
@@ -50,7 +50,7 @@ module _ (c : Config) (home : List ℕ) (inputs : List InputVc) where
   paid_keeps see same = made_keeps paid see (λ i. same)
 
   module _ (near : (i : ℕ) → i < c.ports → home_place home 0 i ≤ c.vcs) where
-    there : (i v : ℕ) → i < c.ports → arriving i ≡ some v → v < c.vcs
+    there : (i v : ℕ) → i < c.ports → arriving i ≡ Some v → v < c.vcs
     there i v h e = named_there (home_place home 0 i) c.vcs v (near i h) e
 
     -- the credit that comes out of the home line's oldest place raises the credit of the VC that it names

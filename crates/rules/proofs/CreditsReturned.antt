@@ -4,7 +4,7 @@
 use mathlib.Core.Path.{◌≡◌, refl, ap, ◌∙◌}
 use mathlib.Core.Bool.{Bool, true, false, cond}
 use mathlib.Core.List.{List}
-use mathlib.Core.Option.{Option, some, none}
+use Rattle.std.specs.Prelude.{Option, Some, None}
 use Prim.Native.Nat.{ℕ, suc, ◌+◌, ◌*◌, ◌≤◌, ◌<◌}
 use native.Mathlib.Omega.{arith}
 use lib.Arith.{lt_of_le-ne}
@@ -41,8 +41,8 @@ module _ (c : Config) (part : List ℕ) (outputs : List OutputVc) where
   }
     where
       go : (t : List OutputVc) (o : ℕ) (n : Option ℕ) → credit_from c o n t ≡ changed (fresh_output 0) output_paid (on_channel c o n) t
-      go t o none = refl
-      go t o (some w) = refl
+      go t o None = refl
+      go t o (Some w) = refl
 
   pub returned_length : length (outputs_paid c part outputs) ≡ length outputs
   returned_length = made_length returned
@@ -52,7 +52,7 @@ module _ (c : Config) (part : List ℕ) (outputs : List OutputVc) where
   returned_keeps = made_keeps returned holder_of (λ o y. refl)
 
   module _ (near : (o : ℕ) → o < c.ports → credit_at part o ≤ c.vcs) where
-    there : (o w : ℕ) → o < c.ports → returning o ≡ some w → w < c.vcs
+    there : (o w : ℕ) → o < c.ports → returning o ≡ Some w → w < c.vcs
     there o w h e = named_there (credit_at part o) c.vcs w (near o h) e
 
     -- the row's credit raises the credit of the VC that it names

@@ -1,5 +1,6 @@
 -- Each number comes exactly when its rule holds at that port, at no lower one, and no number earlier in the order holds at any port.
 -- Assumes nothing.
+use Rattle.std.specs.Prelude.{Ok, Err}
 use mathlib.Core.Path.{◌≡◌, refl, sym, ap, subst, ◌∙◌}
 use mathlib.Core.Logic.{◌↔◌, ◌⊎◌, inl, inr}
 use mathlib.Core.Bool.{true, false, not, true≢false}
@@ -12,14 +13,14 @@ use Rattle.base.specs.Numbers as numbers
 use Rattle.base.specs.Reply.{empty_reply}
 use Rattle.state.specs.declared.Router.{Router}
 use Rattle.trace.specs.Blocks.{cycle_length}
-use Rattle.rules.specs.declared.Refusal.{Refusal}
-use Rattle.rules.specs.declared.Verdict.{Verdict}
-use Rattle.rules.specs.declared.Verdict.TheVariants.{Accepted, Refused}
-use Rattle.rules.specs.Numbers.{Rule, rule2, rule10, rule_part, rule3, rule6, rule4, rule5, rules_of, part_wrong, refusing, judged}
-use Rattle.rules.specs.Numbers.{number_of, port_of}
+use Rattle.base.specs.declared.refusal.Refusal.{Refusal}
+use Rattle.base.specs.Refusal.{Verdict}
+use Rattle.base.specs.Refusal.{refusing}
+use Rattle.rules.specs.Numbers.{Rule, rule2, rule10, rule_part, rule3, rule6, rule4, rule5, rules_of, part_wrong, judged}
+use Rattle.base.specs.Refusal.{number_of, place_of}
 use Rattle.rules.specs.Intake.{senders_paid}
 use Rattle.rules.specs.Step.{step_by, step_of}
-use Rattle.rules.proofs.FirstRule.{FirstAt, Nowhere, First, this, later, None, done, Why, refuses, accepts, why, first_refuses}
+use Rattle.rules.proofs.FirstRule.{FirstAt, Nowhere, First, this, later, NoneHolds, done, Why, refuses, accepts, why, first_refuses}
 use Rattle.rules.proofs.FirstRule.{none_accepts, before, from, split, join, numbered, alone}
 
 module _ (s : Router) (part : List ℕ) where
@@ -33,14 +34,14 @@ module _ (s : Router) (part : List ℕ) where
   verdict_judged = go (judged s part)
     where
       go : (v : Verdict) → (step_by v part s).verdict ≡ v
-      go Accepted = refl
-      go (Refused r) = refl
+      go (Ok _) = refl
+      go (Err r) = refl
 
   back : (n p : ℕ) → First (rules_of s part) n p → judged s part ≡ refusing n p
   unfolding judged
   back n p f = first_refuses (rules_of s part) n p f
 
-  forth : None (rules_of s part) → judged s part ≡ Accepted
+  forth : NoneHolds (rules_of s part) → judged s part ≡ Ok tt
   unfolding judged
   forth f = none_accepts (rules_of s part) f
 
@@ -56,19 +57,19 @@ module _ (s : Router) (part : List ℕ) where
 
   -- the same in the table's words: the number that the verdict stands for, and its port
   pub numbered_exactly : (n p : ℕ) → 1 ≤ n
-      → ((number_of (step_of s part).verdict ≡ n) × (port_of (step_of s part).verdict ≡ p)) ↔ First (rules_of s part) n p
+      → ((number_of (step_of s part).verdict ≡ n) × (place_of (step_of s part).verdict ≡ p)) ↔ First (rules_of s part) n p
   numbered_exactly n p least = (
     λ e. (refused_exactly n p).0 (go (step_of s part).verdict e.0 e.1),
-    λ f. let e = (refused_exactly n p).1 f in (ap number_of e, ap port_of e),
+    λ f. let e = (refused_exactly n p).1 f in (ap number_of e, ap place_of e),
   )
     where
-      go : (v : Verdict) → number_of v ≡ n → port_of v ≡ p → v ≡ refusing n p
-      go Accepted e g = absurd (omega (arith, e, least))
-      go (Refused r) e g = λ i. Refused (record { number = e i; port = g i })
+      go : (v : Verdict) → number_of v ≡ n → place_of v ≡ p → v ≡ refusing n p
+      go (Ok _) e g = absurd (omega (arith, e, least))
+      go (Err r) e g = λ i. Err (record { number = e i; place = g i })
 
   -- no number earlier in the order than n holds at any port
   abbrev pub NoneBefore : ℕ → Type 0
-  NoneBefore n = None (before n (rules_of s part))
+  NoneBefore n = NoneHolds (before n (rules_of s part))
 
   -- for a rule whose number no other rule has
   exactly : (r : Rule) (rs : List Rule) → from r.number (rules_of s part) ≡ r ∷ rs → numbered r.number rs ≡ false → (p : ℕ)
@@ -156,14 +157,14 @@ module _ (s : Router) (part : List ℕ) where
   five_exactly = exactly (rule5 s.config (senders_paid s.config s.home s.inputs) part) _ refl refl
 
   -- accepted: no rule holds at any port
-  pub accepted_exactly : ((step_of s part).verdict ≡ Accepted) ↔ None (rules_of s part)
-  accepted_exactly = (λ e. go (reason Accepted e), λ f. verdict_judged ∙ forth f)
+  pub accepted_exactly : ((step_of s part).verdict ≡ Ok tt) ↔ NoneHolds (rules_of s part)
+  accepted_exactly = (λ e. go (reason (Ok tt) e), λ f. verdict_judged ∙ forth f)
     where
-      go : Why (rules_of s part) Accepted → None (rules_of s part)
+      go : Why (rules_of s part) (Ok tt) → NoneHolds (rules_of s part)
       go (accepts f) = f
 
   -- "a refused cycle gives the state as before and an empty reply"
-  pub refused_leaves : (r : Refusal) → (step_of s part).verdict ≡ Refused r → ((step_of s part).router ≡ s)
+  pub refused_leaves : (r : Refusal) → (step_of s part).verdict ≡ Err r → ((step_of s part).router ≡ s)
       × ((step_of s part).reply ≡ empty_reply)
   unfolding step_of
   refused_leaves r e = rw (sym verdict_judged ∙ e) (refl, refl)

@@ -5,14 +5,14 @@ use mathlib.Core.Path.{◌≡◌, refl, sym, ap, ap₂, ◌∙◌}
 use mathlib.Core.Logic.{◌≢◌}
 use mathlib.Core.Bool.{cond}
 use mathlib.Core.List.{List}
-use mathlib.Core.Option.{Option, some, none, some-injective, none-ne-some}
+use Rattle.std.specs.Prelude.{Option, Some, None}
+use Rattle.std.proofs.lemmas.Option.{same_Some, none-some}
 use Prim.Native.Nat.{ℕ, suc, ◌≤◌}
 use native.Mathlib.Omega.{arith}
 use lib.Dec.{ltb}
 use lib.ListN.{replicate}
 use lib.Seq.{get_or-set_other}
 use Rattle.base.specs.declared.flit.Flit.{Flit}
-use Rattle.base.specs.declared.reply.Left.TheVariants as left
 use Rattle.state.specs.declared.InVc.{InVc}
 use Rattle.state.specs.declared.OutVc.{OutVc}
 use Rattle.state.specs.declared.Binding.{Binding}
@@ -38,13 +38,13 @@ pub record Exit : Type 0 where
 
 module _ (s : Router) where
   abbrev exit_by : InVc → Binding → Option Exit
-  exit_by x Unbound = none
+  exit_by x Unbound = None
   exit_by x (Bound b) =
-      some (record { input = x.input; vc = x.vc; by = b.vc; flit = front_of s.store (channel_number s.config x.input x.vc) })
+      Some (record { input = x.input; vc = x.vc; by = b.vc; flit = front_of s.store (channel_number s.config x.input x.vc) })
 
   abbrev exit_for : Option InVc → Option Exit
-  exit_for none = none
-  exit_for (some x) = exit_by x (input_at s.config s.inputs x.input x.vc).binding
+  exit_for None = None
+  exit_for (Some x) = exit_by x (input_at s.config s.inputs x.input x.vc).binding
 
   -- what leaves by output o
   unfoldable pub exit : ℕ → Option Exit
@@ -53,20 +53,20 @@ module _ (s : Router) where
   -- the front flit of the winner's VC, by the VC that it is bound to
   pub record Exits (o : ℕ) (e : Exit) : Type 0 where
     pub wins : Wins s o (record { input = e.input; vc = e.vc })
-    pub won : winner s o ≡ some (record { input = e.input; vc = e.vc })
+    pub won : winner s o ≡ Some (record { input = e.input; vc = e.vc })
     pub bound : (input_at s.config s.inputs e.input e.vc).binding ≡ Bound (record { output = o; vc = e.by })
     pub front : e.flit ≡ front_of s.store (channel_number s.config e.input e.vc)
 
-  pub exit_is : (o : ℕ) (e : Exit) → exit o ≡ some e → Exits o e
+  pub exit_is : (o : ℕ) (e : Exit) → exit o ≡ Some e → Exits o e
   unfolding exit
   exit_is o e q = go (winner s o) refl q
     where
-      go : (m : Option InVc) → winner s o ≡ m → exit_for m ≡ some e → Exits o e
-      go none p f = absurd (none-ne-some e f)
-      go (some x) p f = at (input_at s.config s.inputs x.input x.vc).binding refl f
+      go : (m : Option InVc) → winner s o ≡ m → exit_for m ≡ Some e → Exits o e
+      go None p f = absurd (none-some e f)
+      go (Some x) p f = at (input_at s.config s.inputs x.input x.vc).binding refl f
         where
-          at : (b : Binding) → (input_at s.config s.inputs x.input x.vc).binding ≡ b → exit_by x b ≡ some e → Exits o e
-          at Unbound r g = absurd (none-ne-some e g)
+          at : (b : Binding) → (input_at s.config s.inputs x.input x.vc).binding ≡ b → exit_by x b ≡ Some e → Exits o e
+          at Unbound r g = absurd (none-some e g)
           at (Bound b) r g =
               let w = winner_is s o x p in
               let one : Bound b ≡ Bound w.to = sym r ∙ w.bound in
@@ -78,14 +78,14 @@ module _ (s : Router) where
                 by = b.vc;
                 flit = front_of s.store (channel_number s.config x.input x.vc);
               }) e
-              (some-injective _ e g)
+              (same_Some _ e g)
               (record { wins = w; won = p; bound = r ∙ ap (λ (n : ℕ). Bound (record { output = n; vc = b.vc })) here; front = refl })
             where
               made : (d f : Exit) → d ≡ f → Exits o d → Exits o f
               made d f same x = rw same at x
 
   -- each winner leaves
-  pub winner_exits : (o : ℕ) (x : InVc) → winner s o ≡ some x → (e : Exit) × (exit o ≡ some e) × (e.input ≡ x.input) × (e.vc ≡ x.vc)
+  pub winner_exits : (o : ℕ) (x : InVc) → winner s o ≡ Some x → (e : Exit) × (exit o ≡ Some e) × (e.input ≡ x.input) × (e.vc ≡ x.vc)
   unfolding exit
   winner_exits o x p =
       let w = winner_is s o x p in (
@@ -96,11 +96,11 @@ module _ (s : Router) where
       )
 
   -- two exits of one input are one: "one_leaves_per_input"
-  pub exits_differ : (o p : ℕ) (e f : Exit) → exit o ≡ some e → exit p ≡ some f → e.input ≡ f.input → o ≡ p
+  pub exits_differ : (o p : ℕ) (e f : Exit) → exit o ≡ Some e → exit p ≡ Some f → e.input ≡ f.input → o ≡ p
   exits_differ o p e f q r same = (winners_differ s o p _ _ (exit_is o e q).won (exit_is p f r).won same).0
 
   -- so each leaves a channel of its own
-  pub exits_apart : (o p : ℕ) (e f : Exit) → exit o ≡ some e → exit p ≡ some f
+  pub exits_apart : (o p : ℕ) (e f : Exit) → exit o ≡ Some e → exit p ≡ Some f
       → channel_number s.config e.input e.vc ≡ channel_number s.config f.input f.vc → o ≡ p
   exits_apart o p e f q r same =
       exits_differ o p e f q r
@@ -109,8 +109,8 @@ module _ (s : Router) where
 
   -- an exit of output o, if there is one
   abbrev pub exits : ℕ → Option Exit → Leaving → Leaving
-  exits o none l = l
-  exits o (some e) l = departed s.config o e.by e.input e.vc e.flit l
+  exits o None l = l
+  exits o (Some e) l = departed s.config o e.by e.input e.vc e.flit l
 
   abbrev pub at_first : Leaving
   at_first = record {
@@ -118,13 +118,13 @@ module _ (s : Router) where
     outputs = s.outputs;
     store = s.store;
     home = s.home;
-    left = replicate 8 (record { left = left.Nothing });
+    left = replicate 8 None;
   }
 
   -- from output i on, each winner finds its binding and its front as they were
   abbrev Found : ℕ → Leaving → Type 0
   Found i l =
-      (o : ℕ) → i ≤ o → (x : InVc) → winner s o ≡ some x
+      (o : ℕ) → i ≤ o → (x : InVc) → winner s o ≡ Some x
       → ((input_at s.config l.inputs x.input x.vc).binding ≡ (input_at s.config s.inputs x.input x.vc).binding)
       × (front_of l.store (channel_number s.config x.input x.vc)
       ≡ front_of s.store (channel_number s.config x.input x.vc))
@@ -143,8 +143,8 @@ module _ (s : Router) where
           ≡ (input_at s.config s.inputs x.input x.vc).binding)
           × (front_of (exits i m l).store (channel_number s.config x.input x.vc)
           ≡ front_of s.store (channel_number s.config x.input x.vc))
-      go none q = h o (omega arith) x p
-      go (some e) q =
+      go None q = h o (omega arith) x p
+      go (Some e) q =
           let f = winner_exits o x p in
           let apart : channel_number s.config e.input e.vc ≢ channel_number s.config x.input x.vc =
           λ same.
@@ -169,13 +169,13 @@ module _ (s : Router) where
       (λ l o h k. same l o (winner s o) refl (λ x p. k o (omega arith) x p)) (λ l o h k. found_then l o k) (λ o h x p. (refl, refl))
     where
       same : (l : Leaving) (o : ℕ) (m : Option InVc) → winner s o ≡ m
-          → ((x : InVc) → winner s o ≡ some x
+          → ((x : InVc) → winner s o ≡ Some x
           → ((input_at s.config l.inputs x.input x.vc).binding ≡ (input_at s.config s.inputs x.input x.vc).binding)
           × (front_of l.store (channel_number s.config x.input x.vc)
           ≡ front_of s.store (channel_number s.config x.input x.vc)))
           → leaves_by s.config o m l ≡ exits o (exit o) l
-      same l o none p k = ap (λ (m : Option InVc). exits o (exit_for m) l) (sym p)
-      same l o (some x) p k =
+      same l o None p k = ap (λ (m : Option InVc). exits o (exit_for m) l) (sym p)
+      same l o (Some x) p k =
           ap (λ (b : Binding). goes_out s.config o x.input x.vc b l) (k x p).0
           ∙ at (input_at s.config s.inputs x.input x.vc).binding
           ∙ ap (λ (m : Option InVc). exits o (exit_for m) l) (sym p)

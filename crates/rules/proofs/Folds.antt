@@ -4,7 +4,7 @@ use mathlib.Core.Path.{◌≡◌, refl, sym, ap, ◌∙◌}
 use mathlib.Core.Logic.{◌≢◌}
 use mathlib.Core.Bool.{Bool, true, false, cond}
 use mathlib.Core.List.{List}
-use mathlib.Core.Option.{Option, some, none}
+use Rattle.std.specs.Prelude.{Option, Some, None}
 use Prim.Native.Nat.{ℕ, zero, suc, ◌+◌, ◌<◌}
 use native.Mathlib.Omega.{arith}
 use lib.Arith.{lt_of_le-ne}
@@ -46,30 +46,30 @@ module _ {A : Type 0} where
 
   -- the list with one place changed, if a place is named
   abbrev pub changed : A → (A → A) → Option ℕ → List A → List A
-  changed d g none xs = xs
-  changed d g (some x) xs = set xs x (g (get_or xs x d))
+  changed d g None xs = xs
+  changed d g (Some x) xs = set xs x (g (get_or xs x d))
 
   -- what a place holds after that
   abbrev pub changed_at : ℕ → (A → A) → Option ℕ → A → A
-  changed_at y g none a = a
-  changed_at y g (some x) a = cond (eqb x y) (g a) a
+  changed_at y g None a = a
+  changed_at y g (Some x) a = cond (eqb x y) (g a) a
 
   pub changed_length : (d : A) (g : A → A) (o : Option ℕ) (xs : List A) → length (changed d g o xs) ≡ length xs
-  changed_length d g none xs = refl
-  changed_length d g (some x) xs = length-set xs x (g (get_or xs x d))
+  changed_length d g None xs = refl
+  changed_length d g (Some x) xs = length-set xs x (g (get_or xs x d))
 
   pub changed_at-law : (d : A) (g : A → A) (o : Option ℕ) (xs : List A) (y : ℕ) → y < length xs
       → get_or (changed d g o xs) y d ≡ changed_at y g o (get_or xs y d)
-  changed_at-law d g none xs y l = refl
-  changed_at-law d g (some x) xs y l = go (eqb x y) refl
+  changed_at-law d g None xs y l = refl
+  changed_at-law d g (Some x) xs y l = go (eqb x y) refl
     where
       go : (b : Bool) → eqb x y ≡ b → get_or (set xs x (g (get_or xs x d))) y d ≡ cond b (g (get_or xs y d)) (get_or xs y d)
       go true e = let q = eqb-true x y e in rw q (get_or-set_same xs y (g (get_or xs y d)) d l)
       go false e = get_or-set_other xs x y (g (get_or xs x d)) d (λ q. eqb-false x y e (sym q))
 
-  pub changed_elsewhere : (d : A) (g : A → A) (o : Option ℕ) (xs : List A) (y : ℕ) → o ≢ some y → get_or (changed d g o xs) y d ≡ get_or xs y d
-  changed_elsewhere d g none xs y n = refl
-  changed_elsewhere d g (some x) xs y n = get_or-set_other xs x y (g (get_or xs x d)) d (λ q. n (ap some (sym q)))
+  pub changed_elsewhere : (d : A) (g : A → A) (o : Option ℕ) (xs : List A) (y : ℕ) → o ≢ Some y → get_or (changed d g o xs) y d ≡ get_or xs y d
+  changed_elsewhere d g None xs y n = refl
+  changed_elsewhere d g (Some x) xs y n = get_or-set_other xs x y (g (get_or xs x d)) d (λ q. n (ap Some (sym q)))
 
   -- a fold in which port i changes place `at i`, if it names one
   module _ (d : A) (at : ℕ → Option ℕ) (g : ℕ → A → A) where
@@ -82,7 +82,7 @@ module _ {A : Type 0} where
     turns_length (suc n) xs = changed_length d (g n) (at n) (over_ports n turns xs) ∙ turns_length n xs
 
     -- a place that no port names stays
-    pub turns_elsewhere : (n : ℕ) (xs : List A) (y : ℕ) → ((i : ℕ) → i < n → at i ≢ some y) → get_or (over_ports n turns xs) y d ≡ get_or xs y d
+    pub turns_elsewhere : (n : ℕ) (xs : List A) (y : ℕ) → ((i : ℕ) → i < n → at i ≢ Some y) → get_or (over_ports n turns xs) y d ≡ get_or xs y d
     unfolding over_ports
     turns_elsewhere zero xs y h = refl
     turns_elsewhere (suc n) xs y h =
@@ -90,7 +90,7 @@ module _ {A : Type 0} where
         ∙ turns_elsewhere n xs y (λ i l. h i (omega arith))
 
     -- a place that at most port i names is changed by it alone
-    pub turns_at : (n : ℕ) (xs : List A) (y i : ℕ) → i < n → y < length xs → ((j : ℕ) → j < n → j ≢ i → at j ≢ some y)
+    pub turns_at : (n : ℕ) (xs : List A) (y i : ℕ) → i < n → y < length xs → ((j : ℕ) → j < n → j ≢ i → at j ≢ Some y)
         → get_or (over_ports n turns xs) y d ≡ changed_at y (g i) (at i) (get_or xs y d)
     unfolding over_ports
     turns_at zero xs y i l m h = absurd (omega arith)

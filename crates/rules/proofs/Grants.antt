@@ -3,7 +3,8 @@
 use mathlib.Core.Path.{◌≡◌, sym, ap, ◌∙◌}
 use mathlib.Core.Bool.{true, false, false≢true}
 use mathlib.Core.List.{List, [], ◌∷◌}
-use mathlib.Core.Option.{Option, some, none, some-injective, none-ne-some}
+use Rattle.std.specs.Prelude.{Option, Some, None}
+use Rattle.std.proofs.lemmas.Option.{same_Some, none-some}
 use Prim.Native.Nat.{ℕ, ◌*◌, ◌<◌}
 use native.Mathlib.Omega.{arith}
 use lib.Dec.{eqb}
@@ -12,10 +13,9 @@ use borrow.Author.Tests.{eqb-true}
 use Rattle.base.specs.declared.flit.Flit.{Flit}
 use Rattle.base.specs.Flit.{kind_of, destination_of, starts_kind}
 use Rattle.base.proofs.Search.{both, first_found}
-use Rattle.arbiter.specs.Arbiter.{of_wide, choice}
+use Rattle.arbiter.specs.Arbiter.{choice}
 use Rattle.arbiter.proofs.Winners.{winner_asks}
 use Rattle.state.specs.declared.Binding.TheVariants.{Unbound}
-use Rattle.state.specs.declared.Holder.TheVariants.{Nobody}
 use Rattle.state.specs.declared.Router.{Router}
 use Rattle.state.specs.Fresh.{fresh_input}
 use Rattle.state.specs.Sound.{is_unbound, is_vc_free, front_is_for}
@@ -38,25 +38,25 @@ pub record Granted (s : Router) (o : ℕ) (g : Grant) : Type 0 where
   pub unbound : (get_or s.inputs g.requester (fresh_input 0)).binding ≡ Unbound
   pub front : front_is_for o (queue_at s.store (first_slot g.requester) (get_or s.inputs g.requester (fresh_input 0)).queued) ≡ true
   pub vc_below : g.vc < s.config.vcs
-  pub free : (output_at s.config s.outputs o g.vc).holder ≡ Nobody
+  pub free : (output_at s.config s.outputs o g.vc).holder ≡ None
   pub lowest : (w : ℕ) → w < g.vc → is_vc_free (output_at s.config s.outputs o w).holder ≡ false
 
 -- a grant has both its parts
-granted_is : (a b : Option ℕ) (g : Grant) → granted a b ≡ some g → (a ≡ some g.vc) × (b ≡ some g.requester)
-granted_is none b g e = absurd (none-ne-some g e)
-granted_is (some w) none g e = absurd (none-ne-some g e)
-granted_is (some w) (some x) g e =
-    let q = some-injective (record { requester = x; vc = w }) g e in
-    (ap (λ (h : Grant). some h.vc) q, ap (λ (h : Grant). some h.requester) q)
+granted_is : (a b : Option ℕ) (g : Grant) → granted a b ≡ Some g → (a ≡ Some g.vc) × (b ≡ Some g.requester)
+granted_is None b g e = absurd (none-some g e)
+granted_is (Some w) None g e = absurd (none-some g e)
+granted_is (Some w) (Some x) g e =
+    let q = same_Some (record { requester = x; vc = w }) g e in
+    (ap (λ (h : Grant). Some h.vc) q, ap (λ (h : Grant). Some h.requester) q)
 
-pub grant_is : (s : Router) (o : ℕ) (g : Grant) → grant_of s o ≡ some g → Granted s o g
+pub grant_is : (s : Router) (o : ℕ) (g : Grant) → grant_of s o ≡ Some g → Granted s o g
 unfolding grant_of lowest_free_vc asks
 grant_is s o g e =
     let c = s.config in
     let p = granted_is (lowest_free_vc c s.outputs o)
-    (choice 32 c.arbiter (c.ports * c.vcs) (asks s.inputs s.store o) (of_wide (vc_arbiter s.arbiters o))) g e in
+    (choice 32 c.arbiter (c.ports * c.vcs) (asks s.inputs s.store o) (vc_arbiter s.arbiters o)) g e in
     let f = first_found (λ (w : ℕ). is_vc_free (output_at c s.outputs o w).holder) c.vcs 0 g.vc p.0 in
-    let w = winner_asks 32 c.arbiter (c.ports * c.vcs) (asks s.inputs s.store o) (of_wide (vc_arbiter s.arbiters o))
+    let w = winner_asks 32 c.arbiter (c.ports * c.vcs) (asks s.inputs s.store o) (vc_arbiter s.arbiters o)
     g.requester
     p.1 in
     let a = both (is_unbound (get_or s.inputs g.requester (fresh_input 0)).binding)
@@ -71,7 +71,7 @@ grant_is s o g e =
     }
 
 -- two outputs never grant the same requester: its front names one destination
-pub grants_differ : (s : Router) (o p : ℕ) (g h : Grant) → grant_of s o ≡ some g → grant_of s p ≡ some h → g.requester ≡ h.requester → o ≡ p
+pub grants_differ : (s : Router) (o p : ℕ) (g h : Grant) → grant_of s o ≡ Some g → grant_of s p ≡ Some h → g.requester ≡ h.requester → o ≡ p
 grants_differ s o p g h e f same =
     front_names o p (queue_at s.store (first_slot g.requester) (get_or s.inputs g.requester (fresh_input 0)).queued)
     (grant_is s o g e).front

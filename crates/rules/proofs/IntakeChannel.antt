@@ -20,7 +20,7 @@ use Rattle.rules.specs.Rows.{kind_at}
 use Rattle.rules.specs.Intake.{credits_reached, credits_returned, landed, offers_taken}
 use Rattle.rules.specs.Numbers.{rules_of}
 use Rattle.rules.specs.Step.{taken_in}
-use Rattle.rules.proofs.FirstRule.{None}
+use Rattle.rules.proofs.FirstRule.{NoneHolds}
 use Rattle.rules.proofs.Lines.{places_oldest, total_first}
 use Rattle.rules.proofs.Facts.{credits_sum, sound_legal}
 use Rattle.rules.proofs.Landed.{lands}
@@ -57,7 +57,7 @@ taken_in_view ch offered opened =
       bound = ch.bound;
     }
 
-module _ (s : Router) (part : List ℕ) (sound : Sound s) (none : None (rules_of s part)) (bytes : AreBytes part) where
+module _ (s : Router) (part : List ℕ) (sound : Sound s) (none : NoneHolds (rules_of s part)) (bytes : AreBytes part) where
   abbrev c : Config
   c = s.config
 

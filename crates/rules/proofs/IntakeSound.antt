@@ -15,7 +15,7 @@ use Rattle.rules.specs.Rows.{brings, kind_at, vc_at}
 use Rattle.rules.specs.Intake.{credits_reached, credits_returned, landed, offers_taken}
 use Rattle.rules.specs.Numbers.{rules_of}
 use Rattle.rules.specs.Step.{taken_in}
-use Rattle.rules.proofs.FirstRule.{None}
+use Rattle.rules.proofs.FirstRule.{NoneHolds}
 use Rattle.rules.proofs.Advance.{advanced_newest}
 use Rattle.rules.proofs.Facts.{sound_legal, sound_lengths}
 use Rattle.rules.proofs.Kept.{inside_of}
@@ -36,7 +36,7 @@ pub taken_in_keeps : (part : List ℕ) (s : Router)
 unfolding taken_in offers_taken landed credits_returned credits_reached
 taken_in_keeps part s = (refl, refl, refl)
 
-module _ (s : Router) (part : List ℕ) (sound : Sound s) (none : None (rules_of s part)) where
+module _ (s : Router) (part : List ℕ) (sound : Sound s) (none : NoneHolds (rules_of s part)) where
   pub permitted : Permitted s part
   permitted = none_permits s part (sound_legal s sound) none
 

@@ -19,7 +19,7 @@ use Rattle.rules.specs.Rows.{kind_at, credit_at, flit_at}
 use Rattle.rules.specs.Intake.{offer_taken, credits_reached, credits_returned, landed, offers_taken}
 use Rattle.rules.specs.Numbers.{rules_of}
 use Rattle.rules.specs.Step.{taken_in}
-use Rattle.rules.proofs.FirstRule.{None}
+use Rattle.rules.proofs.FirstRule.{NoneHolds}
 use Rattle.rules.proofs.Lines.{places_advance}
 use Rattle.rules.proofs.Advance.{advanced_place, home_advanced}
 use Rattle.rules.proofs.Facts.{sound_legal, sound_lengths, inputs_room, outputs_room, home_at}
@@ -31,7 +31,7 @@ use Rattle.rules.proofs.Offers.{brings_on, offered, offers_keep}
 use Rattle.rules.proofs.OffersTaken.{newest_holds, older_stays, input_after, on_vc-law}
 use Rattle.rules.proofs.IntakeSound.{permitted, paid_up, paid_up_sound, ready}
 
-module _ (s : Router) (part : List ℕ) (sound : Sound s) (none : None (rules_of s part)) (bytes : AreBytes part) where
+module _ (s : Router) (part : List ℕ) (sound : Sound s) (none : NoneHolds (rules_of s part)) (bytes : AreBytes part) where
   abbrev c : Config
   c = s.config
 

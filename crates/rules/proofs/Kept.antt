@@ -1,5 +1,7 @@
 -- Which clauses of a sound state read what of the input VCs and the output VCs: where that stays, the clause does.
 -- Assumes nothing.
+use Rattle.std.specs.Prelude.{Option, Some, None}
+use Rattle.state.specs.declared.InVc.{InVc}
 use mathlib.Core.Path.{◌≡◌, refl, ap, ap₂, ◌∙◌}
 use mathlib.Core.Bool.{Bool, true, false, ◌&&◌, ◌||◌}
 use mathlib.Core.List.{List}
@@ -11,8 +13,6 @@ use Rattle.base.specs.declared.config.Config.{Config}
 use Rattle.base.proofs.Search.{every_ext}
 use Rattle.state.specs.declared.Binding.{Binding}
 use Rattle.state.specs.declared.Binding.TheVariants.{Unbound, Bound}
-use Rattle.state.specs.declared.Holder.{Holder}
-use Rattle.state.specs.declared.Holder.TheVariants.{Nobody, Held}
 use Rattle.state.specs.declared.InputVc.{InputVc}
 use Rattle.state.specs.declared.OutputVc.{OutputVc}
 use Rattle.state.specs.Fresh.{fresh_input, fresh_output}
@@ -35,7 +35,7 @@ inside_of x = x.opened
 abbrev pub queued_of : InputVc → ℕ
 queued_of x = x.queued
 
-abbrev pub holder_of : OutputVc → Holder
+abbrev pub holder_of : OutputVc → Option InVc
 holder_of y = y.holder
 
 module _ (c : Config) (later before : List InputVc) where
@@ -66,12 +66,12 @@ module _ (c : Config) (later before : List InputVc) where
       inputs_agree : (i v : ℕ) (b : Binding) → input_named c out_later i v b ≡ input_named c out_before i v b
       inputs_agree i v Unbound = refl
       inputs_agree i v (Bound b) =
-          ap (λ (h : Holder). ltb b.output c.ports && ltb b.vc c.vcs && holder_is i v h)
+          ap (λ (h : Option InVc). ltb b.output c.ports && ltb b.vc c.vcs && holder_is i v h)
           (held (channel_number c b.output b.vc))
 
-      outputs_agree : (o w : ℕ) (h : Holder) → output_named c later o w h ≡ output_named c before o w h
-      outputs_agree o w Nobody = refl
-      outputs_agree o w (Held h) =
+      outputs_agree : (o w : ℕ) (h : Option InVc) → output_named c later o w h ≡ output_named c before o w h
+      outputs_agree o w None = refl
+      outputs_agree o w (Some h) =
           ap (λ (b : Binding). ltb h.input c.ports && ltb h.vc c.vcs && binding_is o w b)
           (same (channel_number c h.input h.vc))
 

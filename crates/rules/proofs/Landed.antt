@@ -4,7 +4,8 @@ use mathlib.Core.Path.{◌≡◌, refl, sym, ap, subst, ◌∙◌}
 use mathlib.Core.Logic.{◌≢◌}
 use mathlib.Core.Bool.{Bool, true, false, cond, not, ◌&&◌, ◌||◌}
 use mathlib.Core.List.{List, [], ◌∷◌, ◌++◌, append-nil}
-use mathlib.Core.Option.{Option, some, none, some-injective, none-ne-some}
+use Rattle.std.specs.Prelude.{Option, Some, None}
+use Rattle.std.proofs.lemmas.Option.{same_Some, none-some}
 use Prim.Native.Nat.{ℕ, ◌+◌, ◌*◌, ◌≤◌, ◌<◌}
 use native.Mathlib.Nat.{add-zero}
 use native.Mathlib.Omega.{arith}
@@ -64,7 +65,7 @@ place_flits c v place e = go (eqb place 0) refl (eqb (wire_vc place) v)
 -- the input VCs: one more is queued where a flit lands, and nothing else changes
 module _ (c : Config) (wire : List ℕ) (q : Queues) where
   abbrev landing : ℕ → Option ℕ
-  landing i = cond (eqb (wire_place wire 0 i) 0) none (some (wire_vc (wire_place wire 0 i)))
+  landing i = cond (eqb (wire_place wire 0 i) 0) None (Some (wire_vc (wire_place wire 0 i)))
 
   counted : Made c (fresh_input 0) landing (λ (i : ℕ). one_more_queued) q.inputs (landings c wire q).inputs
   unfolding landings
@@ -76,7 +77,7 @@ module _ (c : Config) (wire : List ℕ) (q : Queues) where
       }
     where
       go : (t : Queues) (i : ℕ) (b : Bool) → (cond b t (joined c i (wire_vc (wire_place wire 0 i)) (wire_flit (wire_place wire 0 i)) t)).inputs
-          ≡ changed (fresh_input 0) one_more_queued (on_channel c i (cond b none (some (wire_vc (wire_place wire 0 i))))) t.inputs
+          ≡ changed (fresh_input 0) one_more_queued (on_channel c i (cond b None (Some (wire_vc (wire_place wire 0 i))))) t.inputs
       go t i true = refl
       go t i false = refl
 
@@ -91,13 +92,13 @@ module _ (c : Config) (wire : List ℕ) (q : Queues) where
       → get_or (landings c wire q).inputs x (fresh_input 0) ≡ get_or q.inputs x (fresh_input 0)
   landings_past near = made_past counted (λ i v l. there i v l (eqb (wire_place wire 0 i) 0) refl)
     where
-      there : (i v : ℕ) → i < c.ports → (b : Bool) → eqb (wire_place wire 0 i) 0 ≡ b → cond b none (some (wire_vc (wire_place wire 0 i)))
-          ≡ some v
+      there : (i v : ℕ) → i < c.ports → (b : Bool) → eqb (wire_place wire 0 i) 0 ≡ b → cond b None (Some (wire_vc (wire_place wire 0 i)))
+          ≡ Some v
           → v < c.vcs
-      there i v l true p e = absurd (none-ne-some v e)
+      there i v l true p e = absurd (none-some v e)
       there i v l false p e =
           let near = near i l (eqb-false (wire_place wire 0 i) 0 p) in
-          let same = some-injective (wire_vc (wire_place wire 0 i)) v e in
+          let same = same_Some (wire_vc (wire_place wire 0 i)) v e in
           omega arith
 
 module _ (s : Router) (sound : Sound s) where

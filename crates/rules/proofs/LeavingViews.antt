@@ -4,7 +4,7 @@ use mathlib.Core.Path.{◌≡◌, refl, sym, ap, ap₂, ◌∙◌}
 use mathlib.Core.Logic.{◌⊎◌, inl, inr}
 use mathlib.Core.Bool.{Bool, true, false, cond, ◌&&◌}
 use mathlib.Core.List.{List, [], ◌∷◌, ◌++◌}
-use mathlib.Core.Option.{Option, some, none}
+use Rattle.std.specs.Prelude.{Option, Some, None}
 use Prim.Native.Nat.{ℕ, zero, suc, ◌-◌, ◌≤◌, ◌<◌}
 use native.Mathlib.Omega.{arith}
 use lib.ListN.{drop}
@@ -38,8 +38,8 @@ use Rattle.rules.proofs.Lines.{places_ext}
 
 -- what an input VC is bound to after phase 5: what it is granted, or what it was bound to
 abbrev pub now_bound : Option OutVc → Option OutVc → Option OutVc
-now_bound none before = before
-now_bound (some b) before = some b
+now_bound None before = before
+now_bound (Some b) before = Some b
 
 -- one, if it leaves
 abbrev pub one : Bool → ℕ
@@ -86,25 +86,25 @@ module _ (s : Router) (sound : Sound s) (i v : ℕ) (port : i < s.config.ports) 
 
   -- its VC is unbound, if it ends a packet
   pub bound_left : bound_to (input_at c (leaving_of s).inputs i v).binding
-      ≡ cond (leaves_from s x && front_ends queue) none (bound_to (input_at c s.inputs i v).binding)
+      ≡ cond (leaves_from s x && front_ends queue) None (bound_to (input_at c s.inputs i v).binding)
   bound_left = go (touched_or_not (exit s) (from_place s) c.ports x)
     where
-      unbound : (b : Bool) (y : Binding) → bound_to (cond b Unbound y) ≡ cond b none (bound_to y)
+      unbound : (b : Bool) (y : Binding) → bound_to (cond b Unbound y) ≡ cond b None (bound_to y)
       unbound true y = refl
       unbound false y = refl
 
       go : Leaves s sound x ⊎ Untouched (exit s) (from_place s) c.ports x
           → bound_to (input_at c (leaving_of s).inputs i v).binding
-          ≡ cond (leaves_from s x && front_ends queue) none (bound_to (input_at c s.inputs i v).binding)
+          ≡ cond (leaves_from s x && front_ends queue) None (bound_to (input_at c s.inputs i v).binding)
       go (inl a) =
           ap (λ (y : InputVc). bound_to y.binding) (left_at s sound x a)
           ∙ unbound (ends a.deed) (input_at c s.inputs i v).binding
-          ∙ ap₂ (λ (l : Bool) (q : List Flit). cond (l && front_ends q) none (bound_to (input_at c s.inputs i v).binding))
+          ∙ ap₂ (λ (l : Bool) (q : List Flit). cond (l && front_ends q) None (bound_to (input_at c s.inputs i v).binding))
           (sym (leaves_from-law s x a))
           (sym (exit_front s sound i v port vc a))
       go (inr off) =
           ap (λ (y : InputVc). bound_to y.binding) (others_stay s x off)
-          ∙ ap (λ (l : Bool). cond (l && front_ends queue) none (bound_to (input_at c s.inputs i v).binding)) (sym (none_leaves s x off))
+          ∙ ap (λ (l : Bool). cond (l && front_ends queue) None (bound_to (input_at c s.inputs i v).binding)) (sym (none_leaves s x off))
 
   -- nothing else of it changes
   pub input_left : {B : Type 0} (see : InputVc → B) → ((b : Binding) (q : ℕ) (y : InputVc)

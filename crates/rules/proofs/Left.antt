@@ -1,14 +1,13 @@
 -- Phase 7, channel by channel: what a flit that leaves does to its input VC, its output VC, the home line and the reply; all else stays.
 -- Assumes nothing.
+use Rattle.base.specs.declared.reply.Departure.{Departure}
 use mathlib.Core.Path.{◌≡◌, refl, ap, ◌∙◌}
 use mathlib.Core.Bool.{Bool}
 use mathlib.Core.List.{List}
-use mathlib.Core.Option.{Option, some, none}
+use Rattle.std.specs.Prelude.{Option, Some, None}
 use Prim.Native.Nat.{ℕ, ◌+◌, ◌-◌, ◌<◌}
 use native.Mathlib.Omega.{arith}
 use lib.ListN.{length, get_or, replicate}
-use Rattle.base.specs.declared.reply.Left.TheVariants as left
-use Rattle.base.specs.declared.reply.Output.{Output}
 use Rattle.base.specs.Flit.{kind_of, ends_kind}
 use Rattle.state.specs.declared.InputVc.{InputVc}
 use Rattle.state.specs.declared.OutputVc.{OutputVc}
@@ -26,10 +25,6 @@ use Rattle.rules.proofs.Exits.{Exit, exit, exits_differ, exits_apart, exits, at_
 -- "T or S" ends a packet
 abbrev pub ends : Exit → Bool
 ends e = ends_kind (kind_of e.flit)
-
--- a reply's place that reports nothing
-abbrev pub no_output : Output
-no_output = record { left = left.Nothing }
 
 module _ (s : Router) where
   -- where a flit that leaves by output o acts: its input VC, its output VC, the home line's newest place of its input, the reply's place
@@ -55,7 +50,7 @@ module _ (s : Router) where
   abbrev send_home : ℕ → Exit → ℕ → ℕ
   send_home o e place = e.vc + 1
 
-  abbrev report_of : ℕ → Exit → Output → Output
+  abbrev report_of : ℕ → Exit → Option Departure → Option Departure
   report_of o e before = departure e.by e.input e.vc e.flit
 
   -- a part of what phase 7 changes that each exit changes in one place
@@ -71,29 +66,29 @@ module _ (s : Router) where
   inputs_fold = part_fold (λ (l : Leaving). l.inputs) (fresh_input 0) from_place out_of same
     where
       same : (l : Leaving) (o : ℕ) (m : Option Exit) → (exits s o m l).inputs ≡ acted (fresh_input 0) (from_place o) (out_of o) m l.inputs
-      same l o none = refl
-      same l o (some e) = refl
+      same l o None = refl
+      same l o (Some e) = refl
 
   outputs_fold : (leaving_of s).outputs ≡ over_ports s.config.ports (deeds (fresh_output 0) (exit s) by_place through) s.outputs
   outputs_fold = part_fold (λ (l : Leaving). l.outputs) (fresh_output 0) by_place through same
     where
       same : (l : Leaving) (o : ℕ) (m : Option Exit) → (exits s o m l).outputs ≡ acted (fresh_output 0) (by_place o) (through o) m l.outputs
-      same l o none = refl
-      same l o (some e) = refl
+      same l o None = refl
+      same l o (Some e) = refl
 
   home_fold : (leaving_of s).home ≡ over_ports s.config.ports (deeds 0 (exit s) homeward send_home) s.home
   home_fold = part_fold (λ (l : Leaving). l.home) 0 homeward send_home same
     where
       same : (l : Leaving) (o : ℕ) (m : Option Exit) → (exits s o m l).home ≡ acted 0 (homeward o) (send_home o) m l.home
-      same l o none = refl
-      same l o (some e) = refl
+      same l o None = refl
+      same l o (Some e) = refl
 
-  left_fold : (leaving_of s).left ≡ over_ports s.config.ports (deeds no_output (exit s) replied report_of) (replicate 8 no_output)
-  left_fold = part_fold (λ (l : Leaving). l.left) no_output replied report_of same
+  left_fold : (leaving_of s).left ≡ over_ports s.config.ports (deeds None (exit s) replied report_of) (replicate 8 None)
+  left_fold = part_fold (λ (l : Leaving). l.left) None replied report_of same
     where
-      same : (l : Leaving) (o : ℕ) (m : Option Exit) → (exits s o m l).left ≡ acted no_output (replied o) (report_of o) m l.left
-      same l o none = refl
-      same l o (some e) = refl
+      same : (l : Leaving) (o : ℕ) (m : Option Exit) → (exits s o m l).left ≡ acted None (replied o) (report_of o) m l.left
+      same l o None = refl
+      same l o (Some e) = refl
 
   -- the lists keep their lengths
   pub left_inputs_length : length (leaving_of s).inputs ≡ length s.inputs
@@ -106,7 +101,7 @@ module _ (s : Router) where
   left_home_length = ap length home_fold ∙ deeds_length 0 (exit s) homeward send_home s.config.ports s.home
 
   -- the input VC that a flit leaves: one less is queued, and it is unbound if that ends a packet
-  pub exit_unqueues : (o : ℕ) (e : Exit) → o < s.config.ports → exit s o ≡ some e
+  pub exit_unqueues : (o : ℕ) (e : Exit) → o < s.config.ports → exit s o ≡ Some e
       → channel_number s.config e.input e.vc < length s.inputs
       → input_at s.config (leaving_of s).inputs e.input e.vc
       ≡ input_left (ends e) (input_at s.config s.inputs e.input e.vc)
@@ -122,8 +117,8 @@ module _ (s : Router) where
       ∙ untouched_stays (fresh_input 0) (exit s) from_place out_of s.config.ports s.inputs x off
 
   -- the output VC that it leaves by: one credit less, and it is free if that ends a packet
-  pub exit_pays : ((o : ℕ) (e : Exit) → exit s o ≡ some e → e.by < s.config.vcs)
-      → (o : ℕ) (e : Exit) → o < s.config.ports → exit s o ≡ some e → channel_number s.config o e.by < length s.outputs
+  pub exit_pays : ((o : ℕ) (e : Exit) → exit s o ≡ Some e → e.by < s.config.vcs)
+      → (o : ℕ) (e : Exit) → o < s.config.ports → exit s o ≡ Some e → channel_number s.config o e.by < length s.outputs
       → output_at s.config (leaving_of s).outputs o e.by ≡ output_left (ends e) (output_at s.config s.outputs o e.by)
   exit_pays near o e l q m =
       ap (λ (ys : List OutputVc). get_or ys (by_place o e) (fresh_output 0)) outputs_fold
@@ -137,7 +132,7 @@ module _ (s : Router) where
       ∙ untouched_stays (fresh_output 0) (exit s) by_place through s.config.ports s.outputs x off
 
   -- the home line's newest place of its input: 1 + VC
-  pub exit_sends_home : (o : ℕ) (e : Exit) → o < s.config.ports → exit s o ≡ some e
+  pub exit_sends_home : (o : ℕ) (e : Exit) → o < s.config.ports → exit s o ≡ Some e
       → newest s.config.back e.input < length s.home
       → home_place (leaving_of s).home (s.config.back - 1) e.input ≡ e.vc + 1
   exit_sends_home o e l q m =
@@ -150,14 +145,14 @@ module _ (s : Router) where
       ap (λ (ps : List ℕ). get_or ps x 0) home_fold ∙ untouched_stays 0 (exit s) homeward send_home s.config.ports s.home x off
 
   -- the reply's place of its output
-  pub exit_reported : (o : ℕ) (e : Exit) → o < s.config.ports → o < 8 → exit s o ≡ some e
-      → get_or (leaving_of s).left o no_output ≡ departure e.by e.input e.vc e.flit
+  pub exit_reported : (o : ℕ) (e : Exit) → o < s.config.ports → o < 8 → exit s o ≡ Some e
+      → get_or (leaving_of s).left o None ≡ departure e.by e.input e.vc e.flit
   exit_reported o e l m q =
-      ap (λ (rs : List Output). get_or rs o no_output) left_fold
-      ∙ touched_changes no_output (exit s) replied report_of s.config.ports (replicate 8 no_output) o e l q m (λ p f h r same. same)
+      ap (λ (rs : List (Option Departure)). get_or rs o None) left_fold
+      ∙ touched_changes None (exit s) replied report_of s.config.ports (replicate 8 None) o e l q m (λ p f h r same. same)
 
-  pub unreported : (o : ℕ) → Untouched (exit s) replied s.config.ports o → get_or (leaving_of s).left o no_output
-      ≡ get_or (replicate 8 no_output) o no_output
+  pub unreported : (o : ℕ) → Untouched (exit s) replied s.config.ports o → get_or (leaving_of s).left o None
+      ≡ get_or (replicate 8 None) o None
   unreported o off =
-      ap (λ (rs : List Output). get_or rs o no_output) left_fold
-      ∙ untouched_stays no_output (exit s) replied report_of s.config.ports (replicate 8 no_output) o off
+      ap (λ (rs : List (Option Departure)). get_or rs o None) left_fold
+      ∙ untouched_stays None (exit s) replied report_of s.config.ports (replicate 8 None) o off

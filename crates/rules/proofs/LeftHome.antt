@@ -4,7 +4,7 @@
 use mathlib.Core.Path.{◌≡◌, refl, sym, ap, ap₂, ◌∙◌}
 use mathlib.Core.Logic.{◌≢◌, ◌⊎◌, inl, inr}
 use mathlib.Core.Bool.{Bool, true, false, cond}
-use mathlib.Core.Option.{some}
+use Rattle.std.specs.Prelude.{Some}
 use Prim.Native.Nat.{ℕ, zero, suc, ◌+◌, ◌-◌, ◌*◌, ◌≤◌, ◌<◌}
 use native.Mathlib.Nat.{add-zero}
 use native.Mathlib.Omega.{arith}
@@ -53,7 +53,7 @@ module _ (s : Router) (sound : Sound s) where
   abbrev pub Sends : ℕ → Type 0
   Sends i = Actor (exit s) from_input c.ports i
 
-  exit_below : (o : ℕ) (e : Exit) → exit s o ≡ some e → e.input < c.ports
+  exit_below : (o : ℕ) (e : Exit) → exit s o ≡ Some e → e.input < c.ports
   exit_below o e q = (exit_is s o e q).wins.input_below
 
   -- the newest place of input i: 1 + the VC that a flit leaves
@@ -77,7 +77,7 @@ module _ (s : Router) (sound : Sound s) where
   older_stays k i h d =
       home_stays s (8 * k + i) (λ o e l q same.
       let few = (sound_legal s sound).ports.1 in
-      let some = (sound_legal s sound).back.0 in
+      let Some = (sound_legal s sound).back.0 in
       let b = exit_below o e q in
       d (omega arith))
 
@@ -200,7 +200,7 @@ module _ (s : Router) (sound : Sound s) where
       beyond : (k i : ℕ) → i < 8 → (c.back ≤ k) ⊎ (c.ports ≤ i) → (j : ℕ) → j < c.ports → 8 * (c.back - 1) + j ≡ 8 * k + i → ⊥
       beyond k i g (inl out) j below same =
           let few = (sound_legal s sound).ports.1 in
-          let some = (sound_legal s sound).back.0 in
+          let Some = (sound_legal s sound).back.0 in
           omega arith
       beyond k i g (inr out) j below same =
           let few = (sound_legal s sound).ports.1 in

@@ -1,9 +1,11 @@
 -- Phase 7 and the names: "T or S unbinds and frees the output VC" (01), both of a pair together; all other names stay.
 -- Assumes nothing.
+use Rattle.std.specs.Prelude.{Option, None}
 use mathlib.Core.Path.{◌≡◌, refl, sym, ap, ap₂, ◌∙◌}
 use mathlib.Core.Logic.{◌⊎◌, inl, inr}
 use mathlib.Core.Bool.{Bool, true, false, cond, true≢false}
-use mathlib.Core.Option.{some, some-injective}
+use Rattle.std.specs.Prelude.{Some}
+use Rattle.std.proofs.lemmas.Option.{same_Some}
 use Prim.Native.Nat.{ℕ, ◌<◌}
 use native.Mathlib.Nat.{lt_of_lt_of_le}
 use lib.ListN.{get_or}
@@ -12,8 +14,6 @@ use Rattle.state.specs.declared.InVc.{InVc}
 use Rattle.state.specs.declared.OutVc.{OutVc}
 use Rattle.state.specs.declared.Binding.{Binding}
 use Rattle.state.specs.declared.Binding.TheVariants.{Unbound, Bound}
-use Rattle.state.specs.declared.Holder.{Holder}
-use Rattle.state.specs.declared.Holder.TheVariants.{Nobody, Held}
 use Rattle.state.specs.declared.InputVc.{InputVc}
 use Rattle.state.specs.declared.OutputVc.{OutputVc}
 use Rattle.state.specs.declared.Router.{Router}
@@ -43,7 +43,7 @@ module _ (s : Router) (sound : Sound s) where
   agree = names_agree-law c s.inputs s.outputs sound.naming.names
 
   -- the output VC that a flit leaves by there is, and is held by the input VC that it leaves
-  pub exit_named : (o : ℕ) (e : Exit) → exit s o ≡ some e → BoundTo c s.inputs s.outputs e.input e.vc
+  pub exit_named : (o : ℕ) (e : Exit) → exit s o ≡ Some e → BoundTo c s.inputs s.outputs e.input e.vc
       (record { output = o; vc = e.by })
   exit_named o e q =
       let x = exit_is s o e q in
@@ -54,13 +54,13 @@ module _ (s : Router) (sound : Sound s) where
   leaves_one x a b =
       let same : a.port ≡ b.port = exits_apart s a.port b.port a.deed b.deed a.acts b.acts
       (a.there ∙ sym b.there) in
-      some-injective a.deed b.deed (sym a.acts ∙ ap (exit s) same ∙ b.acts)
+      same_Some a.deed b.deed (sym a.acts ∙ ap (exit s) same ∙ b.acts)
 
   passes_one : (x : ℕ) (a b : Passes x) → a.deed ≡ b.deed
   passes_one x a b =
       let same = channel_apart c a.port a.deed.by b.port b.deed.by (exit_named a.port a.deed a.acts).1
       (exit_named b.port b.deed b.acts).1 (a.there ∙ sym b.there) in
-      some-injective a.deed b.deed (sym a.acts ∙ ap (exit s) same.0 ∙ b.acts)
+      same_Some a.deed b.deed (sym a.acts ∙ ap (exit s) same.0 ∙ b.acts)
 
   -- the input VC that a flit leaves, and the output VC that it leaves by, by number
   pub left_at : (x : ℕ) (a : Leaves x) → get_or (leaving_of s).inputs x (fresh_input 0)
@@ -106,7 +106,7 @@ module _ (s : Router) (sound : Sound s) where
 
   -- an output VC is freed by the flit that ends a packet, and stays held otherwise
   pub data Holds (x : ℕ) : Type 0 where
-    frees : (a : Passes x) → ends a.deed ≡ true → (get_or (leaving_of s).outputs x (fresh_output 0)).holder ≡ Nobody → Holds x
+    frees : (a : Passes x) → ends a.deed ≡ true → (get_or (leaving_of s).outputs x (fresh_output 0)).holder ≡ None → Holds x
     stays_held : ((a : Passes x) → ends a.deed ≡ false)
         → (get_or (leaving_of s).outputs x (fresh_output 0)).holder ≡ (get_or s.outputs x (fresh_output 0)).holder → Holds x
 
@@ -116,10 +116,10 @@ module _ (s : Router) (sound : Sound s) where
       at : (a : Passes x) (b : Bool) → ends a.deed ≡ b → Holds x
       at a true e =
           frees a e (ap (λ (y : OutputVc). y.holder) (passed_at x a)
-          ∙ ap (λ (b : Bool). cond b Nobody (get_or s.outputs x (fresh_output 0)).holder) e)
+          ∙ ap (λ (b : Bool). cond b None (get_or s.outputs x (fresh_output 0)).holder) e)
       at a false e =
           stays_held (λ b. ap ends (passes_one x b a) ∙ e) (ap (λ (y : OutputVc). y.holder) (passed_at x a)
-          ∙ ap (λ (b : Bool). cond b Nobody (get_or s.outputs x (fresh_output 0)).holder) e)
+          ∙ ap (λ (b : Bool). cond b None (get_or s.outputs x (fresh_output 0)).holder) e)
 
       go : Passes x ⊎ Untouched (exit s) (by_place s) c.ports x → Holds x
       go (inl a) = at a (ends a.deed) refl
@@ -127,7 +127,7 @@ module _ (s : Router) (sound : Sound s) where
           stays_held (λ a. absurd (off a.port a.deed a.below a.acts a.there))
           (ap (λ (y : OutputVc). y.holder) (unused_outputs_stay s x off))
 
-  same_holder : (h : Holder) (a b : InVc) → h ≡ Held a → h ≡ Held b → a ≡ b
+  same_holder : (h : Option InVc) (a b : InVc) → h ≡ Some a → h ≡ Some b → a ≡ b
   same_holder h a b e f = cc
 
   same_binding : (h : Binding) (a b : OutVc) → h ≡ Bound a → h ≡ Bound b → a ≡ b
@@ -161,7 +161,7 @@ module _ (s : Router) (sound : Sound s) where
       go (stays_bound unended f) = held unended (agree.bound i v h g b (sym f ∙ q)) (holder_after (channel_number c b.output b.vc))
 
   -- who holds an output VC is bound to it
-  still_held : (o w : ℕ) → o < c.ports → w < c.vcs → (h : InVc) → (output_at c (leaving_of s).outputs o w).holder ≡ Held h
+  still_held : (o w : ℕ) → o < c.ports → w < c.vcs → (h : InVc) → (output_at c (leaving_of s).outputs o w).holder ≡ Some h
       → HeldBy c (leaving_of s).inputs (leaving_of s).outputs o w h
   still_held o w l g h q = go (holder_after (channel_number c o w))
     where

@@ -4,7 +4,7 @@ use mathlib.Core.Path.{◌≡◌, sym, ap, ap₂, ◌∙◌}
 use mathlib.Core.Logic.{◌≢◌, ◌⊎◌, inl, inr}
 use mathlib.Core.Bool.{Bool, true, false, cond, not, xor, ◌&&◌, false≢true}
 use mathlib.Core.List.{List, [], ◌∷◌, ◌++◌}
-use mathlib.Core.Option.{none}
+use Rattle.std.specs.Prelude.{None}
 use Prim.Native.Nat.{ℕ, ◌+◌, ◌-◌, ◌≤◌, ◌<◌}
 use native.Mathlib.Omega.{arith}
 use lib.Dec.{eqb}
@@ -44,9 +44,9 @@ reads_leaves f queue wire to inside e =
     inner [] e = e
     inner (g ∷ queue) e = at (starts_kind (kind_of g)) e
       where
-        at : (b : Bool) → ends_as inside (cond (xor true b) (reading (not (ends_kind (kind_of g))) (queue ++ wire)) none) ≡ true
+        at : (b : Bool) → ends_as inside (cond (xor true b) (reading (not (ends_kind (kind_of g))) (queue ++ wire)) None) ≡ true
             → ends_as inside (cond (xor (not (b && eqb (destination_of g) to.output)) b)
-            (reading (not (ends_kind (kind_of g))) (queue ++ wire)) none) ≡ true
+            (reading (not (ends_kind (kind_of g))) (queue ++ wire)) None) ≡ true
         at true q = absurd (false≢true q)
         at false q = q
 
@@ -55,7 +55,7 @@ reads_leaves f queue wire to inside e =
     rest true q = q
     rest false q = inner queue q
 
-    go : (b : Bool) → ends_as inside (cond b (reading (not (ends_kind (kind_of f))) (queue ++ wire)) none) ≡ true
+    go : (b : Bool) → ends_as inside (cond b (reading (not (ends_kind (kind_of f))) (queue ++ wire)) None) ≡ true
         → ends_as inside (reading (begins_inside queue (cond (ends_kind (kind_of f)) Unbound (Bound to))) (queue ++ wire)) ≡ true
     go true q = rest (ends_kind (kind_of f)) q
     go false q = absurd (false≢true q)

@@ -4,7 +4,7 @@ use mathlib.Core.Path.{◌≡◌, refl, sym, ap, ◌∙◌}
 use mathlib.Core.Logic.{◌≢◌}
 use mathlib.Core.Bool.{Bool, true, false}
 use mathlib.Core.List.{List}
-use mathlib.Core.Option.{Option, some, none}
+use Rattle.std.specs.Prelude.{Option, Some, None}
 use Prim.Native.Nat.{ℕ, ◌+◌, ◌≤◌, ◌<◌}
 use native.Mathlib.Omega.{arith}
 use lib.Dec.{ltb}
@@ -37,8 +37,8 @@ slot_keeps store y x k d h = pop_other_slot store y (slot x k) (λ j g e. slots_
 
 module _ (s : Router) (whole : length s.store ≡ 512) where
   abbrev pop_for : Option Exit → List ℕ → List ℕ
-  pop_for none store = store
-  pop_for (some e) store = popped store (channel_number s.config e.input e.vc)
+  pop_for None store = store
+  pop_for (Some e) store = popped store (channel_number s.config e.input e.vc)
 
   abbrev pops : List ℕ → ℕ → List ℕ
   pops store o = pop_for (exit s o) store
@@ -50,8 +50,8 @@ module _ (s : Router) (whole : length s.store ≡ 512) where
       (λ l o h. same l o (exit s o))
     where
       same : (l : Leaving) (o : ℕ) (m : Option Exit) → (exits s o m l).store ≡ pop_for m l.store
-      same l o none = refl
-      same l o (some e) = refl
+      same l o None = refl
+      same l o (Some e) = refl
 
   -- the store keeps its length
   abbrev Whole : List ℕ → Type 0
@@ -61,8 +61,8 @@ module _ (s : Router) (whole : length s.store ≡ 512) where
   keeps_whole store o h w = go (exit s o)
     where
       go : (m : Option Exit) → Whole (pop_for m store)
-      go none = w
-      go (some e) = pop_length store (channel_number s.config e.input e.vc) ∙ w
+      go None = w
+      go (Some e) = pop_length store (channel_number s.config e.input e.vc) ∙ w
 
   pub left_store_length : length (leaving_of s).store ≡ 512
   left_store_length = ap length store_fold ∙ over_keeps Whole s.config.ports pops s.store keeps_whole whole
@@ -71,10 +71,10 @@ module _ (s : Router) (whole : length s.store ≡ 512) where
   module _ {B : Type 0} (look : List ℕ → B) (x : ℕ)
       (alone : (store : List ℕ) (y : ℕ) → Whole store → y ≢ x → look (popped store y) ≡ look store) where
     pop_elsewhere : (store : List ℕ) (m : Option Exit) → Whole store
-        → ((e : Exit) → m ≡ some e → channel_number s.config e.input e.vc ≢ x)
+        → ((e : Exit) → m ≡ Some e → channel_number s.config e.input e.vc ≢ x)
         → look (pop_for m store) ≡ look store
-    pop_elsewhere store none w off = refl
-    pop_elsewhere store (some e) w off = alone store (channel_number s.config e.input e.vc) w (off e refl)
+    pop_elsewhere store None w off = refl
+    pop_elsewhere store (Some e) w off = alone store (channel_number s.config e.input e.vc) w (off e refl)
 
     unpopped_stays : Untouched (exit s) (from_place s) s.config.ports x → look (leaving_of s).store ≡ look s.store
     unpopped_stays off =
@@ -84,7 +84,7 @@ module _ (s : Router) (whole : length s.store ≡ 512) where
 
   -- what the one pop of channel x changes
   popped_becomes : {B C : Type 0} (before : List ℕ → B) (after : List ℕ → C) (change : B → C) (o : ℕ) (e : Exit) → o < s.config.ports
-      → exit s o ≡ some e
+      → exit s o ≡ Some e
       → ((store : List ℕ) (y : ℕ) → Whole store → y ≢ from_place s o e → before (popped store y) ≡ before store)
       → ((store : List ℕ) (y : ℕ) → Whole store → y ≢ from_place s o e → after (popped store y) ≡ after store)
       → ((store : List ℕ) → Whole store → after (popped store (from_place s o e)) ≡ change (before store))
@@ -98,7 +98,7 @@ module _ (s : Router) (whole : length s.store ≡ 512) where
       whole
 
   -- the queue that a flit leaves loses its front
-  pub exit_drops : (o : ℕ) (e : Exit) → o < s.config.ports → exit s o ≡ some e → (n : ℕ) → n < 16 → from_place s o e < 32
+  pub exit_drops : (o : ℕ) (e : Exit) → o < s.config.ports → exit s o ≡ Some e → (n : ℕ) → n < 16 → from_place s o e < 32
       → queue_in (leaving_of s).store (from_place s o e) n ≡ drop 1 (queue_in s.store (from_place s o e) (n + 1))
   exit_drops o e l q n h g =
       let x = from_place s o e in
@@ -113,7 +113,7 @@ module _ (s : Router) (whole : length s.store ≡ 512) where
       (λ store y w d. pop_keeps store y x n w d g h) off
 
   -- the slots of a channel that a flit leaves move up, the last is empty, and all other slots stay
-  pub exit_slots : (o : ℕ) (e : Exit) → o < s.config.ports → exit s o ≡ some e → (k : ℕ) → k < 15 → from_place s o e < 32
+  pub exit_slots : (o : ℕ) (e : Exit) → o < s.config.ports → exit s o ≡ Some e → (k : ℕ) → k < 15 → from_place s o e < 32
       → get_or (leaving_of s).store (slot (from_place s o e) k) 0 ≡ get_or s.store (slot (from_place s o e) (k + 1)) 0
   exit_slots o e l q k h g =
       let x = from_place s o e in
@@ -122,7 +122,7 @@ module _ (s : Router) (whole : length s.store ≡ 512) where
       (λ store y w d. slot_keeps store y x (k + 1) d (omega arith)) (λ store y w d. slot_keeps store y x k d (omega arith))
       (λ store w. pop_slot store x g w k h)
 
-  pub exit_last_slot : (o : ℕ) (e : Exit) → o < s.config.ports → exit s o ≡ some e → from_place s o e < 32
+  pub exit_last_slot : (o : ℕ) (e : Exit) → o < s.config.ports → exit s o ≡ Some e → from_place s o e < 32
       → get_or (leaving_of s).store (slot (from_place s o e) 15) 0 ≡ 0
   exit_last_slot o e l q g =
       let x = from_place s o e in

@@ -2,7 +2,8 @@
 -- Assumes nothing.
 use mathlib.Core.Path.{◌≡◌, refl, sym, ap, ◌∙◌}
 use mathlib.Core.Bool.{Bool, true, false, cond}
-use mathlib.Core.Option.{some, some-injective, none-ne-some}
+use Rattle.std.specs.Prelude.{Some}
+use Rattle.std.proofs.lemmas.Option.{same_Some, none-some}
 use Prim.Native.Nat.{ℕ, zero, suc, ◌+◌, ◌-◌, ◌≤◌, ◌<◌}
 use native.Mathlib.Nat.{add-zero}
 use native.Mathlib.Omega.{arith}
@@ -13,14 +14,14 @@ use Rattle.rules.specs.Ports.{named}
 use Rattle.rules.proofs.Folds.{changed_at}
 
 -- a number that is not 0 names the VC below it
-pub named_some : (p : ℕ) → (p ≡ 0 → ⊥) → named p ≡ some (p - 1)
+pub named_some : (p : ℕ) → (p ≡ 0 → ⊥) → named p ≡ Some (p - 1)
 named_some zero n = absurd (n refl)
 named_some (suc p) n = let e : suc p - 1 ≡ p = omega arith in rw e
 
 -- a number of at most V names a VC that there is
-pub named_there : (place n v : ℕ) → place ≤ n → named place ≡ some v → v < n
-named_there zero n v h e = absurd (none-ne-some v e)
-named_there (suc u) n v h e = let q = some-injective u v e in omega arith
+pub named_there : (place n v : ℕ) → place ≤ n → named place ≡ Some v → v < n
+named_there zero n v h e = absurd (none-some v e)
+named_there (suc u) n v h e = let q = same_Some u v e in omega arith
 
 -- of all VCs, the named one gets one more
 pub named_raises : {A : Type 0} (credit : A → ℕ) (paid : A → A) → ((x : A) → credit (paid x) ≡ credit x + 1) → (v place : ℕ) (x : A)

@@ -1,5 +1,6 @@
 -- "input VC and output VC name each other or neither does" (01, Sound states), as facts of each channel.
 -- Assumes nothing.
+use Rattle.std.specs.Prelude.{Option, Some, None}
 use mathlib.Core.Path.{◌≡◌, refl, sym, ap, ap₂, ◌∙◌}
 use mathlib.Core.Bool.{true, ◌&&◌, false≢true}
 use mathlib.Core.List.{List}
@@ -13,8 +14,6 @@ use Rattle.state.specs.declared.InVc.{InVc}
 use Rattle.state.specs.declared.OutVc.{OutVc}
 use Rattle.state.specs.declared.Binding.{Binding}
 use Rattle.state.specs.declared.Binding.TheVariants.{Unbound, Bound}
-use Rattle.state.specs.declared.Holder.{Holder}
-use Rattle.state.specs.declared.Holder.TheVariants.{Nobody, Held}
 use Rattle.state.specs.declared.InputVc.{InputVc}
 use Rattle.state.specs.declared.OutputVc.{OutputVc}
 use Rattle.state.specs.Sound.{every_channel, binding_is, holder_is, input_named, output_named, names_agree}
@@ -25,25 +24,25 @@ use Rattle.rules.proofs.Channels.{channel_at, all_channels}
 pub unbound_not : (b : Binding) (to : OutVc) → b ≡ Unbound → b ≡ Bound to → ⊥
 unbound_not b to e f = let z : ◌≡◌ {A = ℕ} 0 1 = cc in omega arith
 
-pub nobody_not : (h : Holder) (by : InVc) → h ≡ Nobody → h ≡ Held by → ⊥
+pub nobody_not : (h : Option InVc) (by : InVc) → h ≡ None → h ≡ Some by → ⊥
 nobody_not h by e f = let z : ◌≡◌ {A = ℕ} 0 1 = cc in omega arith
 
 module _ (c : Config) (inputs : List InputVc) (outputs : List OutputVc) where
   -- what input VC (i, v) is bound to there is, and (i, v) holds it
   abbrev pub BoundTo : ℕ → ℕ → OutVc → Type 0
   BoundTo i v b = (b.output < c.ports) × (b.vc < c.vcs) ×
-      ((output_at c outputs b.output b.vc).holder ≡ Held (record { input = i; vc = v }))
+      ((output_at c outputs b.output b.vc).holder ≡ Some (record { input = i; vc = v }))
 
   -- who holds output VC (o, w) there is, and is bound to (o, w)
   abbrev pub HeldBy : ℕ → ℕ → InVc → Type 0
   HeldBy o w h = (h.input < c.ports) × (h.vc < c.vcs) × ((input_at c inputs h.input h.vc).binding
       ≡ Bound (record { output = o; vc = w }))
 
-  holder_is-law : (i v : ℕ) (h : Holder) → holder_is i v h ≡ true → h ≡ Held (record { input = i; vc = v })
-  holder_is-law i v Nobody e = absurd (false≢true e)
-  holder_is-law i v (Held h) e =
+  holder_is-law : (i v : ℕ) (h : Option InVc) → holder_is i v h ≡ true → h ≡ Some (record { input = i; vc = v })
+  holder_is-law i v None e = absurd (false≢true e)
+  holder_is-law i v (Some h) e =
       let p = both (eqb h.input i) (eqb h.vc v) e in
-      ap₂ (λ (a b : ℕ). Held (record { input = a; vc = b })) (eqb-true h.input i p.0) (eqb-true h.vc v p.1)
+      ap₂ (λ (a b : ℕ). Some (record { input = a; vc = b })) (eqb-true h.input i p.0) (eqb-true h.vc v p.1)
 
   binding_is-law : (o w : ℕ) (b : Binding) → binding_is o w b ≡ true → b ≡ Bound (record { output = o; vc = w })
   binding_is-law o w Unbound e = absurd (false≢true e)
@@ -61,7 +60,7 @@ module _ (c : Config) (inputs : List InputVc) (outputs : List OutputVc) where
             p.1,
       )
 
-  output_names-law : (o w : ℕ) (h : InVc) → output_named c inputs o w (Held h) ≡ true → HeldBy o w h
+  output_names-law : (o w : ℕ) (h : InVc) → output_named c inputs o w (Some h) ≡ true → HeldBy o w h
   output_names-law o w h e =
       let p = both _ (binding_is o w (input_at c inputs h.input h.vc).binding) e in
       let q = both (ltb h.input c.ports) (ltb h.vc c.vcs) p.0 in (
@@ -78,9 +77,9 @@ module _ (c : Config) (inputs : List InputVc) (outputs : List OutputVc) where
       ap₂ ◌&&◌ (ap₂ ◌&&◌ (lt-ltb b.output c.ports p.0) (lt-ltb b.vc c.vcs p.1))
       (ap (holder_is i v) p.2 ∙ ap₂ ◌&&◌ (eq-eqb i i refl) (eq-eqb v v refl))
 
-  names_output : (o w : ℕ) (h : Holder) → ((by : InVc) → h ≡ Held by → HeldBy o w by) → output_named c inputs o w h ≡ true
-  names_output o w Nobody f = refl
-  names_output o w (Held h) f =
+  names_output : (o w : ℕ) (h : Option InVc) → ((by : InVc) → h ≡ Some by → HeldBy o w by) → output_named c inputs o w h ≡ true
+  names_output o w None f = refl
+  names_output o w (Some h) f =
       let p = f h refl in
       ap₂ ◌&&◌ (ap₂ ◌&&◌ (lt-ltb h.input c.ports p.0) (lt-ltb h.vc c.vcs p.1))
       (ap (binding_is o w) p.2 ∙ ap₂ ◌&&◌ (eq-eqb o o refl) (eq-eqb w w refl))
@@ -88,7 +87,7 @@ module _ (c : Config) (inputs : List InputVc) (outputs : List OutputVc) where
   -- the clause as facts: each bound input VC and each held output VC is named back
   pub record Agree : Type 0 where
     pub bound : (i v : ℕ) → i < c.ports → v < c.vcs → (b : OutVc) → (input_at c inputs i v).binding ≡ Bound b → BoundTo i v b
-    pub held : (o w : ℕ) → o < c.ports → w < c.vcs → (h : InVc) → (output_at c outputs o w).holder ≡ Held h → HeldBy o w h
+    pub held : (o w : ℕ) → o < c.ports → w < c.vcs → (h : InVc) → (output_at c outputs o w).holder ≡ Some h → HeldBy o w h
 
   pub names_agree-law : names_agree c inputs outputs ≡ true → Agree
   unfolding names_agree

@@ -4,7 +4,8 @@ use mathlib.Core.Path.{◌≡◌, refl, ap, ◌∙◌}
 use mathlib.Core.Logic.{◌≢◌}
 use mathlib.Core.Bool.{Bool, true, false, cond, ◌&&◌}
 use mathlib.Core.List.{List, [], ◌∷◌}
-use mathlib.Core.Option.{Option, some, none, some-injective, none-ne-some}
+use Rattle.std.specs.Prelude.{Option, Some, None}
+use Rattle.std.proofs.lemmas.Option.{same_Some, none-some}
 use Prim.Native.Nat.{ℕ, suc, ◌+◌, ◌*◌, ◌≤◌, ◌<◌}
 use native.Mathlib.Omega.{arith}
 use lib.Dec.{eqb}
@@ -32,10 +33,10 @@ offered part i v = cond (brings_on part i v) (flit_at part i ∷ []) []
 module _ (c : Config) (part : List ℕ) (s : Senders) where
   -- the VC on which port i brings a flit, and the place that it enters
   abbrev offering : ℕ → Option ℕ
-  offering i = cond (brings part i) (some (vc_at part i)) none
+  offering i = cond (brings part i) (Some (vc_at part i)) None
 
   abbrev entering : ℕ → Option ℕ
-  entering i = cond (brings part i) (some (newest c.forward i)) none
+  entering i = cond (brings part i) (Some (newest c.forward i)) None
 
   abbrev placed : ℕ → ℕ → ℕ
   placed i place = on_wire (vc_at part i) (flit_at part i)
@@ -50,7 +51,7 @@ module _ (c : Config) (part : List ℕ) (s : Senders) where
             inputs = set t.inputs (channel_number c i (vc_at part i)) (offer_taken (kind_at part i) (input_at c t.inputs i (vc_at part i)));
             wire = set t.wire (newest c.forward i) (on_wire (vc_at part i) (flit_at part i));
           }) t).inputs
-          ≡ changed (fresh_input 0) (offer_taken (kind_at part i)) (on_channel c i (cond b (some (vc_at part i)) none)) t.inputs
+          ≡ changed (fresh_input 0) (offer_taken (kind_at part i)) (on_channel c i (cond b (Some (vc_at part i)) None)) t.inputs
       go t i true = refl
       go t i false = refl
 
@@ -64,7 +65,7 @@ module _ (c : Config) (part : List ℕ) (s : Senders) where
             inputs = set t.inputs (channel_number c i (vc_at part i)) (offer_taken (kind_at part i) (input_at c t.inputs i (vc_at part i)));
             wire = set t.wire (newest c.forward i) (on_wire (vc_at part i) (flit_at part i));
           }) t).wire
-          ≡ changed 0 (placed i) (cond b (some (newest c.forward i)) none) t.wire
+          ≡ changed 0 (placed i) (cond b (Some (newest c.forward i)) None) t.wire
       go t i true = refl
       go t i false = refl
 
@@ -77,12 +78,12 @@ module _ (c : Config) (part : List ℕ) (s : Senders) where
   offers_keep see same = made_keeps taken see (λ i. same (kind_at part i))
 
   module _ (near : (i : ℕ) → i < c.ports → brings part i ≡ true → Offered c part i) where
-    there : (i v : ℕ) → i < c.ports → offering i ≡ some v → v < c.vcs
+    there : (i v : ℕ) → i < c.ports → offering i ≡ Some v → v < c.vcs
     there i v h e = go (brings part i) refl e
       where
-        go : (b : Bool) → brings part i ≡ b → cond b (some (vc_at part i)) none ≡ some v → v < c.vcs
-        go true p q = let l = (near i h p).vc in let r = some-injective (vc_at part i) v q in omega arith
-        go false p q = absurd (none-ne-some v q)
+        go : (b : Bool) → brings part i ≡ b → cond b (Some (vc_at part i)) None ≡ Some v → v < c.vcs
+        go true p q = let l = (near i h p).vc in let r = same_Some (vc_at part i) v q in omega arith
+        go false p q = absurd (none-some v q)
 
     -- the input VC on which a flit is brought pays for it, and no other
     pub offer_costs : (i v : ℕ) → i < c.ports → v < c.vcs → c.ports * c.vcs ≤ length s.inputs
@@ -90,7 +91,7 @@ module _ (c : Config) (part : List ℕ) (s : Senders) where
         ≡ cond (brings_on part i v) (offer_taken (kind_at part i) (input_at c s.inputs i v)) (input_at c s.inputs i v)
     offer_costs i v h g room = made_at taken there i v h g room ∙ go (brings part i)
       where
-        go : (b : Bool) → changed_at v (offer_taken (kind_at part i)) (cond b (some (vc_at part i)) none) (input_at c s.inputs i v)
+        go : (b : Bool) → changed_at v (offer_taken (kind_at part i)) (cond b (Some (vc_at part i)) None) (input_at c s.inputs i v)
             ≡ cond (b && eqb (vc_at part i) v) (offer_taken (kind_at part i) (input_at c s.inputs i v)) (input_at c s.inputs i v)
         go true = refl
         go false = refl
@@ -100,12 +101,12 @@ module _ (c : Config) (part : List ℕ) (s : Senders) where
     offers_past = made_past taken there
 
   -- the wire's newest place of a port that brings a flit holds it
-  enters_at : (j y : ℕ) → newest c.forward j ≢ y → entering j ≢ some y
+  enters_at : (j y : ℕ) → newest c.forward j ≢ y → entering j ≢ Some y
   enters_at j y n e = go (brings part j) e
     where
-      go : (b : Bool) → cond b (some (newest c.forward j)) none ≡ some y → ⊥
-      go true q = n (some-injective (newest c.forward j) y q)
-      go false q = none-ne-some y q
+      go : (b : Bool) → cond b (Some (newest c.forward j)) None ≡ Some y → ⊥
+      go true q = n (same_Some (newest c.forward j) y q)
+      go false q = none-some y q
 
   pub newest_place : (i k : ℕ) → i < c.ports → suc k ≡ c.forward → 8 * k + i < length s.wire
       → wire_place (offers c part s).wire k i ≡ cond (brings part i) (on_wire (vc_at part i) (flit_at part i)) (wire_place s.wire k i)
@@ -114,7 +115,7 @@ module _ (c : Config) (part : List ℕ) (s : Senders) where
       ∙ turns_at 0 entering placed c.ports s.wire (8 * k + i) i h room (λ j l n. enters_at j (8 * k + i) (λ q. n (omega arith)))
       ∙ go (brings part i)
     where
-      go : (b : Bool) → changed_at (8 * k + i) (placed i) (cond b (some (newest c.forward i)) none) (wire_place s.wire k i)
+      go : (b : Bool) → changed_at (8 * k + i) (placed i) (cond b (Some (newest c.forward i)) None) (wire_place s.wire k i)
           ≡ cond b (on_wire (vc_at part i) (flit_at part i)) (wire_place s.wire k i)
       go true =
           ap (λ (b : Bool). cond b (on_wire (vc_at part i) (flit_at part i)) (wire_place s.wire k i))

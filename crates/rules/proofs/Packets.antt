@@ -3,7 +3,7 @@
 use mathlib.Core.Path.{◌≡◌, refl, sym, ap, ap₂, ◌∙◌}
 use mathlib.Core.Bool.{Bool, true, false, cond, not, xor, beq, ◌&&◌, false≢true}
 use mathlib.Core.List.{List, [], ◌∷◌, ◌++◌, append_assoc}
-use mathlib.Core.Option.{some, none}
+use Rattle.std.specs.Prelude.{Some, None}
 use lib.Dec.{eqb}
 use Rattle.base.specs.declared.flit.Flit.{Flit}
 use Rattle.base.specs.Flit.{kind_of, destination_of, starts_kind, ends_kind}
@@ -28,7 +28,7 @@ start_stays [] more rest Unbound inside e = refl
 start_stays [] [] rest (Bound b) inside e = refl
 start_stays [] (f ∷ more) rest (Bound b) inside e = go (starts_kind (kind_of f)) e
   where
-    go : (starts : Bool) → ends_as inside (cond (xor true starts) (reading (not (ends_kind (kind_of f))) (more ++ rest)) none) ≡ true
+    go : (starts : Bool) → ends_as inside (cond (xor true starts) (reading (not (ends_kind (kind_of f))) (more ++ rest)) None) ≡ true
         → not (starts && eqb (destination_of f) b.output) ≡ true
     go true q = absurd (false≢true q)
     go false q = refl
@@ -49,18 +49,18 @@ same_beq false = refl
 -- a reading goes on with one flit more
 reading_on : (start inside : Bool) (fs : List Flit) (f : Flit) → ends_as inside (reading start fs) ≡ true
     → xor inside (starts_kind (kind_of f)) ≡ true
-    → reading start (fs ++ (f ∷ [])) ≡ some (not (ends_kind (kind_of f)))
+    → reading start (fs ++ (f ∷ [])) ≡ Some (not (ends_kind (kind_of f)))
 unfolding reading
 reading_on start inside [] f e turn =
-    ap (λ (b : Bool). cond (xor b (starts_kind (kind_of f))) (some (not (ends_kind (kind_of f)))) none) (beq_same start inside e)
-    ∙ ap (λ (b : Bool). cond b (some (not (ends_kind (kind_of f)))) none) turn
+    ap (λ (b : Bool). cond (xor b (starts_kind (kind_of f))) (Some (not (ends_kind (kind_of f)))) None) (beq_same start inside e)
+    ∙ ap (λ (b : Bool). cond b (Some (not (ends_kind (kind_of f)))) None) turn
 reading_on start inside (g ∷ fs) f e turn = go (xor start (starts_kind (kind_of g))) e
     (λ q. reading_on (not (ends_kind (kind_of g))) inside fs f q turn)
   where
-    go : (b : Bool) → ends_as inside (cond b (reading (not (ends_kind (kind_of g))) fs) none) ≡ true
+    go : (b : Bool) → ends_as inside (cond b (reading (not (ends_kind (kind_of g))) fs) None) ≡ true
         → (ends_as inside (reading (not (ends_kind (kind_of g))) fs) ≡ true
-        → reading (not (ends_kind (kind_of g))) (fs ++ (f ∷ [])) ≡ some (not (ends_kind (kind_of f))))
-        → cond b (reading (not (ends_kind (kind_of g))) (fs ++ (f ∷ []))) none ≡ some (not (ends_kind (kind_of f)))
+        → reading (not (ends_kind (kind_of g))) (fs ++ (f ∷ [])) ≡ Some (not (ends_kind (kind_of f))))
+        → cond b (reading (not (ends_kind (kind_of g))) (fs ++ (f ∷ []))) None ≡ Some (not (ends_kind (kind_of f)))
     go true q rest = rest q
     go false q rest = absurd (false≢true q)
 

@@ -3,7 +3,8 @@
 use mathlib.Core.Path.{◌≡◌, refl, sym, ap, ◌∙◌}
 use mathlib.Core.Bool.{Bool, true, false, cond, not, xor, beq, ◌&&◌}
 use mathlib.Core.List.{List}
-use mathlib.Core.Option.{some, some-injective, none-ne-some}
+use Rattle.std.specs.Prelude.{Some}
+use Rattle.std.proofs.lemmas.Option.{same_Some, none-some}
 use Prim.Native.Nat.{ℕ, zero, suc, ◌-◌, ◌≤◌, ◌<◌}
 use native.Mathlib.Omega.{arith}
 use lib.Dec.{eqb, leb, ltb}
@@ -21,7 +22,7 @@ use Rattle.rules.specs.Ports.{named}
 use Rattle.rules.specs.Intake.{senders_paid}
 use Rattle.rules.specs.Rows.{kind_at, vc_at, destination_at, credit_at, brings, row_zero, no_offer, legal_offer, row_legal}
 use Rattle.rules.specs.Numbers.{row_wrong, credit_past_room, out_of_turn, no_sender_credit, rules_of}
-use Rattle.rules.proofs.FirstRule.{None, none_from, none_first, none_rest}
+use Rattle.rules.proofs.FirstRule.{NoneHolds, none_from, none_first, none_rest}
 
 -- the second of two tests, where the first holds and both do not
 second_fails : (a b : Bool) → (a && b) ≡ false → a ≡ true → b ≡ false
@@ -37,7 +38,7 @@ pub record Offered (c : Config) (part : List ℕ) (i : ℕ) : Type 0 where
 -- a downstream credit names a VC that there is, which has room for it
 pub record CreditFits (c : Config) (outputs : List OutputVc) (part : List ℕ) (o : ℕ) : Type 0 where
   pub there : credit_at part o ≤ c.vcs
-  pub room : (w : ℕ) → named (credit_at part o) ≡ some w → (output_at c outputs o w).credit ≡ c.downstream → ⊥
+  pub room : (w : ℕ) → named (credit_at part o) ≡ Some w → (output_at c outputs o w).credit ≡ c.downstream → ⊥
 
 -- the flit may come next at its sender VC
 abbrev pub InTurn : Config → List InputVc → List ℕ → ℕ → Type 0
@@ -86,13 +87,13 @@ module _ (s : Router) (part : List ℕ) where
       record { there = leb-true (credit_at part o) c.vcs p.0; room = λ w. go w (credit_at part o) refl f }
     where
       go : (w k : ℕ) → credit_at part o ≡ k → (not (eqb k 0) && eqb (output_at c s.outputs o (k - 1)).credit c.downstream) ≡ false
-          → named k ≡ some w → (output_at c s.outputs o w).credit ≡ c.downstream → ⊥
-      go w zero r q n full = none-ne-some w n
+          → named k ≡ Some w → (output_at c s.outputs o w).credit ≡ c.downstream → ⊥
+      go w zero r q n full = none-some w n
       go w (suc k) r q n full =
-          let same = some-injective k w n in
+          let same = same_Some k w n in
           let here : w ≡ suc k - 1 = omega arith in
-          let some = ap not (ne_eqb (suc k) 0 (λ z. omega arith)) in
-          eqb-false (output_at c s.outputs o (suc k - 1)).credit c.downstream (second_fails (not (eqb (suc k) 0)) _ q some)
+          let Some = ap not (ne_eqb (suc k) 0 (λ z. omega arith)) in
+          eqb-false (output_at c s.outputs o (suc k - 1)).credit c.downstream (second_fails (not (eqb (suc k) 0)) _ q Some)
           (ap (λ (u : ℕ). (output_at c s.outputs o u).credit) (sym here) ∙ full)
 
   turn_comes : (i : ℕ) → out_of_turn c s.inputs part i ≡ false → brings part i ≡ true
@@ -120,7 +121,7 @@ module _ (s : Router) (part : List ℕ) where
       go (suc n) q = omega arith
 
   -- where no rule holds, the rows say so
-  pub none_permits : Legal c → None (rules_of s part) → Permitted s part
+  pub none_permits : Legal c → NoneHolds (rules_of s part) → Permitted s part
   none_permits legal none =
       let three = row_legal-law legal (none_first (none_rest (none_from numbers.row_wrong (rules_of s part) none))) in
       record {

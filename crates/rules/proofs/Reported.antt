@@ -3,44 +3,44 @@
 use mathlib.Core.Path.{◌≡◌, refl, ap, ◌∙◌}
 use mathlib.Core.Bool.{cond}
 use mathlib.Core.List.{List}
-use mathlib.Core.Option.{Option, some, none, some-injective}
+use Rattle.std.specs.Prelude.{Option, Some, None}
+use Rattle.std.proofs.lemmas.Option.{same_Some}
 use Prim.Native.Nat.{ℕ, ◌≤◌, ◌<◌}
 use native.Mathlib.Omega.{arith}
 use lib.ListN.{length, get_or, replicate, length-replicate, get_or-replicate}
 use borrow.Author.Tests.{eq-eqb}
 use Rattle.base.specs.declared.config.Config.{Config}
-use Rattle.base.specs.declared.reply.Sender.{Sender}
 use Rattle.state.specs.Views.{home_place}
 use Rattle.rules.specs.Ports.{named}
-use Rattle.rules.specs.Intake.{reaching, reported}
+use Rattle.rules.specs.Intake.{reported}
 use Rattle.rules.proofs.Folds.{turns_length, turns_at, turns_elsewhere}
 
 module _ (c : Config) (home : List ℕ) where
   -- port i reports at its own place
   abbrev here : ℕ → Option ℕ
-  here i = some i
+  here i = Some i
 
-  abbrev says : ℕ → Sender → Sender
-  says i sender = reaching (named (home_place home 0 i))
+  abbrev says : ℕ → Option ℕ → Option ℕ
+  says i sender = named (home_place home 0 i)
 
   pub reported_length : length (reported c home) ≡ 8
   unfolding reported
   reported_length =
-      turns_length (reaching none) here says c.ports (replicate 8 (reaching none)) ∙ length-replicate 8 (reaching none)
+      turns_length None here says c.ports (replicate 8 None) ∙ length-replicate {A = Option ℕ} 8 None
 
   -- a port reports the VC that the home line's oldest place names, if it names one
-  pub reported_at : (i : ℕ) → i < c.ports → c.ports ≤ 8 → get_or (reported c home) i (reaching none) ≡ reaching (named (home_place home 0 i))
+  pub reported_at : (i : ℕ) → i < c.ports → c.ports ≤ 8 → get_or (reported c home) i None ≡ named (home_place home 0 i)
   unfolding reported
   reported_at i h few =
-      let l = length-replicate 8 (reaching none) in
-      turns_at (reaching none) here says c.ports (replicate 8 (reaching none)) i i h (omega arith)
-      (λ j k n e. n (some-injective j i e))
-      ∙ ap (λ b. cond b (reaching (named (home_place home 0 i))) (get_or (replicate 8 (reaching none)) i (reaching none))) (eq-eqb i i refl)
+      let l = length-replicate {A = Option ℕ} 8 None in
+      turns_at None here says c.ports (replicate 8 None) i i h (omega arith)
+      (λ j k n e. n (same_Some j i e))
+      ∙ ap (λ b. cond b (named (home_place home 0 i)) (get_or (replicate 8 None) i None)) (eq-eqb i i refl)
 
   -- any other reports none
-  pub reported_past : (i : ℕ) → c.ports ≤ i → i < 8 → get_or (reported c home) i (reaching none) ≡ reaching none
+  pub reported_past : (i : ℕ) → c.ports ≤ i → i < 8 → get_or (reported c home) i None ≡ None
   unfolding reported
   reported_past i h l =
-      turns_elsewhere (reaching none) here says c.ports (replicate 8 (reaching none)) i
-      (λ j k e. let q = some-injective j i e in absurd (omega arith))
-      ∙ get_or-replicate 8 i (reaching none) (reaching none) l
+      turns_elsewhere None here says c.ports (replicate 8 None) i
+      (λ j k e. let q = same_Some j i e in absurd (omega arith))
+      ∙ get_or-replicate 8 i None None l

@@ -23,7 +23,7 @@ use Rattle.rules.specs.Allocation.{input_pick, output_pick, switched}
 use Rattle.rules.specs.Departures.{leaving_of}
 use Rattle.rules.specs.Step.{sent_out}
 use Rattle.rules.proofs.Acts.{Untouched, touched_or_not}
-use Rattle.rules.proofs.Arbiters.{narrow_moved_sound, narrow_beyond, arbiters_kept, unused_arbiters_kept}
+use Rattle.rules.proofs.Arbiters.{arbiters_moved_sound, arbiters_beyond, arbiters_kept, unused_arbiters_kept}
 use Rattle.rules.proofs.Channels.{channel_at, all_channels, channel_below}
 use Rattle.rules.proofs.Exits.{exit, exit_is}
 use Rattle.rules.proofs.Facts.{sound_lengths}
@@ -155,12 +155,12 @@ module _ (s : Router) (sound : Sound s) where
             record {
               arbiters =
                   arbiters_kept c (switched s) s.arbiters sound.arbitration.arbiters (λ o h e. e)
-                  (λ i h e. narrow_moved_sound c c.vcs (input_pick s) i s.arbiters.inputs h e)
-                  (λ o h e. narrow_moved_sound c c.ports (output_pick s) o s.arbiters.outputs h e);
+                  (λ i h e. arbiters_moved_sound 8 c c.vcs (input_pick s) i (omega arith) s.arbiters.inputs h e)
+                  (λ o h e. arbiters_moved_sound 8 c c.ports (output_pick s) o (omega arith) s.arbiters.outputs h e);
               others =
                   unused_arbiters_kept c (switched s) s.arbiters (λ o h. refl)
-                  (λ i h. narrow_beyond c c.vcs (input_pick s) i s.arbiters.inputs h)
-                  (λ o h. narrow_beyond c c.ports (output_pick s) o s.arbiters.outputs h)
+                  (λ i h. arbiters_beyond 8 c c.vcs (input_pick s) i s.arbiters.inputs h)
+                  (λ o h. arbiters_beyond 8 c c.ports (output_pick s) o s.arbiters.outputs h)
                   ∙ sound.arbitration.others;
             };
       }

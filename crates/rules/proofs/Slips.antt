@@ -1,11 +1,12 @@
 -- "Slips the work has to exclude" (01), each a theorem about an accepted cycle, of its router and its reply. That a refused cycle has moved
 -- nothing is `refused_leaves` of Exactness.
 -- Assumes nothing.
+use Rattle.std.specs.Prelude.{None, Ok}
 use mathlib.Core.Path.{◌≡◌, refl, sym, ap, ◌∙◌}
 use mathlib.Core.Logic.{◌⊎◌, inl, inr, ◌↔◌}
 use mathlib.Core.Bool.{true, false, true≢false}
 use mathlib.Core.List.{List}
-use mathlib.Core.Option.{some}
+use Rattle.std.specs.Prelude.{Some}
 use Prim.Native.Nat.{ℕ, zero, suc, ◌+◌, ◌-◌, ◌<◌}
 use native.Mathlib.Omega.{arith}
 use lib.Dec.{eqb}
@@ -16,7 +17,6 @@ use Rattle.base.specs.Flit.{kind_of, destination_of, starts_kind, ends_kind}
 use Rattle.base.proofs.Search.{both}
 use Rattle.state.specs.declared.InVc.{InVc}
 use Rattle.state.specs.declared.Binding.TheVariants.{Bound}
-use Rattle.state.specs.declared.Holder.TheVariants.{Nobody, Held}
 use Rattle.state.specs.declared.InputVc.{InputVc}
 use Rattle.state.specs.declared.OutputVc.{OutputVc}
 use Rattle.state.specs.declared.Router.{Router}
@@ -25,7 +25,6 @@ use Rattle.state.specs.Sound.{Sound, front_is_for}
 use Rattle.store.specs.Store.{first_slot}
 use Rattle.state.specs.Views.{channel_number, input_at, output_at, home_place, queue_at, queue_of}
 use Rattle.trace.specs.Bytes.{AreBytes}
-use Rattle.rules.specs.declared.Verdict.TheVariants.{Accepted}
 use Rattle.rules.specs.declared.Stepped.{Stepped}
 use Rattle.rules.specs.Allocation.{Grant, grant_of, allocated}
 use Rattle.rules.specs.Departures.{leaving_of}
@@ -39,7 +38,7 @@ use Rattle.rules.proofs.Exits.{Exit, exit, exit_is, exits_differ}
 use Rattle.rules.proofs.Facts.{sound_legal}
 use Rattle.rules.proofs.Grants.{grant_is}
 use Rattle.rules.proofs.IntakeViews as intake
-use Rattle.rules.proofs.Left.{ends, no_output}
+use Rattle.rules.proofs.Left.{ends}
 use Rattle.rules.proofs.LeftHome.{Sends, from_input, newest_sent, newest_stays, older_stays}
 use Rattle.rules.proofs.LeftNames.{Leaves, Passes, Holds, exit_named, holder_after, frees, stays_held}
 use Rattle.rules.proofs.LeftPackets.{exit_front}
@@ -47,7 +46,7 @@ use Rattle.rules.proofs.Naming.{nobody_not}
 use Rattle.rules.proofs.Accepted.{readied, accepted_none, accepted_before, accepted_steps, taken_sound, readied_newest}
 use Rattle.rules.proofs.Departed.{LeavesBy, LeftFrom, report_of, same_flit, mid_sound, reported_exits, exits_reported}
 
-module _ (s : Router) (part : List ℕ) (bytes : AreBytes part) (accepted : (step_of s part).verdict ≡ Accepted) where
+module _ (s : Router) (part : List ℕ) (bytes : AreBytes part) (accepted : (step_of s part).verdict ≡ Ok tt) where
   abbrev c : Config
   c = s.config
 
@@ -59,7 +58,7 @@ module _ (s : Router) (part : List ℕ) (bytes : AreBytes part) (accepted : (ste
   sound = mid_sound s part bytes accepted
 
   -- of the router and the reply, what is seen of an accepted cycle
-  seen : {B : Type 0} (see : Stepped → B) → see (step_of s part) ≡ see (step_by Accepted part s)
+  seen : {B : Type 0} (see : Stepped → B) → see (step_of s part) ≡ see (step_by (Ok tt) part s)
   seen see = ap see (accepted_steps s part bytes accepted)
 
   -- "A credit sent home when the flit is queued instead of when it leaves": the newest place of input i is 1 + VC exactly if the reply
@@ -128,23 +127,23 @@ module _ (s : Router) (part : List ℕ) (bytes : AreBytes part) (accepted : (ste
   binding_before = intake.binding_after s part (accepted_before s part bytes accepted) (accepted_none s part bytes accepted) bytes
 
   -- "An output VC freed by the tail and given out in the same cycle": what output o grants in a cycle was free before it
-  pub granted_was_free : (o : ℕ) (g : Grant) → grant_of (taken_in part s) o ≡ some g → (output_at c s.outputs o g.vc).holder ≡ Nobody
+  pub granted_was_free : (o : ℕ) (g : Grant) → grant_of (taken_in part s) o ≡ Some g → (output_at c s.outputs o g.vc).holder ≡ None
   unfolding taken_in offers_taken landed credits_returned credits_reached
   granted_was_free o g q = sym (holder_before (channel_number c o g.vc)) ∙ (grant_is (taken_in part s) o g q).free
 
   -- so an output VC that is held after a cycle was held by the same input VC before it, or free
-  pub given_out_was_free : (o w : ℕ) (h : InVc) → (output_at c (step_of s part).router.outputs o w).holder ≡ Held h
-      → ((output_at c s.outputs o w).holder ≡ Held h) ⊎ ((output_at c s.outputs o w).holder ≡ Nobody)
+  pub given_out_was_free : (o w : ℕ) (h : InVc) → (output_at c (step_of s part).router.outputs o w).holder ≡ Some h
+      → ((output_at c s.outputs o w).holder ≡ Some h) ⊎ ((output_at c s.outputs o w).holder ≡ None)
   unfolding router_after sent_out allocated taken_in offers_taken landed credits_returned credits_reached
   given_out_was_free o w h q = go (holder_after mid sound (channel_number c o w)) (given_or_not (taken_in part s) (channel_number c o w))
     where
-      later : (output_at c (leaving_of mid).outputs o w).holder ≡ Held h
+      later : (output_at c (leaving_of mid).outputs o w).holder ≡ Some h
       later = sym (seen (λ (x : Stepped). (output_at c x.router.outputs o w).holder)) ∙ q
 
       go : Holds mid sound (channel_number c o w)
           → Actor (grant_of (taken_in part s)) (giving (taken_in part s)) c.ports (channel_number c o w)
           ⊎ Untouched (grant_of (taken_in part s)) (giving (taken_in part s)) c.ports (channel_number c o w)
-          → ((output_at c s.outputs o w).holder ≡ Held h) ⊎ ((output_at c s.outputs o w).holder ≡ Nobody)
+          → ((output_at c s.outputs o w).holder ≡ Some h) ⊎ ((output_at c s.outputs o w).holder ≡ None)
       go (frees a e f) m = absurd (nobody_not (output_at c (leaving_of mid).outputs o w).holder h f later)
       go (stays_held e f) (inl a) =
           inr (ap (λ (x : ℕ). (get_or s.outputs x (fresh_output 0)).holder) (sym a.there)
@@ -156,7 +155,7 @@ module _ (s : Router) (part : List ℕ) (bytes : AreBytes part) (accepted : (ste
 
   -- and what T or S leaves by is free after it
   pub freed_not_granted : (o : ℕ) (d : Departure) → LeavesBy (step_of s part).reply o d → ends_kind d.kind ≡ true
-      → (output_at c (step_of s part).router.outputs o d.out_vc).holder ≡ Nobody
+      → (output_at c (step_of s part).router.outputs o d.out_vc).holder ≡ None
   unfolding router_after sent_out allocated taken_in offers_taken landed credits_returned credits_reached
   freed_not_granted o d l e =
       let a = reported_exits s part bytes accepted o d l in
@@ -169,7 +168,7 @@ module _ (s : Router) (part : List ℕ) (bytes : AreBytes part) (accepted : (ste
       ∙ go actor over (holder_after mid sound (channel_number c o a.0.by))
     where
       go : {x : ℕ} (a : Passes mid sound x) → ends a.deed ≡ true → Holds mid sound x
-          → (get_or (leaving_of mid).outputs x (fresh_output 0)).holder ≡ Nobody
+          → (get_or (leaving_of mid).outputs x (fresh_output 0)).holder ≡ None
       go a over (frees b q f) = f
       go a over (stays_held not_over f) = absurd (true≢false (sym over ∙ not_over a))
 
@@ -185,7 +184,7 @@ module _ (s : Router) (part : List ℕ) (bytes : AreBytes part) (accepted : (ste
       (granted_or_not (taken_in part s) (channel_number c a.0.input a.0.vc))
       ∙ ap (λ (x : Departure). Bound (record { output = o; vc = x.out_vc })) a.2
     where
-      go : (x : Exit) → exit mid o ≡ some x → starts_kind (kind_of x.flit) ≡ false
+      go : (x : Exit) → exit mid o ≡ Some x → starts_kind (kind_of x.flit) ≡ false
           → Actor (grant_of (taken_in part s)) (asking (taken_in part s)) c.ports (channel_number c x.input x.vc)
           ⊎ Untouched (grant_of (taken_in part s)) (asking (taken_in part s)) c.ports (channel_number c x.input x.vc)
           → (input_at c s.inputs x.input x.vc).binding ≡ Bound (record { output = o; vc = x.by })
@@ -222,6 +221,6 @@ module _ (s : Router) (part : List ℕ) (bytes : AreBytes part) (accepted : (ste
       exits_differ mid o p a.0 b.0 a.1 b.1 (ap (λ (x : Departure). x.input) a.2 ∙ same
       ∙ sym (ap (λ (x : Departure). x.input) b.2)) in (
         one,
-        same_flit (get_or (step_of s part).reply.outputs p no_output).left d e
-            (ap (λ (n : ℕ). (get_or (step_of s part).reply.outputs n no_output).left) (sym one) ∙ l) m,
+        same_flit (get_or (step_of s part).reply.outputs p None) d e
+            (ap (λ (n : ℕ). (get_or (step_of s part).reply.outputs n None)) (sym one) ∙ l) m,
       )

@@ -1,10 +1,11 @@
 -- A channel after an accepted cycle, in the free router's words: what the arbiters choose decides what it is bound to and whether its front
 -- leaves, and all else follows.
 -- Assumes nothing.
+use Rattle.std.specs.Prelude.{Ok}
 use mathlib.Core.Path.{◌≡◌, refl, sym, ap, ap₂, ◌∙◌}
 use mathlib.Core.Bool.{Bool, cond, not, ◌&&◌}
 use mathlib.Core.List.{List, [], ◌++◌}
-use mathlib.Core.Option.{Option, none}
+use Rattle.std.specs.Prelude.{Option, None}
 use Prim.Native.Nat.{ℕ, ◌+◌, ◌-◌, ◌<◌}
 use lib.ListN.{length, drop}
 use Rattle.base.specs.declared.config.Config.{Config}
@@ -19,7 +20,6 @@ use Rattle.state.specs.Channels.{ChannelView, bound_to, channel_view}
 use Rattle.state.specs.Sound.{Sound}
 use Rattle.state.specs.Views.{channel_number, input_at, output_at, queue_of, home_of, to_vc}
 use Rattle.trace.specs.Bytes.{AreBytes}
-use Rattle.rules.specs.declared.Verdict.TheVariants.{Accepted}
 use Rattle.rules.specs.declared.Stepped.{Stepped}
 use Rattle.rules.specs.Allocation as allocation
 use Rattle.rules.specs.Allocation.{allocated}
@@ -46,10 +46,10 @@ stepped_view ch offered opened grant leaves =
       queue = drop (one leaves) (ch.queue ++ out [] ch.wire);
       home = shift ch.home (one leaves);
       opened = opened;
-      bound = cond (leaves && front_ends (ch.queue ++ out [] ch.wire)) none (now_bound grant ch.bound);
+      bound = cond (leaves && front_ends (ch.queue ++ out [] ch.wire)) None (now_bound grant ch.bound);
     }
 
-module _ (s : Router) (part : List ℕ) (bytes : AreBytes part) (accepted : (step_of s part).verdict ≡ Accepted) where
+module _ (s : Router) (part : List ℕ) (bytes : AreBytes part) (accepted : (step_of s part).verdict ≡ Ok tt) where
   abbrev c : Config
   c = s.config
 
@@ -108,7 +108,7 @@ module _ (s : Router) (part : List ℕ) (bytes : AreBytes part) (accepted : (ste
         ∙ inside_after s part before free bytes i v port vc in
         let bound =
         bound_left mid sound i v port vc
-        ∙ ap₂ (λ (q : List Flit) (b : Option OutVc). cond (leaves_from mid x && front_ends q) none b) queue_mid bound_mid in
+        ∙ ap₂ (λ (q : List Flit) (b : Option OutVc). cond (leaves_from mid x && front_ends q) None b) queue_mid bound_mid in
         ap (λ (y : Stepped). channel_view y.router i v) (accepted_steps s part bytes accepted)
         ∙ (λ t. record { taken = taken t; wire = wire t; queue = queue t; home = home t; opened = opened t; bound = bound t })
 

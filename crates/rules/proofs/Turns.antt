@@ -5,7 +5,8 @@ use mathlib.Core.Path.{◌≡◌, refl, sym, ap, ◌∙◌}
 use mathlib.Core.Logic.{◌≢◌}
 use mathlib.Core.Bool.{Bool, true, false, cond}
 use mathlib.Core.List.{List}
-use mathlib.Core.Option.{Option, some, none, some-injective, none-ne-some}
+use Rattle.std.specs.Prelude.{Option, Some, None}
+use Rattle.std.proofs.lemmas.Option.{same_Some, none-some}
 use Prim.Native.Nat.{ℕ, zero, suc, ◌*◌, ◌≤◌, ◌<◌}
 use native.Mathlib.Nat.{lt_of_lt_of_le}
 use native.Mathlib.Omega.{arith}
@@ -68,8 +69,8 @@ module _ {A B : Type 0} (d : A) (see : A → B) where
   -- what a change of one element keeps of it is kept of all elements
   changed_keeps : (g : A → A) (o : Option ℕ) (xs : List A) (y : ℕ) → ((a : A) → see (g a) ≡ see a)
       → see (get_or (changed d g o xs) y d) ≡ see (get_or xs y d)
-  changed_keeps g none xs y e = refl
-  changed_keeps g (some x) xs y e = go (eqb x y) refl
+  changed_keeps g None xs y e = refl
+  changed_keeps g (Some x) xs y e = go (eqb x y) refl
     where
       there : (b : Bool) → ltb y (length xs) ≡ b → see (get_or (set xs y (g (get_or xs y d))) y d) ≡ see (get_or xs y d)
       there true l = ap see (get_or-set_same xs y (g (get_or xs y d)) d (ltb-true y (length xs) l)) ∙ e (get_or xs y d)
@@ -87,8 +88,8 @@ module _ {A B : Type 0} (d : A) (see : A → B) where
 
 -- the number of the VC that a port names, if it names one
 abbrev pub on_channel : Config → ℕ → Option ℕ → Option ℕ
-on_channel c i none = none
-on_channel c i (some v) = some (channel_number c i v)
+on_channel c i None = None
+on_channel c i (Some v) = Some (channel_number c i v)
 
 -- a list with an element for each channel, of which port i has changed the one of the VC that it names
 abbrev pub by_port : {A : Type 0} → Config → A → (ℕ → Option ℕ) → (ℕ → A → A) → List A → ℕ → List A
@@ -109,13 +110,13 @@ module _ {A : Type 0} {c : Config} {d : A} {vc : ℕ → Option ℕ} {g : ℕ �
       ap (λ (l : List A). see (get_or l y d)) made.is
       ∙ turns_keep d see (λ (i : ℕ). on_channel c i (vc i)) g c.ports before y same
 
-  module _ (there : (i v : ℕ) → i < c.ports → vc i ≡ some v → v < c.vcs) where
-    elsewhere : (y j : ℕ) → j < c.ports → ((u : ℕ) → u < c.vcs → channel_number c j u ≢ y) → on_channel c j (vc j) ≢ some y
+  module _ (there : (i v : ℕ) → i < c.ports → vc i ≡ Some v → v < c.vcs) where
+    elsewhere : (y j : ℕ) → j < c.ports → ((u : ℕ) → u < c.vcs → channel_number c j u ≢ y) → on_channel c j (vc j) ≢ Some y
     elsewhere y j l n e = go (vc j) refl e
       where
-        go : (o : Option ℕ) → vc j ≡ o → on_channel c j o ≡ some y → ⊥
-        go none q r = none-ne-some y r
-        go (some u) q r = n u (there j u l q) (some-injective (channel_number c j u) y r)
+        go : (o : Option ℕ) → vc j ≡ o → on_channel c j o ≡ Some y → ⊥
+        go None q r = none-some y r
+        go (Some u) q r = n u (there j u l q) (same_Some (channel_number c j u) y r)
 
     -- VC v of port i is changed by port i alone, if it names v
     pub made_at : (i v : ℕ) → i < c.ports → v < c.vcs → c.ports * c.vcs ≤ length before
@@ -129,8 +130,8 @@ module _ {A : Type 0} {c : Config} {d : A} {vc : ℕ → Option ℕ} {g : ℕ �
       where
         go : (o : Option ℕ) → changed_at (channel_number c i v) (g i) (on_channel c i o) (get_or before (channel_number c i v) d)
             ≡ changed_at v (g i) o (get_or before (channel_number c i v) d)
-        go none = refl
-        go (some u) = ap (λ (b : Bool). cond b (g i (get_or before (channel_number c i v) d)) (get_or before (channel_number c i v) d))
+        go None = refl
+        go (Some u) = ap (λ (b : Bool). cond b (g i (get_or before (channel_number c i v) d)) (get_or before (channel_number c i v) d))
             (channel_same c i v u)
 
     -- what is no channel's stays

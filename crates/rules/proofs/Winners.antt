@@ -3,12 +3,12 @@
 use mathlib.Core.Path.{◌≡◌, refl, sym, ap, ap₂, ◌∙◌}
 use mathlib.Core.Logic.{◌≢◌}
 use mathlib.Core.Bool.{true, not, false≢true}
-use mathlib.Core.Option.{Option, some, none, some-injective, none-ne-some}
+use Rattle.std.specs.Prelude.{Option, Some, None}
+use Rattle.std.proofs.lemmas.Option.{same_Some, none-some}
 use Prim.Native.Nat.{ℕ, ◌<◌}
 use lib.Dec.{eqb}
 use borrow.Author.Tests.{eqb-true, eqb-false, not-true}
 use Rattle.base.proofs.Search.{both}
-use Rattle.arbiter.specs.Arbiter.{of_narrow}
 use Rattle.arbiter.proofs.Winners.{winner_asks}
 use Rattle.state.specs.declared.InVc.{InVc}
 use Rattle.state.specs.declared.OutVc.{OutVc}
@@ -19,17 +19,17 @@ use Rattle.state.specs.Views.{input_at, output_at, input_arbiter, output_arbiter
 use Rattle.rules.specs.Allocation.{has_credit, is_ready, ready, input_pick, is_for, picked, request, output_pick, winning, vc_of, winner}
 
 -- what an input picks is one of its VCs, and ready
-pub pick_ready : (s : Router) (i v : ℕ) → input_pick s i ≡ some v
+pub pick_ready : (s : Router) (i v : ℕ) → input_pick s i ≡ Some v
     → (v < s.config.vcs) × (ready s.config s.inputs s.outputs i v ≡ true)
 unfolding input_pick
 pick_ready s i v e =
     winner_asks 8 s.config.arbiter s.config.vcs (ready s.config s.inputs s.outputs i)
-    (of_narrow (input_arbiter s.arbiters i)) v e
+    (input_arbiter s.arbiters i) v e
 
 -- the winner x of output o: its input's pick, bound to a VC of o that has credit, and with a flit to send
 pub record Wins (s : Router) (o : ℕ) (x : InVc) : Type 0 where
   pub input_below : x.input < s.config.ports
-  pub picks : input_pick s x.input ≡ some x.vc
+  pub picks : input_pick s x.input ≡ Some x.vc
   pub vc_below : x.vc < s.config.vcs
   pub to : OutVc
   pub bound : (input_at s.config s.inputs x.input x.vc).binding ≡ Bound to
@@ -43,20 +43,20 @@ for_is o Unbound e = absurd (false≢true e)
 for_is o (Bound to) e = (to, refl, eqb-true to.output o e)
 
 -- the pick of the row that an output picks
-winner_from : (pick : ℕ → Option ℕ) (row : Option ℕ) (x : InVc) → vc_of pick row ≡ some x → (row ≡ some x.input)
-    × (pick x.input ≡ some x.vc)
-winner_from pick none x e = absurd (none-ne-some x e)
-winner_from pick (some i) x e = go (pick i) refl e
+winner_from : (pick : ℕ → Option ℕ) (row : Option ℕ) (x : InVc) → vc_of pick row ≡ Some x → (row ≡ Some x.input)
+    × (pick x.input ≡ Some x.vc)
+winner_from pick None x e = absurd (none-some x e)
+winner_from pick (Some i) x e = go (pick i) refl e
   where
-    go : (p : Option ℕ) → pick i ≡ p → winning i p ≡ some x → (some i ≡ some x.input) × (pick x.input ≡ some x.vc)
-    go none q f = absurd (none-ne-some x f)
-    go (some v) q f =
-        let r = some-injective (record { input = i; vc = v }) x f in
-        (ap (λ (y : InVc). some y.input) r, ap (λ (y : InVc). pick y.input) (sym r) ∙ q ∙ ap (λ (y : InVc). some y.vc) r)
+    go : (p : Option ℕ) → pick i ≡ p → winning i p ≡ Some x → (Some i ≡ Some x.input) × (pick x.input ≡ Some x.vc)
+    go None q f = absurd (none-some x f)
+    go (Some v) q f =
+        let r = same_Some (record { input = i; vc = v }) x f in
+        (ap (λ (y : InVc). Some y.input) r, ap (λ (y : InVc). pick y.input) (sym r) ∙ q ∙ ap (λ (y : InVc). Some y.vc) r)
 
-module _ (s : Router) (o : ℕ) (x : InVc) (won : winner s o ≡ some x) where
+module _ (s : Router) (o : ℕ) (x : InVc) (won : winner s o ≡ Some x) where
   -- who wins is its input's one pick, of the row that the output picked
-  pub winner_picked : (output_pick s o ≡ some x.input) × (input_pick s x.input ≡ some x.vc)
+  pub winner_picked : (output_pick s o ≡ Some x.input) × (input_pick s x.input ≡ Some x.vc)
   unfolding winner
   winner_picked = winner_from (input_pick s) (output_pick s o) x won
 
@@ -65,7 +65,7 @@ module _ (s : Router) (o : ℕ) (x : InVc) (won : winner s o ≡ some x) where
   unfolding output_pick request
   winner_bound_here =
       let c = s.config in
-      let row = winner_asks 8 c.arbiter c.ports (λ (i : ℕ). request s i o) (of_narrow (output_arbiter s.arbiters o)) x.input
+      let row = winner_asks 8 c.arbiter c.ports (λ (i : ℕ). request s i o) (output_arbiter s.arbiters o) x.input
       winner_picked.0 in
       (row.0, ap (picked c s.inputs x.input o) (sym winner_picked.1) ∙ row.1)
 
@@ -92,12 +92,12 @@ module _ (s : Router) (o : ℕ) (x : InVc) (won : winner s o ≡ some x) where
       }
 
 -- two outputs with winners of the same input are the same output: an input has one pick, and that is bound to one output
-pub winners_differ : (s : Router) (o p : ℕ) (x y : InVc) → winner s o ≡ some x → winner s p ≡ some y → x.input ≡ y.input → (o ≡ p)
+pub winners_differ : (s : Router) (o p : ℕ) (x y : InVc) → winner s o ≡ Some x → winner s p ≡ Some y → x.input ≡ y.input → (o ≡ p)
     × (x.vc ≡ y.vc)
 winners_differ s o p x y e f same =
     let a = winner_is s o x e in
     let b = winner_is s p y f in
-    let vc : x.vc ≡ y.vc = some-injective x.vc y.vc (sym a.picks ∙ ap (input_pick s) same ∙ b.picks) in
+    let vc : x.vc ≡ y.vc = same_Some x.vc y.vc (sym a.picks ∙ ap (input_pick s) same ∙ b.picks) in
     let one : Bound a.to ≡ Bound b.to =
     sym a.bound ∙ ap₂ (λ (i v : ℕ). (input_at s.config s.inputs i v).binding) same vc ∙ b.bound in
     let to : a.to ≡ b.to = cc in

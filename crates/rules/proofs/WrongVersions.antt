@@ -1,27 +1,28 @@
 -- What each edit under must-fail makes of its definition, kept alone under a wrong name, and by value a sound router or a part where the
 -- two differ.
 -- Assumes nothing.
-use mathlib.Core.Path.{◌≡◌, refl}
+use Rattle.std.specs.Prelude.{Ok, Err}
+use mathlib.Core.Path.{◌≡◌, refl, sym}
 use mathlib.Core.Bool.{Bool, true, false, cond, not, xor, ◌&&◌, true≢false, false≢true}
 use mathlib.Core.List.{List, [], ◌∷◌}
-use mathlib.Core.Option
-use mathlib.Core.Option.{Option, some, none, map, some-injective, some-ne-none, none-ne-some}
+use Rattle.std.specs.Prelude.{Option, Some, None}
+use Rattle.std.proofs.lemmas.Option.{same_Some, none-some}
+use Rattle.std.specs.Prelude.{option_map, unwrap_or}
 use Prim.Native.Nat.{ℕ, ◌+◌, ◌-◌}
 use lib.Dec.{eqb, leb}
 use lib.ListN.{get_or, set, replicate}
 use borrow.Author.Tests.{eqb-false}
 use Rattle.base.specs.declared.config.Config.{Config}
-use Rattle.base.specs.declared.reply.Left.TheVariants as left
 use Rattle.base.specs.declared.reply.Departure.{Departure}
 use Rattle.base.specs.Flit.{flit_of, kind_of, destination_of, payload_of, starts_kind, ends_kind}
 use Rattle.base.specs.Numbers as numbers
-use Rattle.base.specs.Reply.{departure_of, empty_reply}
+use Rattle.base.specs.Reply.{empty_reply}
 use Rattle.base.specs.Search.{first_from, every, or_else}
 use Rattle.base.specs.Sizes.{in_range, first_illegal, illegal_field}
 use Rattle.arbiter.specs.RoundRobin.{next_in_turn, pointer_after}
 use Rattle.arbiter.specs.Matrix.{blank_from}
 use Rattle.arbiter.specs.Arbiter as arbiter
-use Rattle.arbiter.specs.Arbiter.{of_narrow, choice}
+use Rattle.arbiter.specs.Arbiter.{choice}
 use Rattle.state.specs.declared.InVc.{InVc}
 use Rattle.state.specs.declared.Binding.{Binding}
 use Rattle.state.specs.declared.Binding.TheVariants.{Unbound, Bound}
@@ -39,17 +40,17 @@ use Rattle.state.proofs.SoundStates.{with_input, with_output, with_slot, with_wi
 use Rattle.state.proofs.SoundStates.{held, single, body, on, stored, queue}
 use Rattle.store.specs.Store.{front_of, pushed, moved_up, popped}
 use Rattle.trace.specs.Bytes.{big_endian}
-use Rattle.rules.specs.declared.Verdict.{Verdict}
-use Rattle.rules.specs.declared.Verdict.TheVariants.{Accepted, Refused}
+use Rattle.base.specs.Refusal.{Verdict}
 use Rattle.rules.specs.declared.Stepped.{Stepped}
 use Rattle.rules.specs.Ports.{over_ports}
 use Rattle.rules.specs.Rows.{row_zero, no_offer, legal_offer, row_legal}
 use Rattle.rules.specs.Intake.{newest, advanced, senders_paid, credits_reached, outputs_paid, credits_returned, landings, landed, offers}
 use Rattle.rules.specs.Intake.{offers_taken}
-use Rattle.rules.specs.Allocation.{asks, lowest_free_vc, grant_of, bindings, wide_moved, narrow_moved, allocated, is_ready, ready, input_pick}
+use Rattle.rules.specs.Allocation.{asks, lowest_free_vc, grant_of, bindings, arbiters_moved, allocated, is_ready, ready, input_pick}
 use Rattle.rules.specs.Allocation.{is_for, request, output_pick, switched, vc_of, winner}
 use Rattle.rules.specs.Departures.{Leaving, input_left, departed, goes_out, departures, leaving_of}
-use Rattle.rules.specs.Numbers.{Rule, rule2, rules_for, rules_of, refusing, first_of, number_of, run_full, part_wrong, row_wrong}
+use Rattle.base.specs.Refusal.{refusing, number_of}
+use Rattle.rules.specs.Numbers.{Rule, rule2, rules_for, rules_of, first_of, run_full, part_wrong, row_wrong}
 use Rattle.rules.specs.Numbers.{credit_past_room, out_of_turn, no_sender_credit}
 use Rattle.rules.specs.Step.{taken_in, sent_out, router_after, reply_of, step_by}
 use Rattle.rules.proofs.Differ.{Differ}
@@ -75,12 +76,12 @@ wrong_departure_stays_in_the_store s =
 -- of phase 6
 abbrev wrong_body_routed_by_its_destination : Router → ℕ → ℕ → Bool
 wrong_body_routed_by_its_destination s i o =
-    ready s.config s.inputs s.outputs i (Option.get_or (input_pick s i) 0)
-    && eqb (destination_of (front_of s.store (channel_number s.config i (Option.get_or (input_pick s i) 0)))) o
+    ready s.config s.inputs s.outputs i (unwrap_or (input_pick s i) 0)
+    && eqb (destination_of (front_of s.store (channel_number s.config i (unwrap_or (input_pick s i) 0)))) o
 
 abbrev wrong_two_vcs_of_one_input_leave : Router → ℕ → Option InVc
 wrong_two_vcs_of_one_input_leave s o = vc_of pick (choice 8 s.config.arbiter s.config.ports (λ (i : ℕ). not (is_none (pick i)))
-    (of_narrow (output_arbiter s.arbiters o)))
+    (output_arbiter s.arbiters o))
   where
     pick : ℕ → Option ℕ
     pick i =
@@ -94,7 +95,7 @@ wrong_credit_needed_to_bind c outputs o =
 
 abbrev wrong_highest_free_vc : Config → List OutputVc → ℕ → Option ℕ
 wrong_highest_free_vc c outputs o =
-    map (λ (w : ℕ). c.vcs - (1 + w)) (first_from (λ (w : ℕ). is_vc_free (output_at c outputs o (c.vcs - (1 + w))).holder) c.vcs 0)
+    option_map (λ (w : ℕ). c.vcs - (1 + w)) (first_from (λ (w : ℕ). is_vc_free (output_at c outputs o (c.vcs - (1 + w))).holder) c.vcs 0)
 
 -- of the cycle
 abbrev wrong_credit_home_when_queued : List ℕ → Router → Router
@@ -108,8 +109,8 @@ abbrev wrong_freed_and_given_out_in_one_cycle : List ℕ → Router → Router
 wrong_freed_and_given_out_in_one_cycle part s = allocated (sent_out (allocated (taken_in part s)))
 
 abbrev wrong_refused_cycle_moves_a_pointer : Verdict → List ℕ → Router → Stepped
-wrong_refused_cycle_moves_a_pointer Accepted part s = record { verdict = Accepted; router = router_after part s; reply = reply_of part s }
-wrong_refused_cycle_moves_a_pointer (Refused r) part s = record { verdict = Refused r; router = allocated s; reply = empty_reply }
+wrong_refused_cycle_moves_a_pointer (Ok _) part s = record { verdict = Ok tt; router = router_after part s; reply = reply_of part s }
+wrong_refused_cycle_moves_a_pointer (Err r) part s = record { verdict = Err r; router = allocated s; reply = empty_reply }
 
 -- of the numbers
 abbrev wrong_five_before_phase_1 : Router → List ℕ → List Rule
@@ -140,12 +141,12 @@ leaving =
       outputs = under_way.outputs;
       store = under_way.store;
       home = under_way.home;
-      left = replicate 8 (record { left = left.Nothing });
+      left = replicate 8 None;
     }
 
 -- the VC that a flit has left by at output 1
 abbrev left_by : Leaving → Option ℕ
-left_by l = map (λ (d : Departure). d.out_vc) (departure_of (get_or l.left 1 (record { left = left.Nothing })).left)
+left_by l = option_map (λ (d : Departure). d.out_vc) (get_or l.left 1 None)
 
 -- VC 0 of input 0 has a single for output 1 queued, VC 1 one for output 0
 abbrev both_ready : Router
@@ -177,7 +178,7 @@ pub record WrongVersions : Type 0 where
       × (sound coming_home ≡ true)
   -- the VC that the body leaves by; its head left by VC 0
   pub body_on_another_output_vc : Differ (left_by (goes_out c 1 0 0 channel.binding leaving))
-      (left_by (wrong_body_on_another_output_vc c 1 0 0 channel.binding leaving)) (some 0) (some 1)
+      (left_by (wrong_body_on_another_output_vc c 1 0 0 channel.binding leaving)) (Some 0) (Some 1)
   -- whether the body asks for output 1, that it is bound to
   pub body_routed_by_its_destination : Differ (request under_way 0 1) (wrong_body_routed_by_its_destination under_way 0 1) true false
   -- how many are queued behind the one that leaves, and the slot that it left: the edit is of two definitions
@@ -185,10 +186,10 @@ pub record WrongVersions : Type 0 where
       × Differ (get_or (sent_out under_way).store 0 0) (get_or (wrong_departure_stays_in_the_store under_way).store 0 0) 0 body
   -- who wins output 0, where VC 0 of input 0 wins output 1
   pub two_vcs_of_one_input_leave : Differ (winner (allocated both_ready) 0) (wrong_two_vcs_of_one_input_leave (allocated both_ready) 0)
-      none (some (record { input = 0; vc = 1 }))
+      None (Some (record { input = 0; vc = 1 }))
   -- which VC of output 1 is given out
-  pub credit_needed_to_bind : Differ (lowest_free_vc c spent.outputs 1) (wrong_credit_needed_to_bind c spent.outputs 1) (some 0) none
-  pub highest_free_vc : Differ (lowest_free_vc c turns.outputs 1) (wrong_highest_free_vc c turns.outputs 1) (some 0) (some 1)
+  pub credit_needed_to_bind : Differ (lowest_free_vc c spent.outputs 1) (wrong_credit_needed_to_bind c spent.outputs 1) (Some 0) None
+  pub highest_free_vc : Differ (lowest_free_vc c turns.outputs 1) (wrong_highest_free_vc c turns.outputs 1) (Some 0) (Some 1)
   -- the newest credit of input 1 on its way home; its flit has landed and stays
   pub credit_home_when_queued : Differ (home_place (router_after idle rivals).home 1 1)
       (home_place (wrong_credit_home_when_queued idle rivals).home 1 1) 0 1
@@ -205,8 +206,8 @@ pub record WrongVersions : Type 0 where
   pub idle_row_not_looked_at : Differ (no_offer (set idle 9 1) 1) (wrong_idle_row_not_looked_at (set idle 9 1) 1) false true
   pub ports_beyond_p_not_looked_at : Differ (row_zero (set idle 19 1) 2) (wrong_ports_beyond_p_not_looked_at (set idle 19 1) 2) false true
 
-unlike : (m n : ℕ) → eqb m n ≡ false → some m ≡ some n → ⊥
-unlike m n e q = eqb-false m n e (some-injective m n q)
+unlike : (m n : ℕ) → eqb m n ≡ false → Some m ≡ Some n → ⊥
+unlike m n e q = eqb-false m n e (same_Some m n q)
 
 pub wrong_versions : WrongVersions
 unfolding with_input with_output with_slot with_wire_place with_home_place config turns unbound bound held single body on stored queue fresh_router
@@ -215,7 +216,7 @@ unfolding with_input with_output with_slot with_wire_place with_home_place confi
     places wire_of home_of flat total is_none all configuration_legal cycles_fit credits_whole credits_add_up legal_flit wire_place_legal wire_legal
     home_legal queues_legal output_credits_fit names_agree arbiters_sound reading reads packets_read channels_unused slots_empty line_unused
     arbiters_unused shaped sound front_of pushed moved_up popped big_endian over_ports row_zero no_offer legal_offer row_legal advanced senders_paid
-    credits_reached outputs_paid credits_returned landings landed offers offers_taken asks lowest_free_vc grant_of bindings wide_moved narrow_moved
+    credits_reached outputs_paid credits_returned landings landed offers offers_taken asks lowest_free_vc grant_of bindings arbiters_moved
     allocated is_ready input_pick request output_pick switched winner departures leaving_of run_full part_wrong row_wrong credit_past_room out_of_turn
     no_sender_credit first_of taken_in sent_out router_after
 wrong_versions =
@@ -227,8 +228,8 @@ wrong_versions =
         record { right_is = refl; wrong_is = refl; apart = eqb-false 0 1 refl },
         record { right_is = refl; wrong_is = refl; apart = eqb-false 0 _ refl },
       );
-      two_vcs_of_one_input_leave = record { right_is = refl; wrong_is = refl; apart = none-ne-some _ };
-      credit_needed_to_bind = record { right_is = refl; wrong_is = refl; apart = some-ne-none _ };
+      two_vcs_of_one_input_leave = record { right_is = refl; wrong_is = refl; apart = none-some _ };
+      credit_needed_to_bind = record { right_is = refl; wrong_is = refl; apart = λ e. none-some _ (sym e) };
       highest_free_vc = record { right_is = refl; wrong_is = refl; apart = unlike 0 1 refl };
       credit_home_when_queued = record { right_is = refl; wrong_is = refl; apart = eqb-false 0 1 refl };
       freed_and_given_out_in_one_cycle = record { right_is = refl; wrong_is = refl; apart = true≢false };

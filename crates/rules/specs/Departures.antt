@@ -1,16 +1,14 @@
 -- Phase 7 (01, "One cycle, in this order"): what goes out.
 -- Assumes nothing.
 use Rattle.std.specs.Prelude.{Bool, cond, List, ℕ, ◌+◌, ◌-◌, set, replicate}
-use Rattle.std.proofs.Math.Option.{Option, some, none}
+use Rattle.std.specs.Prelude.{Option, Some, None}
+use Rattle.base.specs.declared.reply.Departure.{Departure}
 use Rattle.base.specs.declared.config.Config.{Config}
 use Rattle.base.specs.declared.flit.Flit.{Flit}
-use Rattle.base.specs.declared.reply.Left.TheVariants as left
-use Rattle.base.specs.declared.reply.Output.{Output}
 use Rattle.base.specs.Flit.{kind_of, payload_of, ends_kind}
 use Rattle.state.specs.declared.InVc.{InVc}
 use Rattle.state.specs.declared.Binding.{Binding}
 use Rattle.state.specs.declared.Binding.TheVariants.{Unbound, Bound}
-use Rattle.state.specs.declared.Holder.TheVariants.{Nobody}
 use Rattle.state.specs.declared.InputVc.{InputVc}
 use Rattle.state.specs.declared.OutputVc.{OutputVc}
 use Rattle.state.specs.declared.Router.{Router}
@@ -27,7 +25,7 @@ pub record Leaving : Type 0 where
   pub outputs : List OutputVc
   pub store : List ℕ
   pub home : List ℕ
-  pub left : List Output
+  pub left : List (Option Departure)
 
 -- "leaves its queue", "T or S unbinds"
 abbrev pub input_left : Bool → InputVc → InputVc
@@ -35,12 +33,12 @@ input_left ends x = set_binding (cond ends Unbound x.binding) (with_queued (x.qu
 
 -- "costs one output credit", "and frees the output VC"
 abbrev pub output_left : Bool → OutputVc → OutputVc
-output_left ends y = set_holder (cond ends Nobody y.holder) (with_output_credit (y.credit - 1) y)
+output_left ends y = set_holder (cond ends None y.holder) (with_output_credit (y.credit - 1) y)
 
 -- "takes the output VC's number"
-abbrev pub departure : ℕ → ℕ → ℕ → Flit → Output
+abbrev pub departure : ℕ → ℕ → ℕ → Flit → Option Departure
 departure w i v f =
-    record { left = left.Flit (record { out_vc = w; input = i; vc = v; kind = kind_of f; payload = payload_of f }) }
+    Some (record { out_vc = w; input = i; vc = v; kind = kind_of f; payload = payload_of f })
 
 -- the front flit f of VC v of input i leaves by VC w of output o
 abbrev pub departed : Config → ℕ → ℕ → ℕ → ℕ → Flit → Leaving → Leaving
@@ -60,8 +58,8 @@ goes_out c o i v (Bound b) l = departed c o b.vc i v (front_of l.store (channel_
 
 -- "Each winner leaves": at output o
 abbrev pub leaves_by : Config → ℕ → Option InVc → Leaving → Leaving
-leaves_by c o none l = l
-leaves_by c o (some x) l = goes_out c o x.input x.vc (input_at c l.inputs x.input x.vc).binding l
+leaves_by c o None l = l
+leaves_by c o (Some x) l = goes_out c o x.input x.vc (input_at c l.inputs x.input x.vc).binding l
 
 unfoldable pub departures : Config → (ℕ → Option InVc) → Leaving → Leaving
 departures c win = over_ports c.ports (λ l o. leaves_by c o (win o) l)
@@ -75,5 +73,5 @@ leaving_of s =
       outputs = s.outputs;
       store = s.store;
       home = s.home;
-      left = replicate 8 (record { left = left.Nothing });
+      left = replicate 8 None;
     })

@@ -1,7 +1,7 @@
 -- The router in the words of crates/model, where choices are free.
 -- Assumes nothing.
 use Rattle.std.specs.Prelude.{cond, ◌&&◌, List, ℕ, ltb}
-use Rattle.std.proofs.Math.Option.{Option, some, none}
+use Rattle.std.specs.Prelude.{Option, Some, None}
 use Rattle.base.specs.declared.config.Config.{Config}
 use Rattle.base.specs.declared.flit.Flit.{Flit}
 use Rattle.base.specs.Flit.{kind_of, destination_of, starts_kind, ends_kind}
@@ -28,8 +28,8 @@ abbrev pub channel_of : ChannelView → Channel Flit
 channel_of ch = record { taken = ch.taken; wire = ch.wire; queue = ch.queue; home = ch.home }
 
 abbrev pub name_of : Option OutVc → Option free.OutVc
-name_of none = none
-name_of (some b) = some (record { output = b.output; vc = b.vc })
+name_of None = None
+name_of (Some b) = Some (record { output = b.output; vc = b.vc })
 
 -- what a router holds
 unfoldable pub free_of : Router → free.Router Flit
@@ -46,6 +46,6 @@ free_of s =
 unfoldable pub event_of : Config → List ℕ → Event Flit
 event_of c part =
     record {
-      offer = λ (i : ℕ). cond (ltb i c.ports && brings part i) (some (record { vc = vc_at part i; flit = flit_at part i })) none;
-      credit = λ (o : ℕ). cond (ltb o c.ports) (named (credit_at part o)) none;
+      offer = λ (i : ℕ). cond (ltb i c.ports && brings part i) (Some (record { vc = vc_at part i; flit = flit_at part i })) None;
+      credit = λ (o : ℕ). cond (ltb o c.ports) (named (credit_at part o)) None;
     }

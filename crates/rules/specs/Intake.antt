@@ -1,11 +1,9 @@
 -- Phases 1 to 4 (01, "One cycle, in this order"): what comes in.
 -- Assumes nothing.
 use Rattle.std.specs.Prelude.{cond, not, List, ◌++◌, ℕ, ◌+◌, ◌-◌, ◌*◌, ◌^◌, eqb, set, drop, replicate}
-use Rattle.std.proofs.Math.Option.{Option, some, none}
+use Rattle.std.specs.Prelude.{Option, Some, None}
 use Rattle.base.specs.declared.config.Config.{Config}
 use Rattle.base.specs.declared.flit.Flit.{Flit}
-use Rattle.base.specs.declared.reply.Sender.{Sender}
-use Rattle.base.specs.declared.reply.Reached.TheVariants as reached
 use Rattle.base.specs.Flit.{ends_kind}
 use Rattle.state.specs.declared.InputVc.{InputVc}
 use Rattle.state.specs.declared.OutputVc.{OutputVc}
@@ -26,20 +24,16 @@ abbrev pub sender_paid : InputVc → InputVc
 sender_paid x = with_sender_credit (x.credit + 1) x
 
 abbrev pub credit_to : Config → ℕ → Option ℕ → List InputVc → List InputVc
-credit_to c i none inputs = inputs
-credit_to c i (some v) inputs = set inputs (channel_number c i v) (sender_paid (input_at c inputs i v))
+credit_to c i None inputs = inputs
+credit_to c i (Some v) inputs = set inputs (channel_number c i v) (sender_paid (input_at c inputs i v))
 
 -- "Credits that left an input B cycles ago reach its sender"
 unfoldable pub senders_paid : Config → List ℕ → List InputVc → List InputVc
 senders_paid c home = over_ports c.ports (λ inputs i. credit_to c i (named (home_place home 0 i)) inputs)
 
 -- ".. and is reported."
-abbrev pub reaching : Option ℕ → Sender
-reaching none = record { reached = reached.Nothing }
-reaching (some v) = record { reached = reached.Vc v }
-
-unfoldable pub reported : Config → List ℕ → List Sender
-reported c home = over_ports c.ports (λ senders i. set senders i (reaching (named (home_place home 0 i)))) (replicate 8 (reaching none))
+unfoldable pub reported : Config → List ℕ → List (Option ℕ)
+reported c home = over_ports c.ports (λ senders i. set senders i (named (home_place home 0 i))) (replicate 8 None)
 
 unfoldable pub credits_reached : Router → Router
 credits_reached s = with_home (advanced s.home) (with_inputs (senders_paid s.config s.home s.inputs) s)
@@ -49,8 +43,8 @@ abbrev pub output_paid : OutputVc → OutputVc
 output_paid y = with_output_credit (y.credit + 1) y
 
 abbrev pub credit_from : Config → ℕ → Option ℕ → List OutputVc → List OutputVc
-credit_from c o none outputs = outputs
-credit_from c o (some w) outputs = set outputs (channel_number c o w) (output_paid (output_at c outputs o w))
+credit_from c o None outputs = outputs
+credit_from c o (Some w) outputs = set outputs (channel_number c o w) (output_paid (output_at c outputs o w))
 
 unfoldable pub outputs_paid : Config → List ℕ → List OutputVc → List OutputVc
 outputs_paid c part = over_ports c.ports (λ outputs o. credit_from c o (named (credit_at part o)) outputs)

@@ -1,8 +1,9 @@
 -- "Numbers given back" (01) for a cycle: the rule of each number, and their order.
 -- Assumes nothing.
+use Rattle.std.specs.Prelude.{Ok}
 use Rattle.std.specs.Prelude.{Bool, cond, not, ◌&&◌, List, [], ◌∷◌, ℕ, ◌-◌, eqb, leb, ltb, length}
 use Rattle.std.specs.Bool.{beq}
-use Rattle.std.proofs.Math.Option.{Option, some, none}
+use Rattle.std.specs.Prelude.{Option, Some, None}
 use Rattle.base.specs.declared.config.Config.{Config}
 use Rattle.base.specs.Flit.{starts_kind}
 use Rattle.base.specs.Numbers as numbers
@@ -14,8 +15,7 @@ use Rattle.state.specs.declared.Router.{Router}
 use Rattle.state.specs.Sound.{sound}
 use Rattle.state.specs.Views.{input_at, output_at}
 use Rattle.trace.specs.Blocks.{cycle_length}
-use Rattle.rules.specs.declared.Verdict.{Verdict}
-use Rattle.rules.specs.declared.Verdict.TheVariants.{Accepted, Refused}
+use Rattle.base.specs.Refusal.{Verdict, refusing}
 use Rattle.rules.specs.Rows.{row_zero, row_legal, kind_at, vc_at, credit_at, brings}
 use Rattle.rules.specs.Intake.{senders_paid}
 
@@ -83,26 +83,14 @@ abbrev pub rules_of : Router → List ℕ → List Rule
 rules_of s part =
     rule2 s ∷ rules_for s.config s.cycle s.inputs (senders_paid s.config s.home s.inputs) s.outputs part
 
-abbrev pub refusing : ℕ → ℕ → Verdict
-refusing n p = Refused (record { number = n; port = p })
-
 abbrev pub refused_at : ℕ → Option ℕ → Verdict → Verdict
-refused_at n (some p) later = refusing n p
-refused_at n none later = later
+refused_at n (Some p) later = refusing n p
+refused_at n None later = later
 
 -- "each over all ports in rising order before the next number"
 unfoldable pub first_of : List Rule → Verdict
-first_of [] = Accepted
+first_of [] = Ok tt
 first_of (r ∷ rs) = refused_at r.number (first_from r.holds r.ports 0) (first_of rs)
 
 unfoldable pub judged : Router → List ℕ → Verdict
 judged s part = first_of (rules_of s part)
-
--- the number that a verdict stands for, and its port
-abbrev pub number_of : Verdict → ℕ
-number_of Accepted = numbers.done
-number_of (Refused r) = r.number
-
-abbrev pub port_of : Verdict → ℕ
-port_of Accepted = 0
-port_of (Refused r) = r.port

@@ -1,6 +1,6 @@
 -- What happens port by port.
 -- Assumes nothing.
-use Rattle.std.proofs.Math.Option.{Option, some, none}
+use Rattle.std.specs.Prelude.{Option, Some, None}
 use Rattle.std.specs.Prelude.{ℕ, zero, suc}
 
 -- f at port 0, then at port 1, .., last at port n - 1
@@ -10,5 +10,5 @@ over_ports (suc n) f s = f (over_ports n f s) n
 
 -- "0 none, else 1 + .. VC"
 abbrev pub named : ℕ → Option ℕ
-named zero = none
-named (suc v) = some v
+named zero = None
+named (suc v) = Some v

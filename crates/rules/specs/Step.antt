@@ -1,12 +1,12 @@
 -- One cycle (01): judged, and either refused whole or stepped through the seven phases.
 -- Assumes nothing.
+use Rattle.std.specs.Prelude.{Ok, Err}
 use Rattle.std.specs.Prelude.{List, ℕ, ◌+◌}
 use Rattle.base.specs.declared.reply.Reply.{Reply}
 use Rattle.base.specs.Reply.{empty_reply}
 use Rattle.state.specs.declared.Router.{Router}
 use Rattle.state.specs.Setters.{with_cycle, with_inputs, with_outputs, with_store, with_home, with_arbiters}
-use Rattle.rules.specs.declared.Verdict.{Verdict}
-use Rattle.rules.specs.declared.Verdict.TheVariants.{Accepted, Refused}
+use Rattle.base.specs.Refusal.{Verdict}
 use Rattle.rules.specs.declared.Stepped.{Stepped}
 use Rattle.rules.specs.Intake.{reported, credits_reached, credits_returned, landed, offers_taken}
 use Rattle.rules.specs.Allocation.{allocated, switched}
@@ -33,8 +33,8 @@ reply_of part s = record { senders = reported s.config s.home; outputs = (leavin
 
 -- "a refused cycle gives the state as before and an empty reply"
 abbrev pub step_by : Verdict → List ℕ → Router → Stepped
-step_by Accepted part s = record { verdict = Accepted; router = router_after part s; reply = reply_of part s }
-step_by (Refused r) part s = record { verdict = Refused r; router = s; reply = empty_reply }
+step_by (Ok _) part s = record { verdict = Ok tt; router = router_after part s; reply = reply_of part s }
+step_by (Err r) part s = record { verdict = Err r; router = s; reply = empty_reply }
 
 unfoldable pub step_of : Router → List ℕ → Stepped
 step_of s part = step_by (judged s part) part s

@@ -2,26 +2,13 @@
 // has the code.
 #![tactic(auto)]
 
-use base::Reply;
+use base::{Refusal, Reply};
 use state::Router;
 
-// A number of the table, and "the port for 3 to 6", else 0.
-#[derive(Clone, Copy)]
-pub struct Refusal {
-    pub number: u8,
-    pub port: u8,
-}
-
-#[derive(Clone, Copy)]
-pub enum Verdict {
-    Accepted,
-    Refused(Refusal),
-}
-
-// What a cycle gives back.
-#[derive(Clone, Copy)]
+// What a cycle gives back: whether it was accepted, or why not, with "the port for 3 to 6", else 0; the router after it, and the reply.
+#[derive(Clone, Copy, PartialEq, Eq)]
 pub struct Stepped {
-    pub verdict: Verdict,
+    pub verdict: Result<(), Refusal>,
     pub router: Router,
     pub reply: Reply,
 }

@@ -9,7 +9,7 @@ use state::Router;
 use trace::Place;
 
 // The router, the place in the file, the F lines so far, and whether the list has had its last line.
-#[derive(Clone, Copy)]
+#[derive(Clone, Copy, PartialEq, Eq)]
 pub struct Run {
     pub router: Router,
     pub place: Place,
@@ -64,15 +64,13 @@ fn is_inside(place: Place, cycles: u64) -> bool
         configured: place.configured,
         ended: false,
     };
-    let mut inside: u64 = 0;
-    while inside < 7 {
+    for inside in 0..7 {
         if cycles < inside {
             return false;
         }
         if is_between(before, cycles - inside) {
             return true;
         }
-        inside += 1;
     }
     false
 }
