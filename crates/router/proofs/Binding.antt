@@ -1,107 +1,96 @@
--- Phase 5: what is bound, and the arbiters that move on, turn by turn.
+-- Phase 5: what is bound, turn by turn.
 -- Assumes nothing.
-use mathlib.Core.Path.{◌≡◌, refl, sym, ap, ◌∙◌}
-use mathlib.Core.List.{List}
-use mathlib.Core.Option.{Option, some, none}
-use Prim.Native.Nat.{ℕ, zero, suc, ◌-◌, ◌/◌, ◌%◌, ◌≤◌}
-use lib.ListN.{length, get_or, set, length-set}
-use lib.Seq.{set_out, set-get_or}
+use Rattle.std.proofs.Common.{◌≡◌, refl, ◌∙◌, sym, ap, List, ℕ, zero, suc, ◌+◌, ◌/◌, ◌%◌, ◌≤◌, Option, Some, None, option_map, get_or}
+use Rattle.std.proofs.Common.{length, set}
+use lib.ListN.{length-set}
+use lib.Seq.{set_out}
 use Rattle.base.specs.declared.config.Config.{Config}
-use Rattle.arbiter.specs.declared.Wide.{Wide}
-use Rattle.arbiter.specs.Arbiter.{Arbiter, of_wide, moved, after, as_wide}
 use Rattle.state.specs.declared.InputVc.{InputVc}
 use Rattle.state.specs.declared.OutputVc.{OutputVc}
-use Rattle.state.specs.Fresh.{fresh_input, past_wide}
+use Rattle.state.specs.Fresh.{fresh_input}
 use Rattle.state.specs.Views.{channel_number, output_at}
 use Rattle.rules.specs.Ports.{over_ports}
-use Rattle.rules.specs.Allocation.{Grant, Vcs, bind_to, held_by, bound_by, bindings, requester_of}
-use Rattle.rules.proofs.Folds.{over_keeps}
-use Rattle.rules.proofs.Named.{named_some}
+use Rattle.rules.specs.Allocation.{Grant, Vcs, bind_to, held_by, bound_by, bindings}
+use Rattle.rules.proofs.Folds.{over_none, over_again}
 use Rattle.router.specs.declared.allocation.Granted.{Granted}
 use Rattle.router.specs.Grants.{grant_in, grant_at, input_bound, output_held, inputs_bound, outputs_held}
 
--- the record of output o
-abbrev pub record_at : List Granted → ℕ → Granted
-record_at made o = get_or made o (record { requester = 0; vc = 0 })
-
--- what happens at output o to the input VCs, to the output VCs, and to the arbiters
-abbrev pub input_turn : List Granted → List InputVc → ℕ → List InputVc
+-- what happens at output o to the input VCs and to the output VCs
+abbrev pub input_turn : List (Option Granted) → List InputVc → ℕ → List InputVc
 input_turn made inputs o = input_bound o (grant_at made o) inputs
 
-abbrev pub output_turn : Config → List Granted → List OutputVc → ℕ → List OutputVc
+abbrev pub output_turn : Config → List (Option Granted) → List OutputVc → ℕ → List OutputVc
 output_turn c made outputs o = output_held c o (grant_at made o) outputs
 
-abbrev pub arbiter_after : ℕ → ℕ → ℕ → Option Grant → List Wide → List Wide
-arbiter_after code n o g vcs = set vcs o (as_wide (after 32 code n (requester_of g) (of_wide (get_or vcs o past_wide))))
+-- the outputs below o are done
+pub record InputsBound (made : List (Option Granted)) (before inputs : List InputVc) (o : ℕ) : Type 0 where
+  pub long : length inputs ≡ 32
+  pub so_far : inputs ≡ over_ports o (input_turn made) before
 
-abbrev pub arbiter_turn : Config → ℕ → List Granted → List Wide → ℕ → List Wide
-arbiter_turn c n made vcs o = arbiter_after c.arbiter n o (grant_at made o) vcs
+pub record OutputsHeld (c : Config) (made : List (Option Granted)) (before outputs : List OutputVc) (o : ℕ) : Type 0 where
+  pub long : length outputs ≡ 32
+  pub so_far : outputs ≡ over_ports o (output_turn c made) before
 
--- the turns keep the arrays' lengths
-pub inputs_long : (made : List Granted) (b : List InputVc) (n : ℕ) → length (over_ports n (input_turn made) b) ≡ length b
-inputs_long made b n =
-    over_keeps (λ (t : List InputVc). length t ≡ length b) n (input_turn made) b (λ t i l e. go t (grant_at made i) i e) refl
-  where
-    go : (t : List InputVc) (g : Option Grant) (o : ℕ) → length t ≡ length b → length (input_bound o g t) ≡ length b
-    go t none o e = e
-    go t (some g) o e = length-set t g.requester (bind_to o g.vc (get_or t g.requester (fresh_input 0))) ∙ e
+pub inputs_none : (made : List (Option Granted)) (before : List InputVc) → length before ≡ 32 → InputsBound made before before 0
+inputs_none made before e = record { long = e; so_far = over_none (input_turn made) before }
 
-pub outputs_long : (c : Config) (made : List Granted) (b : List OutputVc) (n : ℕ) → length (over_ports n (output_turn c made) b) ≡ length b
-outputs_long c made b n =
-    over_keeps (λ (t : List OutputVc). length t ≡ length b) n (output_turn c made) b (λ t i l e. go t (grant_at made i) i e) refl
-  where
-    go : (t : List OutputVc) (g : Option Grant) (o : ℕ) → length t ≡ length b → length (output_held c o g t) ≡ length b
-    go t none o e = e
-    go t (some g) o e =
-        length-set t (channel_number c o g.vc) (held_by (g.requester / c.vcs) (g.requester % c.vcs) (output_at c t o g.vc)) ∙ e
+pub outputs_none : (c : Config) (made : List (Option Granted)) (before : List OutputVc) → length before ≡ 32
+    → OutputsHeld c made before before 0
+outputs_none c made before e = record { long = e; so_far = over_none (output_turn c made) before }
 
-module _ (g : Granted) (o : ℕ) (inputs : List InputVc) where
+module _ (made : List (Option Granted)) (before inputs : List InputVc) (o : ℕ) (s : InputsBound made before inputs o) where
+  turned : (next : List InputVc) → length next ≡ 32 → next ≡ input_turn made inputs o → InputsBound made before next (o + 1)
+  turned next l e = record { long = l; so_far = over_again o (input_turn made) before inputs next s.so_far e }
+
   -- nothing is granted
-  pub input_none : g.requester ≡ 0 → inputs ≡ input_bound o (grant_in g) inputs
-  input_none e = rw e
+  pub inputs_skip : ((g : Granted) → get_or made o None ≡ Some g → ⊥) → InputsBound made before inputs (o + 1)
+  inputs_skip none = turned inputs s.long (skip (get_or made o None) none)
+    where
+      skip : (given : Option Granted) → ((g : Granted) → given ≡ Some g → ⊥) → inputs ≡ input_bound o (option_map grant_in given) inputs
+      skip None none = refl
+      skip (Some g) none = absurd (none g refl)
 
-  -- a requester is bound
-  pub input_some : (g.requester ≡ 0 → ⊥)
-      → set inputs (g.requester - 1) (bind_to o g.vc (get_or inputs (g.requester - 1) (fresh_input 0))) ≡ input_bound o (grant_in g) inputs
-  input_some n = rw (named_some g.requester n)
+  module _ (g : Granted) (e : get_or made o None ≡ Some g) where
+    -- a requester is bound
+    pub inputs_more : InputsBound made before (set inputs g.requester (bind_to o g.vc (get_or inputs g.requester (fresh_input 0)))) (o + 1)
+    inputs_more =
+        turned (set inputs g.requester (bind_to o g.vc (get_or inputs g.requester (fresh_input 0))))
+        (length-set inputs g.requester (bind_to o g.vc (get_or inputs g.requester (fresh_input 0))) ∙ s.long) (rw e)
 
-  -- a requester that there is not changes nothing
-  pub input_out : (g.requester ≡ 0 → ⊥) → length inputs ≤ g.requester - 1 → inputs ≡ input_bound o (grant_in g) inputs
-  input_out n l =
-      sym (set_out inputs (g.requester - 1) (bind_to o g.vc (get_or inputs (g.requester - 1) (fresh_input 0))) l) ∙ input_some n
+    -- a requester that there is not changes nothing
+    pub inputs_past : 32 ≤ g.requester → InputsBound made before inputs (o + 1)
+    inputs_past far =
+        turned inputs s.long
+        (rw e (sym (set_out inputs g.requester (bind_to o g.vc (get_or inputs g.requester (fresh_input 0))) (rw s.long far))))
 
-module _ (c : Config) (g : Granted) (o : ℕ) (outputs : List OutputVc) where
-  pub output_none : g.requester ≡ 0 → outputs ≡ output_held c o (grant_in g) outputs
-  output_none e = rw e
+module _ (c : Config) (made : List (Option Granted)) (before outputs : List OutputVc) (o : ℕ)
+    (s : OutputsHeld c made before outputs o) where
+  turned_out : (next : List OutputVc) → length next ≡ 32 → next ≡ output_turn c made outputs o → OutputsHeld c made before next (o + 1)
+  turned_out next l e = record { long = l; so_far = over_again o (output_turn c made) before outputs next s.so_far e }
 
-  pub output_some : (g.requester ≡ 0 → ⊥)
-      → set outputs (channel_number c o g.vc) (held_by ((g.requester - 1) / c.vcs) ((g.requester - 1) % c.vcs)
-      (output_at c outputs o g.vc))
-      ≡ output_held c o (grant_in g) outputs
-  output_some n = rw (named_some g.requester n)
+  pub outputs_skip : ((g : Granted) → get_or made o None ≡ Some g → ⊥) → OutputsHeld c made before outputs (o + 1)
+  outputs_skip none = turned_out outputs s.long (skip (get_or made o None) none)
+    where
+      skip : (given : Option Granted) → ((g : Granted) → given ≡ Some g → ⊥) → outputs ≡ output_held c o (option_map grant_in given) outputs
+      skip None none = refl
+      skip (Some g) none = absurd (none g refl)
 
-  pub output_out : (g.requester ≡ 0 → ⊥) → length outputs ≤ channel_number c o g.vc → outputs ≡ output_held c o (grant_in g) outputs
-  output_out n l =
-      sym (set_out outputs (channel_number c o g.vc) (held_by ((g.requester - 1) / c.vcs) ((g.requester - 1) % c.vcs)
-      (output_at c outputs o g.vc)) l)
-      ∙ output_some n
+  module _ (g : Granted) (e : get_or made o None ≡ Some g) where
+    abbrev taken : OutputVc
+    taken = held_by (g.requester / c.vcs) (g.requester % c.vcs) (output_at c outputs o g.vc)
 
-module _ (code n : ℕ) (g : Granted) (o : ℕ) (vcs : List Wide) where
-  -- an arbiter that has no pick stays
-  pub arbiter_none : g.requester ≡ 0 → vcs ≡ arbiter_after code n o (grant_in g) vcs
-  unfolding after
-  arbiter_none e = rw (e, set-get_or vcs o past_wide)
+    pub outputs_more : OutputsHeld c made before (set outputs (channel_number c o g.vc) taken) (o + 1)
+    outputs_more =
+        turned_out (set outputs (channel_number c o g.vc) taken) (length-set outputs (channel_number c o g.vc) taken ∙ s.long) (rw e)
 
-  pub arbiter_some : (r : Wide) → (g.requester ≡ 0 → ⊥) → of_wide r ≡ moved 32 code n (g.requester - 1) (of_wide (get_or vcs o past_wide))
-      → set vcs o r ≡ arbiter_after code n o (grant_in g) vcs
-  unfolding after
-  arbiter_some r z e = rw (named_some g.requester z) (ap (λ (a : Arbiter). set vcs o (as_wide a)) e)
+    pub outputs_past : 32 ≤ channel_number c o g.vc → OutputsHeld c made before outputs (o + 1)
+    outputs_past far = turned_out outputs s.long (rw e (sym (set_out outputs (channel_number c o g.vc) taken (rw s.long far))))
 
 -- the two lists are bound apart
 both_bound : (c : Config) (o : ℕ) (g : Option Grant) (n : Vcs)
     → ◌≡◌ {A = Vcs} (record { inputs = input_bound o g n.inputs; outputs = output_held c o g n.outputs }) (bound_by c o g n)
-both_bound c o none n = refl
-both_bound c o (some g) n = refl
+both_bound c o None n = refl
+both_bound c o (Some g) n = refl
 
 so_far_apart : (c : Config) (grant : ℕ → Option Grant) (n : Vcs) (k : ℕ)
     → ◌≡◌ {A = Vcs}

@@ -1,5 +1,6 @@
 -- One cycle of a run, and the cycles of a block one after another.
 -- Assumes nothing.
+use Rattle.std.specs.Prelude.{Ok, Err}
 use mathlib.Core.Path.{◌≡◌, refl, sym, ap, ◌∙◌}
 use mathlib.Core.Bool.{true, false}
 use mathlib.Core.List.{List}
@@ -12,12 +13,12 @@ use Rattle.base.specs.declared.reply.Reply.{Reply}
 use Rattle.state.specs.declared.Router.{Router}
 use Rattle.trace.specs.Blocks.{held_of, part_at}
 use Rattle.trace.specs.Cycles.{Slice, shows, part_of_cycle}
-use Rattle.listing.specs.declared.Written.{Written}
+use Rattle.std.specs.Prelude.{Result}
+use Rattle.listing.specs.declared.Unwritten.{Unwritten}
 use Rattle.listing.specs.Lines.{refusal, cycle_lines, flit_lines}
 use Rattle.listing.specs.Writing.{written, write_outcome}
-use Rattle.rules.specs.declared.Refusal.{Refusal}
-use Rattle.rules.specs.declared.Verdict.{Verdict}
-use Rattle.rules.specs.declared.Verdict.TheVariants.{Accepted, Refused}
+use Rattle.base.specs.declared.refusal.Refusal.{Refusal}
+use Rattle.base.specs.Refusal.{Verdict}
 use Rattle.rules.specs.declared.Stepped.{Stepped}
 use Rattle.rules.specs.Step.{step_of}
 use Rattle.rules.proofs.Exactness.{refused_leaves}
@@ -43,17 +44,17 @@ module _ (c : Config) (before : RunParts) (store wire home out part store' wire'
     says w f = ap (λ (x : Stepped). x.verdict) (sym e) ∙ f
 
     -- a refused cycle: the arrays are as before
-    pub refused_run : (r : Refusal) → v ≡ Refused r
-        → ended_by (refusal r.number before.cycle r.port) (writing_of c before store' wire' home' out)
+    pub refused_run : (r : Refusal) → v ≡ Err r
+        → ended_by (refusal r.number before.cycle r.place) (writing_of c before store' wire' home' out)
         ≡ cycled part (writing_of c before store wire home out)
     unfolding cycled
     refused_run r f =
         let same : router_of c cycle' parts' store' wire' home' ≡ s = ap (λ (x : Stepped). x.router) e
-        ∙ (refused_leaves s part r (says (Refused r) f)).0 in
-        rw (ap (λ (t : Router). t.store) same, ap (λ (t : Router). t.wire) same, ap (λ (t : Router). t.home) same, says (Refused r) f)
+        ∙ (refused_leaves s part r (says (Err r) f)).0 in
+        rw (ap (λ (t : Router). t.store) same, ap (λ (t : Router). t.wire) same, ap (λ (t : Router). t.home) same, says (Err r) f)
 
     -- an accepted one: its lines, its flits, the router after it
-    pub accepted_run : v ≡ Accepted → (r : Written) (out' : List ℕ) (size flits : ℕ)
+    pub accepted_run : v ≡ Ok tt → (r : Result ℕ Unwritten) (out' : List ℕ) (size flits : ℕ)
         → write_outcome r out' ≡ written out before.at (cycle_lines before.cycle reply)
         → ((b : List ℕ) → size ≡ (write_outcome r b).bytes)
         → flits ≡ flit_lines (cycle_lines before.cycle reply)

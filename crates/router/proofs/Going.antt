@@ -1,6 +1,7 @@
 -- A cycle and a block leave a run that can go on: its router sound, its flits within what the cycles can have let out, its place in the
 -- buffer.
 -- Assumes nothing.
+use Rattle.std.specs.Prelude.{Ok, Err}
 use mathlib.Core.Path.{◌≡◌, refl, sym, ap, subst, ◌∙◌}
 use mathlib.Core.Bool.{Bool, true, false, cond, true≢false}
 use mathlib.Core.List.{List, [], ◌∷◌}
@@ -15,19 +16,19 @@ use Rattle.state.specs.declared.Router.{Router}
 use Rattle.trace.specs.Bytes.{AreBytes}
 use Rattle.trace.specs.declared.place.Place.{Place}
 use Rattle.trace.specs.Blocks.{held_of, cycle_length, cycle_start, part_at}
-use Rattle.trace.specs.Judged.{BlockOutcome, next_place, judged}
+use Rattle.trace.specs.declared.judging.Answer.{Answer}
+use Rattle.trace.specs.Judged.{next_place, judged}
 use Rattle.trace.proofs.Findings.{FoundAs, refuses, configures, holds, ends, is_over, found_as}
 use Rattle.listing.specs.Lines.{Line, finish, refusal, cycle_lines, flit_lines}
 use Rattle.listing.proofs.Lengths.{cycle_length-law}
 use Rattle.listing.proofs.Counting.{flits_most, cycle_flit_lines}
-use Rattle.rules.specs.declared.Verdict.{Verdict}
-use Rattle.rules.specs.declared.Verdict.TheVariants.{Accepted, Refused}
+use Rattle.base.specs.Refusal.{Verdict}
 use Rattle.rules.specs.declared.Stepped.{Stepped}
 use Rattle.rules.specs.Step.{step_of}
 use Rattle.rules.proofs.StepSound.{accepted_after}
 use Rattle.rules.proofs.ChosenStep.{cycle_steps}
 use Rattle.router.specs.Running.{Writing, wrote, with_place, with_router, with_flits, on_run, finished, ended_by, by_verdict, cycled}
-use Rattle.router.specs.Running.{cycles_from, by_outcome, block_taken}
+use Rattle.router.specs.Running.{cycles_from, by_found, block_taken}
 use Rattle.router.specs.Inside.{GoesOn}
 use Rattle.router.proofs.Writes.{Fitting, wrote_within, refusal_fits, finish_fits}
 
@@ -47,7 +48,7 @@ module _ (part : List ℕ) (bytes : AreBytes part) (w : Writing) (g : GoesOn w) 
   unfolding cycled wrote
   cycled_goes_on = go x.verdict refl
     where
-      few : x.verdict ≡ Accepted → w.run.flits + flit_lines (cycle_lines s.cycle x.reply) ≤ 8 * x.router.cycle
+      few : x.verdict ≡ Ok tt → w.run.flits + flit_lines (cycle_lines s.cycle x.reply) ≤ 8 * x.router.cycle
       few e =
           let l = g.few in
           let n = cycle_steps s part bytes e in
@@ -56,7 +57,7 @@ module _ (part : List ℕ) (bytes : AreBytes part) (w : Writing) (g : GoesOn w) 
           omega (arith, l, n, m, k)
 
       go : (v : Verdict) → x.verdict ≡ v → GoesOn (by_verdict v x w)
-      go Accepted e =
+      go (Ok _) e =
           record {
             sound = accepted_after s part bytes e;
             few = few e;
@@ -64,7 +65,7 @@ module _ (part : List ℕ) (bytes : AreBytes part) (w : Writing) (g : GoesOn w) 
                 (with_flits (flit_lines (cycle_lines n.router.cycle x.reply)) n)) w) (cycle_lines s.cycle x.reply)
                 (cycle_length-law s.cycle x.reply) g.room;
           }
-      go (Refused r) e = ended_goes_on (refusal r.number s.cycle r.port) w (refusal_fits r.number s.cycle r.port) g
+      go (Err r) e = ended_goes_on (refusal r.number s.cycle r.place) w (refusal_fits r.number s.cycle r.place) g
 
 -- a cycle leaves the place in the file
 pub cycled_place : (part : List ℕ) (w : Writing) → (cycled part w).run.place ≡ w.run.place
@@ -72,8 +73,8 @@ unfolding cycled ended_by wrote
 cycled_place part w = go (step_of w.run.router part).verdict
   where
     go : (v : Verdict) → (by_verdict v (step_of w.run.router part) w).run.place ≡ w.run.place
-    go Accepted = refl
-    go (Refused r) = refl
+    go (Ok _) = refl
+    go (Err r) = refl
 
 -- a piece of bytes is bytes
 pub piece_bytes : (n i : ℕ) (l : List ℕ) → AreBytes l → AreBytes (take n (drop i l))
@@ -125,7 +126,7 @@ module _ (block : List ℕ) (bytes : AreBytes block) (w : Writing) (configured :
       either true h = e
       either false h = h
 
-  of_found : (o : BlockOutcome) → FoundAs p w.run.router.cycle block o → Kept (by_outcome o.read o block w)
+  of_found : (o : Answer) → FoundAs p w.run.router.cycle block o → Kept (by_found o.found o.place block w)
   unfolding ended_by wrote
   of_found _ (refuses n k) = (
     ended_goes_on (refusal n w.run.router.cycle k) w

@@ -1,6 +1,5 @@
 pub mod Numbers
 pub mod RowBytes
-pub mod PortTests
 pub mod FirstPort
 pub mod RuleOrder
 pub mod Turns
@@ -9,6 +8,7 @@ pub mod Advancing
 pub mod Landing
 pub mod Offering
 pub mod Departing
+pub mod Words
 pub mod Asking
 pub mod Granting
 pub mod Binding
@@ -22,7 +22,6 @@ pub mod Phases
 pub mod SoundFits
 pub mod WholeCycle
 pub mod StepLaws
-pub mod Packing
 pub mod Writes
 pub mod Going
 pub mod Cycling

@@ -1,20 +1,24 @@
 -- Block after block of a part: when a call stops, when it goes on, and that its place only moves on.
 -- Assumes nothing.
+use Rattle.trace.specs.declared.place.Place.{Place}
+use Rattle.std.specs.Prelude.{Result, Ok, Err}
 use mathlib.Core.Path.{◌≡◌, refl, ap, ◌∙◌}
 use mathlib.Core.Bool.{Bool, true, false, cond}
 use mathlib.Core.List.{List, [], ◌∷◌}
-use mathlib.Core.Option.{Option, some, none}
 use Prim.Native.Nat.{ℕ, zero, suc, ◌+◌, ◌-◌, ◌≤◌, ◌<◌}
 use native.Mathlib.Nat.{le_refl, le_trans}
 use native.Mathlib.Omega.{arith}
 use lib.ListN.{length, take, drop, length-take, length-drop}
-use Rattle.trace.specs.Judged.{BlockOutcome, Read, a_configuration, some_cycles, the_end, no_more, judged}
+use Rattle.trace.specs.declared.judging.Answer.{Answer}
+use Rattle.trace.specs.declared.judging.Found.{Found}
+use Rattle.base.specs.declared.refusal.Refusal.{Refusal}
+use Rattle.trace.specs.declared.judging.Found.TheVariants as found
+use Rattle.trace.specs.Judged.{judged}
 use Rattle.trace.specs.Blocks.{part_at}
 use Rattle.listing.specs.Lines.{Line}
-use Rattle.rules.specs.declared.Verdict.{Verdict}
-use Rattle.rules.specs.declared.Verdict.TheVariants.{Accepted, Refused}
+use Rattle.base.specs.Refusal.{Verdict}
 use Rattle.rules.specs.Step.{step_of}
-use Rattle.router.specs.Running.{Writing, wrote, ended_by, by_verdict, cycled, cycles_from, by_outcome, block_taken, block_at}
+use Rattle.router.specs.Running.{Writing, wrote, ended_by, by_verdict, cycled, cycles_from, by_found, block_taken, block_at}
 use Rattle.router.specs.Running.{lacks_block_room, Call, takes, stops, going_on}
 
 module _ (part : List ℕ) (n : ℕ) (c : Call) where
@@ -36,12 +40,12 @@ unfolding going_on
 goes_full part zero c l e f = elim l [ ]
 goes_full part (suc n) c l e f = rw (e, f)
 
-pub goes_more : (part : List ℕ) (n : ℕ) (c : Call) → 0 < n → c.writing.run.over ≡ false
+pub goes_more : (part : List ℕ) (n left : ℕ) (c : Call) → left + 1 ≡ n → c.writing.run.over ≡ false
     → lacks_block_room c.writing.buffer c.writing.at ≡ false
-    → going_on part (n - 1) (takes part c) ≡ going_on part n c
+    → going_on part left (takes part c) ≡ going_on part n c
 unfolding going_on
-goes_more part zero c l e f = elim l [ ]
-goes_more part (suc n) c l e f = let g : suc n - 1 ≡ n = omega arith in rw (e, f, g)
+goes_more part zero left c l e f = absurd (omega (arith, l))
+goes_more part (suc n) left c l e f = let g : left ≡ n = omega (arith, l) in rw (g, e, f)
 
 -- as many bytes as a piece has are that piece
 same_take : (n : ℕ) (l : List ℕ) → take (length (take n l)) l ≡ take n l
@@ -69,8 +73,8 @@ unfolding cycled
 cycled_on part w = go (step_of w.run.router part).verdict
   where
     go : (v : Verdict) → w.at ≤ (by_verdict v (step_of w.run.router part) w).at
-    go Accepted = wrote_on _ _
-    go (Refused r) = ended_on _ w
+    go (Ok _) = wrote_on _ _
+    go (Err r) = ended_on _ w
 
 cycles_on : (block : List ℕ) (n k : ℕ) (w : Writing) → w.at ≤ (cycles_from block k n w).at
 unfolding cycles_from
@@ -87,15 +91,15 @@ pub block_on : (block : List ℕ) (w : Writing) → w.at ≤ (block_taken block 
 unfolding block_taken
 block_on block w = go (judged w.run.place w.run.router.cycle block)
   where
-    go : (o : BlockOutcome) → w.at ≤ (by_outcome o.read o block w).at
-    go o = which o.read
+    go : (o : Answer) → w.at ≤ (by_found o.found o.place block w).at
+    go o = which o.found o.place
       where
-        which : (r : Option Read) → w.at ≤ (by_outcome r o block w).at
-        which none = ended_on _ w
-        which (some (a_configuration c)) = le_refl _
-        which (some (some_cycles n)) = cycles_on block n 0 _
-        which (some the_end) = le_refl _
-        which (some no_more) = ended_on _ _
+        which : (r : Result Found Refusal) (q : Place) → w.at ≤ (by_found r q block w).at
+        which (Err r) q = ended_on _ w
+        which (Ok (found.Configuration c)) q = le_refl _
+        which (Ok (found.Cycles n)) q = cycles_on block n 0 _
+        which (Ok found.End) q = le_refl _
+        which (Ok found.Done) q = ended_on _ _
 
 pub goes_on : (part : List ℕ) (n : ℕ) (c : Call) → c.writing.at ≤ (going_on part n c).writing.at
 unfolding going_on

@@ -1,99 +1,89 @@
 -- Phases 1 and 2, turn by turn: sender credits by the home line, output credits by the rows.
 -- Assumes nothing.
-use mathlib.Core.Path.{◌≡◌, refl, sym, ap, ◌∙◌}
-use mathlib.Core.List.{List}
-use mathlib.Core.Option.{some, none}
-use Prim.Native.Nat.{ℕ, ◌+◌, ◌-◌, ◌*◌, ◌≤◌}
-use native.Mathlib.Omega.{arith}
-use lib.ListN.{length, get_or, set}
+use Rattle.std.proofs.Common.{◌≡◌, refl, sym, ap, ◌∙◌, List, length, get_or, set, ℕ, ◌+◌, ◌-◌, ◌*◌, ◌≤◌, arith}
+use Rattle.std.specs.Prelude.{Option}
 use Rattle.base.specs.declared.config.Config.{Config}
-use Rattle.base.specs.declared.reply.Sender.{Sender}
 use Rattle.state.specs.declared.InputVc.{InputVc}
 use Rattle.state.specs.declared.OutputVc.{OutputVc}
 use Rattle.state.specs.Fresh.{fresh_input, fresh_output}
 use Rattle.state.specs.Views.{channel_number, home_place}
+use Rattle.state.proofs.Exact.{length_any}
 use Rattle.rules.specs.Rows.{credit_at}
-use Rattle.rules.proofs.Named.{named_some}
 use Rattle.rules.specs.Ports.{over_ports, named}
-use Rattle.rules.proofs.Folds.{over_again}
-use Rattle.rules.specs.Intake.{sender_paid, credit_to, reaching, output_paid, credit_from}
+use Rattle.rules.proofs.Folds.{over_none, over_again}
+use Rattle.rules.specs.Intake.{sender_paid, credit_to, output_paid, credit_from}
 use Rattle.router.specs.Fitting.{CreditsFit, OutputCreditsFit}
 use Rattle.router.proofs.Turns as turns
 
-pub place_is : (home : List ℕ) (i : ℕ) → get_or home i 0 ≡ home_place home 0 i
+place_is : (home : List ℕ) (i : ℕ) → get_or home i 0 ≡ home_place home 0 i
 place_is home i = let e : 8 * 0 + i ≡ i = omega arith in rw e
 
 -- the turn of port i in phase 1
 abbrev pub sender_turn : Config → List ℕ → List InputVc → ℕ → List InputVc
-sender_turn c home = turns.turn (fresh_input 0) sender_paid c (home_place home 0) (credit_to c) (λ i xs. refl) (λ i v xs. refl)
+sender_turn c home xs i = credit_to c i (named (home_place home 0 i)) xs
 
 -- the turn of port o in phase 2
 abbrev pub output_turn : Config → List ℕ → List OutputVc → ℕ → List OutputVc
-output_turn c part = turns.turn (fresh_output 0) output_paid c (credit_at part) (credit_from c) (λ o ys. refl) (λ o w ys. refl)
+output_turn c part ys o = credit_from c o (named (credit_at part o)) ys
 
-module _ (c : Config) (home : List ℕ) where
-  pub sender_none : (xs : List InputVc) (i p : ℕ) → p ≡ get_or home i 0 → p ≡ 0 → xs ≡ sender_turn c home xs i
-  sender_none xs i p e n =
-      turns.turn_none (fresh_input 0) sender_paid c (home_place home 0) (credit_to c) (λ i xs. refl) (λ i v xs. refl) xs i
-      (sym (place_is home i) ∙ sym e ∙ n)
+module _ (c : Config) (home : List ℕ) (s xs : List InputVc) (i : ℕ) (so : xs ≡ over_ports i (sender_turn c home) s) where
+  pub sender_none : get_or home i 0 ≡ 0 → xs ≡ over_ports (i + 1) (sender_turn c home) s
+  sender_none e =
+      turns.turn_none (fresh_input 0) sender_paid c (home_place home 0) (credit_to c) (λ i xs. refl) (λ i v xs. refl) s xs i so
+      (sym (place_is home i) ∙ e)
 
-  pub sender_some : (xs : List InputVc) (i p : ℕ) → p ≡ get_or home i 0 → (p ≡ 0 → ⊥)
-      → turns.at (fresh_input 0) sender_paid xs (channel_number c i (p - 1)) ≡ sender_turn c home xs i
-  sender_some xs i p e =
-      turns.turn_some (fresh_input 0) sender_paid c (home_place home 0) (credit_to c) (λ i xs. refl) (λ i v xs. refl) xs i p
-      (e ∙ place_is home i)
+  module _ (p x : ℕ) (is : p ≡ get_or home i 0) (some : p ≡ 0 → ⊥) (number : x ≡ channel_number c i (p - 1)) where
+    pub sender_some : (a : InputVc) → a ≡ sender_paid (get_or xs x (fresh_input 0)) → set xs x a ≡ over_ports (i + 1) (sender_turn c home) s
+    sender_some =
+        turns.turn_some (fresh_input 0) sender_paid c (home_place home 0) (credit_to c) (λ i xs. refl) (λ i v xs. refl) s xs i so
+        p x (is ∙ place_is home i) some number
 
-  pub sender_out : (xs : List InputVc) (i p : ℕ) → p ≡ get_or home i 0 → (p ≡ 0 → ⊥) → length xs ≤ channel_number c i (p - 1)
-      → xs ≡ sender_turn c home xs i
-  sender_out xs i p e =
-      turns.turn_out (fresh_input 0) sender_paid c (home_place home 0) (credit_to c) (λ i xs. refl) (λ i v xs. refl) xs i p
-      (e ∙ place_is home i)
+    pub sender_out : length xs ≤ x → xs ≡ over_ports (i + 1) (sender_turn c home) s
+    sender_out =
+        turns.turn_out (fresh_input 0) sender_paid c (home_place home 0) (credit_to c) (λ i xs. refl) (λ i v xs. refl) s xs i so
+        p x (is ∙ place_is home i) some number
 
-  pub senders_long : (xs : List InputVc) (n : ℕ) → length (over_ports n (sender_turn c home) xs) ≡ length xs
-  senders_long = turns.turns_long (fresh_input 0) sender_paid c (home_place home 0) (credit_to c) (λ i xs. refl) (λ i v xs. refl)
+-- the start of the loop, and its turns
+pub ruleset sender_turns = (over_none, sender_none, sender_some, sender_out, length_any)
 
-  pub senders_fit : (xs : List InputVc) (n : ℕ) → CreditsFit 16 xs → CreditsFit (16 + n) (over_ports n (sender_turn c home) xs)
-  senders_fit xs n =
-      turns.turns_fit (fresh_input 0) sender_paid c (home_place home 0) (credit_to c) (λ i xs. refl) (λ i v xs. refl)
-      (λ (x : InputVc). x.credit)
-      (λ x. omega arith) xs 16 n
+-- a turn raises one credit by one
+pub credits_fit : (xs : List InputVc) (i k : ℕ) (a : InputVc) → CreditsFit (16 + i) xs → a ≡ sender_paid (get_or xs k (fresh_input 0))
+    → CreditsFit (16 + (i + 1)) (set xs k a)
+credits_fit xs i k a f e x =
+    turns.set_keeps (λ (y : InputVc). y.credit ≤ 16 + (i + 1)) xs k a (fresh_input 0)
+    (let p = ap (λ (y : InputVc). y.credit) e in let l = f k in omega arith) x (let l = f x in omega arith)
 
-module _ (c : Config) (part : List ℕ) where
-  pub output_none : (ys : List OutputVc) (o p : ℕ) → p ≡ credit_at part o → p ≡ 0 → ys ≡ output_turn c part ys o
-  output_none ys o p e n =
-      turns.turn_none (fresh_output 0) output_paid c (credit_at part) (credit_from c) (λ o ys. refl) (λ o w ys. refl) ys o (sym e ∙ n)
+module _ (c : Config) (part : List ℕ) (s ys : List OutputVc) (o : ℕ) (so : ys ≡ over_ports o (output_turn c part) s) where
+  pub output_none : credit_at part o ≡ 0 → ys ≡ over_ports (o + 1) (output_turn c part) s
+  output_none =
+      turns.turn_none (fresh_output 0) output_paid c (credit_at part) (credit_from c) (λ o ys. refl) (λ o w ys. refl) s ys o so
 
-  pub output_some : (ys : List OutputVc) (o p : ℕ) → p ≡ credit_at part o → (p ≡ 0 → ⊥)
-      → turns.at (fresh_output 0) output_paid ys (channel_number c o (p - 1)) ≡ output_turn c part ys o
-  output_some ys o p e = turns.turn_some (fresh_output 0) output_paid c (credit_at part) (credit_from c) (λ o ys. refl)
-      (λ o w ys. refl) ys o p e
+  module _ (p y : ℕ) (is : p ≡ credit_at part o) (some : p ≡ 0 → ⊥) (number : y ≡ channel_number c o (p - 1)) where
+    pub output_some : (a : OutputVc) → a ≡ output_paid (get_or ys y (fresh_output 0))
+        → set ys y a ≡ over_ports (o + 1) (output_turn c part) s
+    output_some =
+        turns.turn_some (fresh_output 0) output_paid c (credit_at part) (credit_from c) (λ o ys. refl) (λ o w ys. refl) s ys o so
+        p y is some number
 
-  pub output_out : (ys : List OutputVc) (o p : ℕ) → p ≡ credit_at part o → (p ≡ 0 → ⊥) → length ys ≤ channel_number c o (p - 1)
-      → ys ≡ output_turn c part ys o
-  output_out ys o p e = turns.turn_out (fresh_output 0) output_paid c (credit_at part) (credit_from c) (λ o ys. refl) (λ o w ys. refl) ys o p e
+    pub output_out : length ys ≤ y → ys ≡ over_ports (o + 1) (output_turn c part) s
+    output_out =
+        turns.turn_out (fresh_output 0) output_paid c (credit_at part) (credit_from c) (λ o ys. refl) (λ o w ys. refl) s ys o so
+        p y is some number
 
-  pub outputs_long : (ys : List OutputVc) (n : ℕ) → length (over_ports n (output_turn c part) ys) ≡ length ys
-  outputs_long = turns.turns_long (fresh_output 0) output_paid c (credit_at part) (credit_from c) (λ o ys. refl) (λ o w ys. refl)
+pub ruleset output_turns = (over_none, output_none, output_some, output_out, length_any)
 
-  pub outputs_fit : (ys : List OutputVc) (n : ℕ) → OutputCreditsFit 16 ys → OutputCreditsFit (16 + n) (over_ports n (output_turn c part) ys)
-  outputs_fit ys n =
-      turns.turns_fit (fresh_output 0) output_paid c (credit_at part) (credit_from c) (λ o ys. refl) (λ o w ys. refl)
-      (λ (y : OutputVc). y.credit)
-      (λ y. omega arith) ys 16 n
-
--- what a home place reports
-pub reports_none : (p : ℕ) → p ≡ 0 → reaching none ≡ reaching (named p)
-reports_none p e = rw e
-
-pub reports_some : (p : ℕ) → (p ≡ 0 → ⊥) → reaching (some (p - 1)) ≡ reaching (named p)
-reports_some p n = rw (named_some p n)
+pub output_credits_fit : (ys : List OutputVc) (o k : ℕ) (a : OutputVc) → OutputCreditsFit (16 + o) ys
+    → a ≡ output_paid (get_or ys k (fresh_output 0)) → OutputCreditsFit (16 + (o + 1)) (set ys k a)
+output_credits_fit ys o k a f e y =
+    turns.set_keeps (λ (x : OutputVc). x.credit ≤ 16 + (o + 1)) ys k a (fresh_output 0)
+    (let p = ap (λ (x : OutputVc). x.credit) e in let l = f k in omega arith) y (let l = f y in omega arith)
 
 -- the turn of port i of the report
-abbrev pub report_turn : List ℕ → List Sender → ℕ → List Sender
-report_turn home senders i = set senders i (reaching (named (home_place home 0 i)))
+abbrev pub report_turn : List ℕ → List (Option ℕ) → ℕ → List (Option ℕ)
+report_turn home senders i = set senders i (named (home_place home 0 i))
 
-pub report_again : (home : List ℕ) (b senders : List Sender) (s : Sender) (i : ℕ) → senders ≡ over_ports i (report_turn home) b
-    → s ≡ reaching (named (get_or home i 0)) → set senders i s ≡ over_ports (i + 1) (report_turn home) b
-report_again home b senders s i e h =
+pub report_again : (home : List ℕ) (b senders : List (Option ℕ)) (i : ℕ) (s : Option ℕ) → senders ≡ over_ports i (report_turn home) b
+    → s ≡ named (get_or home i 0) → set senders i s ≡ over_ports (i + 1) (report_turn home) b
+report_again home b senders i s e h =
     over_again i (report_turn home) b senders (set senders i s) e
-    (ap (λ (x : Sender). set senders i x) (h ∙ ap (λ (p : ℕ). reaching (named p)) (place_is home i)))
+    (ap (set senders i) (h ∙ ap (λ (p : ℕ). named p) (place_is home i)))

@@ -1,14 +1,13 @@
 -- A whole cycle from its phases: each law takes what the phase's function promises and gives the router of the rules.
 -- Assumes nothing.
+use Rattle.std.specs.Prelude.{None}
+use Rattle.arbiter.specs.declared.Arbiter.{Arbiter}
 use mathlib.Core.Path.{◌≡◌, ap, ◌∙◌}
 use mathlib.Core.List.{List}
-use mathlib.Core.Option.{Option}
+use Rattle.std.specs.Prelude.{Option}
 use Prim.Native.Nat.{ℕ, ◌+◌, ◌*◌, ◌<◌}
 use lib.ListN.{replicate}
 use Rattle.base.specs.declared.config.Config.{Config}
-use Rattle.base.specs.declared.reply.Left.TheVariants as left
-use Rattle.arbiter.specs.declared.Narrow.{Narrow}
-use Rattle.arbiter.specs.declared.Wide.{Wide}
 use Rattle.state.specs.declared.InVc.{InVc}
 use Rattle.state.specs.declared.InputVc.{InputVc}
 use Rattle.state.specs.declared.OutputVc.{OutputVc}
@@ -16,7 +15,7 @@ use Rattle.state.specs.declared.Router.{Router}
 use Rattle.state.specs.Setters.{with_cycle, with_inputs, with_outputs, with_store, with_wire, with_home, with_arbiters, with_vc_arbiters}
 use Rattle.state.specs.Setters.{with_input_arbiters, with_output_arbiters}
 use Rattle.rules.specs.Intake.{advanced, outputs_paid, Queues, landings, Senders, offers, credits_returned, landed, offers_taken}
-use Rattle.rules.specs.Allocation.{Grant, grant_of, requester_of, Vcs, bindings, bound_by, wide_moved, narrow_moved, allocated, input_pick}
+use Rattle.rules.specs.Allocation.{Grant, grant_of, requester_of, Vcs, bindings, bound_by, arbiters_moved, allocated, input_pick}
 use Rattle.rules.specs.Allocation.{output_pick, switched, winner}
 use Rattle.rules.specs.Departures.{Leaving, departures, leaves_by, leaving_of}
 use Rattle.rules.specs.Step.{sent_out}
@@ -30,15 +29,10 @@ bindings_same c f g n e =
     over_same c.ports (λ n o. bound_by c o (f o) n) (λ n o. bound_by c o (g o) n) n
     (λ t o l. ap (λ (x : Option Grant). bound_by c o x t) (e o l))
 
-pub wide_same : (c : Config) (n : ℕ) (f g : ℕ → Option ℕ) (a : List Wide) → ((o : ℕ) → o < c.ports → f o ≡ g o)
-    → wide_moved c n f a ≡ wide_moved c n g a
-unfolding wide_moved
-wide_same c n f g a e = over_same c.ports _ _ a (λ t o l. rw (e o l))
-
-pub narrow_same : (c : Config) (n : ℕ) (f g : ℕ → Option ℕ) (a : List Narrow) → ((o : ℕ) → o < c.ports → f o ≡ g o)
-    → narrow_moved c n f a ≡ narrow_moved c n g a
-unfolding narrow_moved
-narrow_same c n f g a e = over_same c.ports _ _ a (λ t o l. rw (e o l))
+pub moved_same : (places : ℕ) (c : Config) (n : ℕ) (f g : ℕ → Option ℕ) (a : List (Arbiter places)) → ((o : ℕ) → o < c.ports → f o ≡ g o)
+    → arbiters_moved places c n f a ≡ arbiters_moved places c n g a
+unfolding arbiters_moved
+moved_same places c n f g a e = over_same c.ports _ _ a (λ t o l. rw (e o l))
 
 pub departures_same : (c : Config) (f g : ℕ → Option InVc) (l : Leaving) → ((o : ℕ) → o < c.ports → f o ≡ g o)
     → departures c f l ≡ departures c g l
@@ -68,16 +62,16 @@ taken_in s part outputs inputs₃ store wire₃ inputs wire e2 e3 ew e4 =
     rw (e2, s3, i4, w4, i3, ew)
 
 -- phase 5
-pub allocated_is : (s : Router) (grant : ℕ → Option Grant) (inputs : List InputVc) (outputs : List OutputVc) (vcs : List Wide)
+pub allocated_is : (s : Router) (grant : ℕ → Option Grant) (inputs : List InputVc) (outputs : List OutputVc) (vcs : List (Arbiter 32))
     → ((o : ℕ) → o < s.config.ports → grant o ≡ grant_of s o)
     → ◌≡◌ {A = Vcs} (record { inputs = inputs; outputs = outputs })
     (bindings s.config grant (record { inputs = s.inputs; outputs = s.outputs }))
-    → vcs ≡ wide_moved s.config (s.config.ports * s.config.vcs) (λ (o : ℕ). requester_of (grant o)) s.arbiters.vcs
+    → vcs ≡ arbiters_moved 32 s.config (s.config.ports * s.config.vcs) (λ (o : ℕ). requester_of (grant o)) s.arbiters.vcs
     → with_inputs inputs (with_outputs outputs (with_arbiters (with_vc_arbiters vcs s.arbiters) s)) ≡ allocated s
 unfolding allocated
 allocated_is s grant inputs outputs vcs agree e v =
     let b = e ∙ bindings_same s.config grant (grant_of s) (record { inputs = s.inputs; outputs = s.outputs }) agree in
-    let m = v ∙ wide_same s.config (s.config.ports * s.config.vcs) (λ (o : ℕ). requester_of (grant o))
+    let m = v ∙ moved_same 32 s.config (s.config.ports * s.config.vcs) (λ (o : ℕ). requester_of (grant o))
     (λ (o : ℕ). requester_of (grant_of s o))
     s.arbiters.vcs (λ o h. ap requester_of (agree o h)) in
     let i : inputs ≡ (bindings s.config (grant_of s) (record { inputs = s.inputs; outputs = s.outputs })).inputs = ap
@@ -87,7 +81,7 @@ allocated_is s grant inputs outputs vcs agree e v =
     rw (i, o, m)
 
 -- phases 6 and 7
-pub sent_out-law : (s : Router) (pick row : ℕ → Option ℕ) (win : ℕ → Option InVc) (l : Leaving) (ins outs : List Narrow)
+pub sent_out-law : (s : Router) (pick row : ℕ → Option ℕ) (win : ℕ → Option InVc) (l : Leaving) (ins outs : List (Arbiter 8))
     → ((i : ℕ) → i < s.config.ports → pick i ≡ input_pick s i) → ((o : ℕ) → o < s.config.ports → row o ≡ output_pick s o)
     → ((o : ℕ) → o < s.config.ports → win o ≡ winner s o)
     → l ≡ departures s.config win
@@ -96,10 +90,10 @@ pub sent_out-law : (s : Router) (pick row : ℕ → Option ℕ) (win : ℕ → O
       outputs = s.outputs;
       store = s.store;
       home = s.home;
-      left = replicate 8 (record { left = left.Nothing });
+      left = replicate 8 None;
     })
-    → ins ≡ narrow_moved s.config s.config.vcs pick s.arbiters.inputs
-    → outs ≡ narrow_moved s.config s.config.ports row s.arbiters.outputs
+    → ins ≡ arbiters_moved 8 s.config s.config.vcs pick s.arbiters.inputs
+    → outs ≡ arbiters_moved 8 s.config s.config.ports row s.arbiters.outputs
     → (with_cycle (s.cycle + 1) (with_inputs l.inputs (with_outputs l.outputs (with_store l.store (with_home l.home
     (with_arbiters (with_input_arbiters ins (with_output_arbiters outs s.arbiters)) s)))))
     ≡ sent_out s) × (l.left ≡ (leaving_of s).left)
@@ -111,8 +105,8 @@ sent_out-law s pick row win l ins outs p r w e i o =
       outputs = s.outputs;
       store = s.store;
       home = s.home;
-      left = replicate 8 (record { left = left.Nothing });
+      left = replicate 8 None;
     }) w in
-    let a = i ∙ narrow_same s.config s.config.vcs pick (input_pick s) s.arbiters.inputs p in
-    let b = o ∙ narrow_same s.config s.config.ports row (output_pick s) s.arbiters.outputs r in
+    let a = i ∙ moved_same 8 s.config s.config.vcs pick (input_pick s) s.arbiters.inputs p in
+    let b = o ∙ moved_same 8 s.config s.config.ports row (output_pick s) s.arbiters.outputs r in
     (rw (d, a, b), ap (λ (x : Leaving). x.left) d)

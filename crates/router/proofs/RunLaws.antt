@@ -19,7 +19,8 @@ use Rattle.state.proofs.FreshIsSound.{fresh_is_sound}
 use Rattle.trace.specs.declared.place.Place.{Place}
 use Rattle.trace.specs.Blocks.{config_of}
 use Rattle.trace.specs.Place.{good_place}
-use Rattle.trace.specs.Judged.{BlockOutcome, judged}
+use Rattle.trace.specs.declared.judging.Answer.{Answer}
+use Rattle.trace.specs.Judged.{judged}
 use Rattle.trace.proofs.Findings.{FoundAs, refuses, configures, holds, ends, is_over, found_as}
 use Rattle.trace.proofs.Places.{Good, nothing, after, good_is}
 use Rattle.listing.specs.Writing.{lacks_room}
@@ -27,7 +28,7 @@ use Rattle.rules.proofs.Facts.{sound_legal}
 use Rattle.runs.specs.declared.Run.{Run}
 use Rattle.runs.specs.Run.{place_right, run_sound}
 use Rattle.runs.proofs.Places.{going_good}
-use Rattle.router.specs.Running.{Writing, wrote, ended_by, by_outcome, block_taken, room_of_block, lacks_block_room, blocks_in, begins}
+use Rattle.router.specs.Running.{Writing, wrote, ended_by, by_found, block_taken, room_of_block, lacks_block_room, blocks_in, begins}
 use Rattle.router.specs.Running.{going_on, CallOutcome, refused_with, answered, ran_of}
 use Rattle.router.proofs.Onward.{goes_full}
 use Rattle.router.specs.Inside.{Within, Ongoing}
@@ -118,7 +119,7 @@ unfolding block_taken ended_by wrote
 begun_ongoing block w f z i = go (judged w.run.place w.run.router.cycle block)
     (found_as w.run.place w.run.router.cycle block)
   where
-    go : (o : BlockOutcome) → FoundAs w.run.place w.run.router.cycle block o → Ongoing (by_outcome o.read o block w)
+    go : (o : Answer) → FoundAs w.run.place w.run.router.cycle block o → Ongoing (by_found o.found o.place block w)
     go _ (refuses n k) = λ e. absurd (true≢false e)
     go _ (configures a b _) = λ e. (
       record {

@@ -16,16 +16,11 @@ use Rattle.state.specs.declared.Router.{Router}
 use Rattle.state.specs.Fresh.{fresh_input, fresh_output}
 use Rattle.state.specs.Sound.{Sound, input_unused, output_unused, channels_unused, output_credits_fit, is_unbound, is_vc_free}
 use Rattle.state.specs.Views.{input_at, output_at}
-use Rattle.state.proofs.Made.{channels_fit}
 use Rattle.rules.specs.Intake.{senders_paid}
 use Rattle.rules.proofs.Channels.{Split, channel_of, channel_at}
 use Rattle.rules.proofs.CreditsReached.{paid_keeps}
 use Rattle.rules.proofs.Facts.{credits_sum, sound_legal, sound_lengths}
 use Rattle.router.specs.Fitting.{CreditsFit, QueuesFit, OutputCreditsFit}
-
--- the arrays have room for all channels
-pub legal_channels : {c : Config} → Legal c → c.ports * c.vcs ≤ 32
-legal_channels {c} l = channels_fit c.ports c.vcs l.ports.1 l.vcs.1
 
 module _ (s : Router) (sound : Sound s) where
   abbrev c : Config

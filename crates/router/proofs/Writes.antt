@@ -7,8 +7,9 @@ use Prim.Native.Nat.{ℕ, ◌+◌, ◌≤◌, ◌<◌}
 use native.Mathlib.Omega.{arith}
 use lib.ListN.{length}
 use Rattle.base.specs.Numbers.{done, no_room, out_of_range, room}
-use Rattle.listing.specs.declared.Written.{Written}
-use Rattle.listing.specs.declared.Written.TheVariants.{Lines, NoRoom, OutOfRange}
+use Rattle.std.specs.Prelude.{Result, Ok, Err}
+use Rattle.listing.specs.declared.Unwritten.{Unwritten}
+use Rattle.listing.specs.declared.Unwritten.TheVariants.{NoRoom, OutOfRange}
 use Rattle.listing.specs.Lines.{Line, finish, refusal, text, printable}
 use Rattle.listing.specs.Writing.{WriteOutcome, put, lacks_room, refused_with, written, write_outcome}
 use Rattle.listing.proofs.Ports.{text_one}
@@ -19,13 +20,13 @@ use Rattle.router.specs.Running.{Writing, wrote}
 use Rattle.router.specs.Inside.{Within}
 
 -- a write's answer leaves the buffer that it is told of
-pub outcome_buffer : (r : Written) (b : List ℕ) → (write_outcome r b).buffer ≡ b
-outcome_buffer (Lines n) b = refl
-outcome_buffer NoRoom b = refl
-outcome_buffer OutOfRange b = refl
+pub outcome_buffer : (r : Result ℕ Unwritten) (b : List ℕ) → (write_outcome r b).buffer ≡ b
+outcome_buffer (Ok n) b = refl
+outcome_buffer (Err NoRoom) b = refl
+outcome_buffer (Err OutOfRange) b = refl
 
 -- the buffer and the size of a write's answer
-pub wrote_is : (w : Writing) (lines : List Line) (r : Written) (buffer : List ℕ) (size : ℕ) → write_outcome r buffer
+pub wrote_is : (w : Writing) (lines : List Line) (r : Result ℕ Unwritten) (buffer : List ℕ) (size : ℕ) → write_outcome r buffer
     ≡ written w.buffer w.at lines
     → ((b : List ℕ) → size ≡ (write_outcome r b).bytes)
     → ◌≡◌ {A = Writing} (record { run = w.run; at = w.at + size; buffer = buffer }) (wrote lines w)
@@ -71,7 +72,7 @@ wrote_within w lines fit i =
     }
 
 -- so that the place does not overflow
-pub place_fits : (b : List ℕ) (at : ℕ) (lines : List Line) (r : Written) (buffer : List ℕ) (size : ℕ) → write_outcome r buffer
+pub place_fits : (b : List ℕ) (at : ℕ) (lines : List Line) (r : Result ℕ Unwritten) (buffer : List ℕ) (size : ℕ) → write_outcome r buffer
     ≡ written b at lines
     → ((b : List ℕ) → size ≡ (write_outcome r b).bytes) → Fitting lines → Within at b → at + size < 18446744073709551616
 place_fits b at lines r buffer size e f fit i =

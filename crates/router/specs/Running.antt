@@ -1,19 +1,21 @@
 -- The run entry: block after block of a file is judged, its cycles are stepped, and each cycle's lines, the E or the R line, are written
 -- (01, blocks, numbers and the list).
 -- Assumes nothing.
+use Rattle.std.specs.Prelude.{Result, Ok, Err}
 use Rattle.std.specs.Prelude.{Bool, true, cond, not, List, [], ◌∷◌, ℕ, zero, suc, ◌+◌, ◌-◌, ◌*◌, ◌/◌, length, take, drop}
-use Rattle.std.proofs.Math.Option.{Option, some, none}
 use Rattle.base.specs.Numbers.{done, not_sound, no_room, room}
 use Rattle.state.specs.declared.Router.{Router}
 use Rattle.state.specs.Fresh.{fresh_router}
 use Rattle.trace.specs.declared.place.Place.{Place}
 use Rattle.trace.specs.Blocks.{block_length, part_at}
-use Rattle.trace.specs.Judged.{Read, a_configuration, some_cycles, the_end, no_more, judged}
-use Rattle.trace.specs.Judged as trace
+use Rattle.base.specs.declared.refusal.Refusal.{Refusal}
+use Rattle.trace.specs.declared.judging.Answer.{Answer}
+use Rattle.trace.specs.declared.judging.Found.{Found}
+use Rattle.trace.specs.declared.judging.Found.TheVariants as found
+use Rattle.trace.specs.Judged.{judged}
 use Rattle.listing.specs.Lines.{Line, finish, refusal, cycle_lines, flit_lines}
 use Rattle.listing.specs.Writing.{lacks, lacks_room, written}
-use Rattle.rules.specs.declared.Verdict.{Verdict}
-use Rattle.rules.specs.declared.Verdict.TheVariants.{Accepted, Refused}
+use Rattle.base.specs.Refusal.{Verdict}
 use Rattle.rules.specs.declared.Stepped.{Stepped}
 use Rattle.rules.specs.Step.{step_of}
 use Rattle.runs.specs.declared.Run.{Run}
@@ -56,10 +58,10 @@ ended_by line w = wrote (line ∷ []) (on_run finished w)
 
 -- "per accepted cycle" its lines; a refused one ends the list
 abbrev pub by_verdict : Verdict → Stepped → Writing → Writing
-by_verdict Accepted x w =
+by_verdict (Ok _) x w =
     wrote (cycle_lines w.run.router.cycle x.reply)
     (on_run (λ n. with_router x.router (with_flits (flit_lines (cycle_lines n.router.cycle x.reply)) n)) w)
-by_verdict (Refused r) x w = ended_by (refusal r.number w.run.router.cycle r.port) w
+by_verdict (Err r) x w = ended_by (refusal r.number w.run.router.cycle r.place) w
 
 abbrev pub by_step : Stepped → Writing → Writing
 by_step x w = by_verdict x.verdict x w
@@ -72,19 +74,19 @@ unfoldable pub cycles_from : List ℕ → ℕ → ℕ → Writing → Writing
 cycles_from block k zero w = w
 cycles_from block k (suc n) w = cond w.run.over w (cycles_from block (k + 1) n (cycled (part_at block k) w))
 
--- what a block was read as, at the place after it
-abbrev pub by_read : Read → List ℕ → Writing → Writing
-by_read (a_configuration c) block w = on_run (with_router (fresh_router c)) w
-by_read (some_cycles n) block w = cycles_from block 0 n w
-by_read the_end block w = w
-by_read no_more block w = ended_by (finish w.run.router.cycle w.run.flits) w
+-- what a block was found to be, at the place after it
+abbrev pub by_read : Found → List ℕ → Writing → Writing
+by_read (found.Configuration c) block w = on_run (with_router (fresh_router c)) w
+by_read (found.Cycles n) block w = cycles_from block 0 n w
+by_read found.End block w = w
+by_read found.Done block w = ended_by (finish w.run.router.cycle w.run.flits) w
 
-abbrev pub by_outcome : Option Read → trace.BlockOutcome → List ℕ → Writing → Writing
-by_outcome none o block w = ended_by (refusal o.number w.run.router.cycle o.field) w
-by_outcome (some r) o block w = by_read r block (on_run (with_place o.place) w)
+abbrev pub by_found : Result Found Refusal → Place → List ℕ → Writing → Writing
+by_found (Err r) p block w = ended_by (refusal r.number w.run.router.cycle r.place) w
+by_found (Ok f) p block w = by_read f block (on_run (with_place p) w)
 
-abbrev pub by_judgement : trace.BlockOutcome → List ℕ → Writing → Writing
-by_judgement o block w = by_outcome o.read o block w
+abbrev pub by_judgement : Answer → List ℕ → Writing → Writing
+by_judgement a block w = by_found a.found a.place block w
 
 unfoldable pub block_taken : List ℕ → Writing → Writing
 block_taken block w = by_judgement (judged w.run.place w.run.router.cycle block) block w

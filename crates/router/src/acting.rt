@@ -10,8 +10,8 @@ ghost use Rattle.router.specs.Whole.{router_of, bound_of};
 
 use crate::allocation::Vcs;
 use crate::parts::Parts;
-use crate::{allocation, intake, leaving, switching};
-use base::{Config, Left, Output, Reply};
+use crate::{allocation, arbitration, intake, leaving, switching};
+use base::{Config, Reply};
 
 #[derive(Clone, Copy)]
 pub struct PartsAndReply {
@@ -44,10 +44,10 @@ pub(crate) fn act(
     let ins0 = parts.ins;
     let outs0 = parts.outs;
     let senders = intake::report(config, home);
-    intake::advance_home(home);
+    intake::advance(home, 0);
     let outputs2 = intake::pay_outputs(config, outputs1, part);
     let inputs3 = intake::land(config, inputs1, wire, store);
-    intake::advance_wire(wire);
+    intake::advance(wire, 0);
     let inputs4 = intake::take_offers(config, inputs3, part, wire);
     let sets = allocation::asking(config, inputs4, store);
     let made = allocation::grants(config, outputs2, vcs0, sets);
@@ -65,9 +65,7 @@ pub(crate) fn act(
     let ready = switching::ready(config, inputs5, outputs5);
     // nobody is ready: phases 6 and 7 change nothing
     if ready == 0 {
-        let left = [Output {
-            left: Left::Nothing,
-        }; 8];
+        let left = [None; 8];
         return PartsAndReply {
             parts: Parts {
                 inputs: inputs5,
@@ -85,8 +83,8 @@ pub(crate) fn act(
     let picks = switching::pick_inputs(config, ready, ins0);
     let table = switching::table_of(config, inputs5, picks);
     let rows = switching::pick_outputs(config, &table, outs0);
-    let ins = switching::move_on(config, config.vcs as u32, ins0, picks);
-    let outs = switching::move_on(config, config.ports as u32, outs0, rows);
+    let ins = arbitration::move_on(config, config.vcs as u32, ins0, picks);
+    let outs = arbitration::move_on(config, config.ports as u32, outs0, rows);
     let gone = leaving::leave(config, inputs5, outputs5, rows, picks, store, home);
     let inputs = gone.inputs;
     let outputs = gone.outputs;

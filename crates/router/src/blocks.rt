@@ -68,8 +68,7 @@ pub(crate) fn blocks(
 {
     let mut run = before;
     let mut from = first;
-    let mut left = count;
-    while 0 < left {
+    'each: for _ in 0..count {
         if run.over {
             return RunAndUsed {
                 run,
@@ -87,7 +86,6 @@ pub(crate) fn blocks(
         let end = block_end(part, from);
         run = running::block(config, run, &part[from..end], store, wire, home, out);
         from = end;
-        left -= 1;
     }
     RunAndUsed {
         run,

@@ -13,8 +13,5 @@ pub(crate) fn wide(byte: u8) -> usize
 pub(crate) fn less_one(count: u8) -> u8
     ensures { result ≡ count - 1 }
 {
-    if count == 0 {
-        return 0;
-    }
-    count - 1
+    count.saturating_sub(1)
 }

@@ -7,14 +7,14 @@ ghost use Rattle.router.specs.Whole.{router_of};
 
 use crate::parts::Parts;
 use crate::{acting, intake, judge, parts};
-use base::{Config, NOT_SOUND, Reply};
-use rules::{Refusal, Stepped, Verdict};
+use base::{Config, NOT_SOUND, Refusal, Reply};
+use rules::Stepped;
 use state::Router;
 
 // A cycle's verdict and reply, with the cycle count and the parts after it.
 #[derive(Clone, Copy)]
 pub struct SteppedParts {
-    pub verdict: Verdict,
+    pub verdict: Result<(), Refusal>,
     pub cycle: u64,
     pub parts: Parts,
     pub reply: Reply,
@@ -42,9 +42,9 @@ pub(crate) fn inner_step(
     let outputs = before.outputs;
     let paid = intake::pay_senders(config, inputs, home);
     let verdict = judge::judge(config, cycle, inputs, paid, outputs, part);
-    if let Verdict::Refused(refusal) = verdict {
+    if verdict.is_err() {
         return SteppedParts {
-            verdict: Verdict::Refused(refusal),
+            verdict,
             cycle,
             parts: before,
             reply: Reply::empty(),
@@ -70,7 +70,7 @@ pub(crate) fn inner_step(
     let parts = acted.parts;
     let reply = acted.reply;
     SteppedParts {
-        verdict: Verdict::Accepted,
+        verdict,
         cycle: cycle + 1,
         parts,
         reply,
@@ -78,16 +78,15 @@ pub(crate) fn inner_step(
 }
 
 // One cycle of any router: 2 where it is not sound, else what the rules of the cycle make of the 64 bytes. A refused cycle leaves the
-// router as
-// it was and reports nothing.
+// router as it was and reports nothing.
 pub fn step(router: Router, part: &[u8]) -> Stepped
     ensures { result ≡ step_of router part.now }
 {
     if !state::is_sound(router) {
         return Stepped {
-            verdict: Verdict::Refused(Refusal {
+            verdict: Err(Refusal {
                 number: NOT_SOUND,
-                port: 0,
+                place: 0,
             }),
             router,
             reply: Reply::empty(),

@@ -95,25 +95,28 @@ fn begin(run: Run, block: &[u8], buf: &mut [u8], at: usize) -> RunAndAt
     let found = answer.found;
     let place = answer.place;
     match found {
-        Found::Configuration(config) => {
-            let built = state::fresh(config);
-            let router = built.router;
-            RunAndAt {
-                run: Run {
-                    router,
-                    place,
-                    flits: run.flits,
-                    over: run.over,
-                },
-                at,
+        Ok(first) => match first {
+            Found::Configuration(config) => {
+                let built = state::fresh(config);
+                let router = built.router;
+                RunAndAt {
+                    run: Run {
+                        router,
+                        place,
+                        flits: run.flits,
+                        over: run.over,
+                    },
+                    at,
+                }
             }
-        }
-        // another block is never the first
-        Found::Cycles(_) => RunAndAt { run, at },
-        Found::End => RunAndAt { run, at },
-        Found::Done => RunAndAt { run, at },
-        Found::Refused(number, field) => {
-            let bytes = running::size(listing::write_refusal(buf, at, number, 0, field));
+            // another block is never the first
+            Found::Cycles(_) => RunAndAt { run, at },
+            Found::End => RunAndAt { run, at },
+            Found::Done => RunAndAt { run, at },
+        },
+        Err(refusal) => {
+            let written = listing::write_refusal(buf, at, refusal.number, 0, refusal.place);
+            let bytes = running::size(written);
             let mut last = run;
             last.over = true;
             RunAndAt {

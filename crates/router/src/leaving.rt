@@ -1,24 +1,23 @@
 // Phase 7: the winners leave.
-ghost use Rattle.std.specs.Prelude.{◌≡◌, cond, ℕ, ◌-◌, ◌≤◌, ◌<◌, eqb, get_or, set, replicate};
+ghost use Rattle.std.specs.Prelude.{◌≡◌, ℕ, ◌+◌, ◌≤◌, ◌<◌, IfSome, set, replicate};
 ghost use Rattle.base.specs.Flit.{kind_of, ends_kind};
 ghost use Rattle.store.specs.Store.{front_of, popped};
 ghost use Rattle.state.specs.Views.{channel_number};
 ghost use Rattle.rules.specs.Intake.{newest};
-ghost use Rattle.base.specs.declared.reply.Left.TheVariants as left;
 ghost use Rattle.rules.specs.Allocation.{vc_of};
 ghost use Rattle.rules.specs.Departures.{input_left, output_left, departure, Leaving, departures};
 ghost use Rattle.router.specs.Picks.{pick_in};
 
 use crate::{channel, counts};
-use base::{CHANNEL_PLACES, Config, Departure, Flit, Left, Output, PORT_PLACES, ends};
-use state::{Binding, Holder, InputVc, OutputVc};
+use base::{CHANNEL_PLACES, Config, Departure, Flit, PORT_PLACES, ends};
+use state::{Binding, InVc, InputVc, OutputVc};
 
 // Input VCs and output VCs after the departures, and what left.
 #[derive(Clone, Copy)]
 pub struct VcsAndLeft {
     pub inputs: [InputVc; 32],
     pub outputs: [OutputVc; 32],
-    pub left: [Output; 8],
+    pub left: [Option<Departure>; 8],
 }
 
 // "leaves its queue", "T or S unbinds"
@@ -42,45 +41,37 @@ fn after_taking(output: OutputVc, ends: bool) -> OutputVc
     let mut taken = output;
     taken.credit = credit;
     if ends {
-        return taken.with_holder(Holder::Nobody);
+        return taken.with_holder(None);
     }
     taken
 }
 
 // "takes the output VC's number"
-fn departed(out_vc: u8, input: u8, vc: u8, flit: Flit) -> Output
-    ensures { result ≡ departure out_vc input vc flit }
+fn departed(out_vc: u8, input: u8, vc: u8, flit: Flit) -> Departure
+    ensures { Some result ≡ departure out_vc input vc flit }
 {
-    Output {
-        left: Left::Flit(Departure {
-            out_vc,
-            input,
-            vc,
-            kind: flit.kind(),
-            payload: flit.payload(),
-        }),
+    Departure {
+        out_vc,
+        input,
+        vc,
+        kind: flit.kind(),
+        payload: flit.payload(),
     }
 }
 
-// The channel of an output's winner, by the row picked there and by what that row's input picked; 32 if there is none.
-fn winning(config: Config, rows: [u8; 8], picks: [u8; 8], o: usize) -> usize
+// An output's winner: the input picked there, and the VC that this input picked.
+fn winning(rows: [Option<u8>; 8], picks: [Option<u8>; 8], o: usize) -> Option<InVc>
     requires { o < 8 }
-    ensures { result ≡ cond (eqb (get_or rows o 0) 0) 32 (cond (eqb (get_or picks (get_or rows o 0 - 1) 0) 0) 32
-        (channel_number config (get_or rows o 0 - 1) (get_or picks (get_or rows o 0 - 1) 0 - 1))) }
+    ensures winner { result ≡ vc_of (pick_in picks) (pick_in rows o) }
+    ensures there { IfSome result (λ w. w.input < 8) }
 {
-    let row = rows[o];
-    if row == 0 {
-        return CHANNEL_PLACES;
-    }
-    let i = counts::wide(row - 1);
+    let input = rows[o]?;
+    let i = input as usize;
     if PORT_PLACES <= i {
-        return CHANNEL_PLACES;
+        return None;
     }
-    let pick = picks[i];
-    if pick == 0 {
-        return CHANNEL_PLACES;
-    }
-    channel::number(config, i, counts::wide(pick - 1))
+    let vc = picks[i]?;
+    Some(InVc { input, vc })
 }
 
 // Whether the front flit of channel x is the last of its packet.
@@ -94,26 +85,21 @@ fn ends_packet(x: usize, store: &[u64; 512]) -> bool
 // "Each winner leaves its queue .. takes the output VC's number, and puts a credit on the way home": what is seen at the output.
 fn let_go(
     config: Config,
-    rows: [u8; 8],
-    picks: [u8; 8],
-    o: usize,
+    winner: InVc,
     out_vc: u8,
     x: usize,
     store: &mut [u64; 512],
     home: &mut [u8; 64],
-) -> Output
-    requires { (1 ≤ config.back) × (config.back ≤ 8) × (o < 8) × (get_or rows o 0 - 1 < 8) }
-    ensures { (result ≡ departure out_vc (get_or rows o 0 - 1) (get_or picks (get_or rows o 0 - 1) 0 - 1) (front_of store.old x))
-        × (store.new ≡ popped store.old x)
-        × (home.new ≡ set home.old (newest config.back (get_or rows o 0 - 1)) (get_or picks (get_or rows o 0 - 1) 0)) }
+) -> Departure
+    requires { (1 ≤ config.back) × (config.back ≤ 8) × (winner.input < 8) × (winner.vc < 255) }
+    ensures seen { Some result ≡ departure out_vc winner.input winner.vc (front_of store.old x) }
+    ensures left { store.new ≡ popped store.old x }
+    ensures credited { home.new ≡ set home.old (newest config.back winner.input) (winner.vc + 1) }
 {
     let flit = store::front(x, store);
     store::pop(x, store);
-    let input = counts::less_one(rows[o]);
-    let i = counts::wide(input);
-    let pick = picks[i];
-    home[8 * (config.back as usize - 1) + i] = pick;
-    departed(out_vc, input, counts::less_one(pick), flit)
+    home[8 * (config.back as usize - 1) + winner.input as usize] = winner.vc + 1;
+    departed(out_vc, winner.input, winner.vc, flit)
 }
 
 // "Each winner leaves its queue, costs one output credit, takes the output VC's number, and puts a credit on the way home."
@@ -121,8 +107,8 @@ pub(crate) fn leave(
     config: Config,
     before: [InputVc; 32],
     earlier: [OutputVc; 32],
-    rows: [u8; 8],
-    picks: [u8; 8],
+    rows: [Option<u8>; 8],
+    picks: [Option<u8>; 8],
     store: &mut [u64; 512],
     home: &mut [u8; 64],
 ) -> VcsAndLeft
@@ -140,19 +126,17 @@ pub(crate) fn leave(
           outputs = earlier;
           store = store.old;
           home = home.old;
-          left = replicate 8 (record { left = left.Nothing });
+          left = replicate 8 None;
         })) }
 {
     let mut inputs = before;
     let mut outputs = earlier;
-    let mut left = [Output {
-        left: Left::Nothing,
-    }; 8];
-    let mut next: usize = 0;
-    while next < config.ports as usize {
-        let o = next;
-        next += 1;
-        let x = winning(config, rows, picks, o);
+    let mut left = [None; 8];
+    for o in 0..config.ports as usize {
+        let Some(winner) = winning(rows, picks, o) else {
+            continue;
+        };
+        let x = channel::number(config, winner.input as usize, winner.vc as usize);
         if CHANNEL_PLACES <= x {
             continue;
         }
@@ -163,8 +147,8 @@ pub(crate) fn leave(
         };
         let last = ends_packet(x, store);
         inputs[x] = after_leaving(input, last);
-        left[o] = let_go(config, rows, picks, o, to.vc, x, store, home);
-        let y = channel::number(config, o, counts::wide(to.vc));
+        left[o] = Some(let_go(config, winner, to.vc, x, store, home));
+        let y = channel::number(config, o, to.vc as usize);
         if CHANNEL_PLACES <= y {
             continue;
         }

@@ -4,6 +4,7 @@
 
 mod acting;
 mod allocation;
+mod arbitration;
 mod blocks;
 mod channel;
 mod counts;

@@ -2,7 +2,7 @@
 ghost use Rattle.std.specs.Prelude.{◌≡◌};
 ghost use Rattle.router.specs.Whole.{parts_of, router_of};
 
-use arbiter::{Narrow, Wide};
+use arbiter::Arbiter;
 use base::Config;
 use state::{Arbiters, InputVc, OutputVc, Router};
 
@@ -10,9 +10,9 @@ use state::{Arbiters, InputVc, OutputVc, Router};
 pub struct Parts {
     pub inputs: [InputVc; 32],
     pub outputs: [OutputVc; 32],
-    pub vcs: [Wide; 8],
-    pub ins: [Narrow; 8],
-    pub outs: [Narrow; 8],
+    pub vcs: [Arbiter<32>; 8],
+    pub ins: [Arbiter<8>; 8],
+    pub outs: [Arbiter<8>; 8],
 }
 
 pub(crate) fn unpack(router: Router) -> Parts

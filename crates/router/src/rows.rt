@@ -21,17 +21,16 @@ pub enum Row {
 }
 
 // "payload big-endian"
+#[tactic(auto, using(trace::proofs::Spelling::four_read))]
 fn payload(part: &[u8], i: usize) -> u32
     requires { (length part.now ≡ 64) × (i < 8) }
     ensures { result ≡ payload_at part.now i }
 {
     let at = 8 * i;
-    16777216 * (part[at + 4] as u32)
-        + 65536 * (part[at + 5] as u32)
-        + 256 * (part[at + 6] as u32)
-        + (part[at + 7] as u32)
+    u32::from_be_bytes([part[at + 4], part[at + 5], part[at + 6], part[at + 7]])
 }
 
+#[tactic(auto, unfolding(crate::specs::Rows::offer_at))]
 pub(crate) fn row_of(part: &[u8], i: usize) -> Row
     requires { (length part.now ≡ 64) × (i < 8) }
     ensures { offer_of result ≡ offer_at part.now i }
@@ -71,6 +70,7 @@ pub(crate) fn credit_of(part: &[u8], i: usize) -> u8
 }
 
 // "With kind 0, VC, destination and payload are 0."
+#[tactic(auto, unfolding(rules::specs::Rows::no_offer))]
 fn is_no_offer(part: &[u8], i: usize) -> bool
     requires { (length part.now ≡ 64) × (i < 8) }
     ensures { result ≡ no_offer part.now i }
@@ -86,22 +86,22 @@ fn is_no_offer(part: &[u8], i: usize) -> bool
 }
 
 // "Ports at or beyond P are all zero."
+#[tactic(auto, using(crate::proofs::RowBytes::row_empty, crate::proofs::RowBytes::row_filled))]
 fn is_zero(part: &[u8], i: usize) -> bool
     requires { (length part.now ≡ 64) × (i < 8) }
     ensures { result ≡ row_zero part.now i }
 {
     let at = 8 * i;
-    let mut k: usize = 0;
-    while k < 8 {
+    for k in 0..8 {
         if part[at + k] != 0 {
             return false;
         }
-        k += 1;
     }
     true
 }
 
 // "kind (1 head H, 2 body B, 3 tail T, 4 single S)", "Destination is 0 on B and T.", no "VC, destination .. too large"
+#[tactic(auto, unfolding(rules::specs::Rows::legal_offer))]
 fn is_legal_offer(config: Config, part: &[u8], i: usize) -> bool
     requires { (length part.now ≡ 64) × (i < 8) }
     ensures { result ≡ legal_offer config part.now i }
@@ -120,6 +120,7 @@ fn is_legal_offer(config: Config, part: &[u8], i: usize) -> bool
     part[at + 2] == 0
 }
 
+#[tactic(auto, unfolding(rules::specs::Rows::row_legal))]
 fn is_row_legal(config: Config, part: &[u8], i: usize) -> bool
     requires { (length part.now ≡ 64) × (i < 8) }
     ensures { result ≡ row_legal config part.now i }
@@ -134,6 +135,7 @@ fn is_row_legal(config: Config, part: &[u8], i: usize) -> bool
 }
 
 // 3: "row breaks the byte rules above, or VC, destination or credit too large"
+#[tactic(auto, unfolding(rules::specs::Numbers::row_wrong))]
 pub(crate) fn breaks(config: Config, part: &[u8], i: usize) -> bool
     requires { (length part.now ≡ 64) × (i < 8) }
     ensures { result ≡ row_wrong config part.now i }

@@ -1,16 +1,15 @@
 // The cycles of a block, stepped and listed one after another, up to the first refusal.
 ghost use Rattle.std.specs.Prelude.{◌≡◌, true, List, ℕ, ◌+◌, ◌*◌, ◌≤◌, ◌<◌, length};
 ghost use Rattle.trace.specs.Blocks.{held_of};
-ghost use Rattle.listing.specs.Lines.{refusal, finish as line_finish, cycle_lines, flit_lines};
+ghost use Rattle.listing.specs.Lines.{refusal as line_refusal, finish as line_finish, cycle_lines, flit_lines};
 ghost use Rattle.listing.specs.Writing.{write_outcome};
 ghost use Rattle.router.specs.Running.{ended_by, cycled, cycles_from, block_taken};
 ghost use Rattle.router.specs.Inside.{Within, GoesOn, writing_of};
 
 use crate::cycle::inner_step;
 use crate::parts::Parts;
-use base::{Config, Left, PORT_PLACES, Reply};
-use listing::Written;
-use rules::Verdict;
+use base::{Config, Refusal, Reply};
+use listing::Unwritten;
 use trace::{Found, Place};
 
 // A run inside a call: the router's parts that travel by value, its cycle count, the run's other fields, and where the next line comes.
@@ -25,14 +24,10 @@ pub struct RunParts {
 }
 
 // The bytes that a write took; a refused one took none.
-pub(crate) fn size(written: Written) -> usize
+pub(crate) fn size(written: Result<usize, Unwritten>) -> usize
     ensures { (buffer : List ℕ) → result ≡ (write_outcome written buffer).bytes }
 {
-    match written {
-        Written::Lines(bytes) => bytes,
-        Written::NoRoom => 0,
-        Written::OutOfRange => 0,
-    }
+    written.unwrap_or(0)
 }
 
 // The flits that leave in a cycle.
@@ -42,27 +37,26 @@ fn flits_of(reply: Reply) -> u64
 {
     let outputs = reply.outputs;
     let mut count: u64 = 0;
-    let mut next: usize = 0;
-    while next < PORT_PLACES {
-        let output = outputs[next];
-        next += 1;
-        let left = output.left;
-        let Left::Flit(_) = left else {
-            continue;
-        };
-        count += 1;
+    for left in &outputs {
+        count += u64::from(left.is_some());
     }
     count
 }
 
 // The run ends with an R line.
-fn refuse(before: RunParts, number: u8, place: u8, out: &mut [u8]) -> RunParts
+fn refuse(before: RunParts, refusal: Refusal, out: &mut [u8]) -> RunParts
     requires { Within before.at out.old }
     ensures { (c : Config) (store wire home : List ℕ) → writing_of c result store wire home out.new
-        ≡ ended_by (refusal number before.cycle place) (writing_of c before store wire home out.old) }
+        ≡ ended_by (line_refusal refusal.number before.cycle refusal.place) (writing_of c before store wire home out.old) }
 {
     let mut run = before;
-    let bytes = size(listing::write_refusal(out, before.at, number, before.cycle, place));
+    let bytes = size(listing::write_refusal(
+        out,
+        before.at,
+        refusal.number,
+        before.cycle,
+        refusal.place,
+    ));
     run.at = before.at + bytes;
     run.over = true;
     run
@@ -87,8 +81,8 @@ fn cycle(
     let done = inner_step(config, before.cycle, parts, part, store, wire, home);
     let after = done.parts;
     let verdict = done.verdict;
-    if let Verdict::Refused(refusal) = verdict {
-        return refuse(before, refusal.number, refusal.port, out);
+    if let Err(refusal) = verdict {
+        return refuse(before, refusal, out);
     }
     let reply = done.reply;
     let bytes = size(listing::write_cycle(out, before.at, before.cycle, reply));
@@ -121,14 +115,12 @@ fn cycles(
         out.old) }
 {
     let mut run = before;
-    let mut k: usize = 0;
-    while k < held as usize {
+    for k in 0..held as usize {
         if run.over {
             return run;
         }
         let part = trace::cycle_part(block, k);
         run = cycle(config, run, part, store, wire, home, out);
-        k += 1;
     }
     run
 }
@@ -167,11 +159,13 @@ pub(crate) fn block(
     let mut moved = before;
     moved.place = place;
     match found {
-        // the configuration block is the first, and is read elsewhere
-        Found::Configuration(_) => moved,
-        Found::Cycles(held) => cycles(config, moved, held, block, store, wire, home, out),
-        Found::End => moved,
-        Found::Done => finish(moved, out),
-        Found::Refused(number, field) => refuse(before, number, field, out),
+        Ok(read) => match read {
+            // the configuration block is the first, and is read elsewhere
+            Found::Configuration(_) => moved,
+            Found::Cycles(held) => cycles(config, moved, held, block, store, wire, home, out),
+            Found::End => moved,
+            Found::Done => finish(moved, out),
+        },
+        Err(refusal) => refuse(before, refusal, out),
     }
 }

@@ -1,45 +1,44 @@
 // Phase 6: switch allocation.
-ghost use Rattle.std.specs.Prelude.{◌≡◌, false, not, List, ℕ, ◌*◌, ◌/◌, ◌^◌, ◌≤◌, ◌<◌, eqb, length, get_or};
+ghost use Rattle.std.specs.Prelude.{◌≡◌, false, List, ℕ, ◌*◌, ◌/◌, ◌^◌, ◌≤◌, ◌<◌, length, get_or};
 ghost use Rattle.base.specs.Bits.{bit, word_of};
-ghost use Rattle.arbiter.specs.Arbiter.{of_narrow, choice};
-ghost use Rattle.state.specs.Fresh.{fresh_input, fresh_output, past_narrow};
-ghost use Rattle.rules.specs.Ports.{named};
-ghost use Rattle.rules.specs.Allocation.{is_ready, is_for, picked, narrow_moved};
-ghost use Rattle.router.specs.Picks.{pick_in, asks_in};
+ghost use Rattle.arbiter.specs.Arbiter.{choice};
+ghost use Rattle.state.specs.Fresh.{fresh_input, past_arbiter};
+ghost use Rattle.rules.specs.Allocation.{is_ready, is_for, picked};
+ghost use Rattle.router.specs.Picks.{pick_in, asks_in, is_at, has_credit};
 
-use crate::{channel, counts};
-use arbiter::{Narrow, Pick, Requests};
+use crate::channel;
+use arbiter::{Arbiter, Requests};
 use base::{CHANNEL_PLACES, Config, PORT_PLACES};
 use state::{Binding, InputVc, OutputVc};
 
 // "A bound input VC (also one bound just now) is ready when its queue is not empty and its output VC has credit.": the channel whose credit
-// decides; 32, where there is none, if it is not bound or its queue is empty.
-fn waits_for(config: Config, input: InputVc) -> usize
+// decides, if it is bound and its queue is not empty.
+#[tactic(auto, unfolding(rules::specs::Allocation::is_ready))]
+fn waits_for(config: Config, input: InputVc) -> Option<usize>
     ensures { (outputs : List OutputVc) → length outputs ≡ 32 → is_ready config outputs input
-        ≡ not (eqb (get_or outputs result (fresh_output 0)).credit 0) }
+        ≡ has_credit outputs result }
 {
     if input.queued == 0 {
-        return CHANNEL_PLACES;
+        return None;
     }
-    let binding = input.binding;
-    let Binding::Bound(to) = binding else {
-        return CHANNEL_PLACES;
+    let Binding::Bound(to) = input.binding else {
+        return None;
     };
-    channel::number(config, counts::wide(to.output), counts::wide(to.vc))
+    Some(channel::number(config, to.output as usize, to.vc as usize))
 }
 
 // Who is ready, as a set of channels.
+#[tactic(auto, using(crate::proofs::Words::words, crate::proofs::Readiness::no_credit_past))]
 pub(crate) fn ready(config: Config, inputs: [InputVc; 32], outputs: [OutputVc; 32]) -> u32
     requires { config.ports * config.vcs ≤ 32 }
     ensures { result ≡ word_of (λ (x : ℕ). is_ready config outputs (get_or inputs x (fresh_input 0))) (config.ports * config.vcs) }
 {
     let mut set: u32 = 0;
-    let mut next: usize = 0;
-    while next < (config.ports as usize) * (config.vcs as usize) {
-        let x = next;
-        next += 1;
+    for x in 0..(config.ports as usize) * (config.vcs as usize) {
         let input = inputs[x];
-        let y = waits_for(config, input);
+        let Some(y) = waits_for(config, input) else {
+            continue;
+        };
         if CHANNEL_PLACES <= y {
             continue;
         }
@@ -47,133 +46,112 @@ pub(crate) fn ready(config: Config, inputs: [InputVc; 32], outputs: [OutputVc; 3
         if output.credit == 0 {
             continue;
         }
-        let one: u32 = 1;
-        set = set + (one << (x as u32));
+        set |= 1 << x;
     }
     set
 }
 
-// A pick as a number: 0 for none, else 1 + the winner.
-fn pick(arbiter: Narrow, code: u8, n: u32, set: u32) -> u8
-    ensures { named result ≡ choice 8 code n (bit set) (of_narrow arbiter) }
+// A pick among a few requesters.
+#[tactic(auto, unfolding(arbiter::specs::Requests::asks), using(crate::proofs::Choosing::winner_low))]
+fn pick(arbiter: Arbiter<8>, code: u8, n: u32, set: u32) -> Option<u8>
+    ensures { result ≡ choice 8 code n (bit set) arbiter }
 {
-    let pick = arbiter.choose(code, n, Requests { set });
-    let Pick::Winner(w) = pick else {
-        return 0;
-    };
-    (w + 1) as u8
+    let w = arbiter.choose(code, n, Requests { set })?;
+    Some(w as u8)
 }
 
 // "Each input's V-wide arbiter picks one ready VC."
-pub(crate) fn pick_inputs(config: Config, ready: u32, arbiters: [Narrow; 8]) -> [u8; 8]
+#[tactic(auto, using(crate::proofs::Choosing::unshifted))]
+pub(crate) fn pick_inputs(config: Config, ready: u32, arbiters: [Arbiter<8>; 8]) -> [Option<u8>; 8]
     requires { (config.ports ≤ 8) × (config.vcs ≤ 4) }
     ensures { (i : ℕ) → i < config.ports → pick_in result i
-        ≡ choice 8 config.arbiter config.vcs (bit (ready / 2 ^ (i * config.vcs))) (of_narrow (get_or arbiters i past_narrow)) }
+        ≡ choice 8 config.arbiter config.vcs (bit (ready / 2 ^ (i * config.vcs))) (get_or arbiters i past_arbiter) }
 {
     let n = config.vcs as u32;
-    let mut picks = [0u8; 8];
-    let mut i: usize = 0;
+    let mut picks = [None; 8];
     let mut left = ready;
-    while i < config.ports as usize {
+    for i in 0..config.ports as usize {
         let arbiter = arbiters[i];
         picks[i] = pick(arbiter, config.arbiter, n, left);
         left = left >> n;
-        i += 1;
     }
     picks
 }
 
-// The output that an input VC is bound to; 8 where it is not bound.
-fn output_of(input: InputVc) -> usize
-    ensures { (o : ℕ) → o < 8 → eqb result o ≡ is_for o input.binding }
+// The output that an input VC is bound to, if it is bound.
+fn output_of(input: InputVc) -> Option<u8>
+    ensures { (o : ℕ) → is_at o result ≡ is_for o input.binding }
 {
-    let binding = input.binding;
-    let Binding::Bound(to) = binding else {
-        return PORT_PLACES;
+    let Binding::Bound(to) = input.binding else {
+        return None;
     };
-    counts::wide(to.output)
+    Some(to.output)
 }
 
-// "Switch requests form a table, one row for each input and one column for each output": the pick where the input asks.
-pub(crate) fn table_of(config: Config, inputs: [InputVc; 32], picks: [u8; 8]) -> [[u8; 8]; 8]
+// "Switch requests form a table, one row for each input and one column for each output": true where the input asks.
+#[tactic(auto, using(crate::proofs::Columns::rows_empty))]
+pub(crate) fn table_of(
+    config: Config,
+    inputs: [InputVc; 32],
+    picks: [Option<u8>; 8],
+) -> [[bool; 8]; 8]
     requires { config.ports ≤ 8 }
     ensures by_index { (i o : ℕ) → i < config.ports → o < 8 → asks_in result i o ≡ picked config inputs i o (pick_in picks i) }
     ensures beyond { (i o : ℕ) → config.ports ≤ i → asks_in result i o ≡ false }
 {
-    let mut table = [[0u8; 8]; 8];
-    let mut next: usize = 0;
-    while next < config.ports as usize {
-        let i = next;
-        next += 1;
-        let pick = picks[i];
-        if pick == 0 {
+    let mut table = [[false; 8]; 8];
+    for i in 0..config.ports as usize {
+        let Some(pick) = picks[i] else {
             continue;
-        }
-        let x = channel::number(config, i, counts::wide(pick - 1));
+        };
+        let x = channel::number(config, i, pick as usize);
         if CHANNEL_PLACES <= x {
             continue;
         }
         let input = inputs[x];
-        let o = output_of(input);
+        let Some(output) = output_of(input) else {
+            continue;
+        };
+        let o = output as usize;
         if PORT_PLACES <= o {
             continue;
         }
-        table[i][o] = pick;
+        table[i][o] = true;
     }
     table
 }
 
 // The inputs that ask at an output: one column of the table.
-fn column(table: &[[u8; 8]; 8], o: usize) -> u32
+#[tactic(auto, using(crate::proofs::Words::words))]
+fn column(table: &[[bool; 8]; 8], o: usize) -> u32
     requires { o < 8 }
     ensures { result ≡ word_of (λ (i : ℕ). asks_in table.now i o) 8 }
 {
     let mut set: u32 = 0;
-    let mut i: usize = 0;
-    while i < PORT_PLACES {
-        if table[i][o] != 0 {
-            let one: u32 = 1;
-            set = set + (one << (i as u32));
+    for i in 0..PORT_PLACES {
+        if table[i][o] {
+            set |= 1 << i;
         }
-        i += 1;
     }
     set
 }
 
 // "each output's P-wide arbiter picks one row."
-pub(crate) fn pick_outputs(config: Config, table: &[[u8; 8]; 8], arbiters: [Narrow; 8]) -> [u8; 8]
+pub(crate) fn pick_outputs(
+    config: Config,
+    table: &[[bool; 8]; 8],
+    arbiters: [Arbiter<8>; 8],
+) -> [Option<u8>; 8]
     requires { config.ports ≤ 8 }
     ensures { (o : ℕ) → o < config.ports → pick_in result o
         ≡ choice 8 config.arbiter config.ports (λ (i : ℕ). asks_in table.now i o)
-        (of_narrow (get_or arbiters o past_narrow)) }
+        (get_or arbiters o past_arbiter) }
 {
     let n = config.ports as u32;
-    let mut picks = [0u8; 8];
-    let mut o: usize = 0;
-    while o < config.ports as usize {
+    let mut picks = [None; 8];
+    for o in 0..config.ports as usize {
         let arbiter = arbiters[o];
         picks[o] = pick(arbiter, config.arbiter, n, column(table, o));
-        o += 1;
     }
     picks
-}
-
-// "Both arbiters move on after their own pick.": n wide, of the ports that there are.
-pub(crate) fn move_on(config: Config, n: u32, before: [Narrow; 8], picks: [u8; 8]) -> [Narrow; 8]
-    requires { config.ports ≤ 8 }
-    ensures { result ≡ narrow_moved config n (pick_in picks) before }
-{
-    let mut arbiters = before;
-    let mut next: usize = 0;
-    while next < config.ports as usize {
-        let i = next;
-        next += 1;
-        let pick = picks[i];
-        if pick == 0 {
-            continue;
-        }
-        let arbiter = arbiters[i];
-        arbiters[i] = arbiter.moved(config.arbiter, n, (pick - 1) as u32);
-    }
-    arbiters
 }

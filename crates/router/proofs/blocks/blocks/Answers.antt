@@ -3,7 +3,7 @@
 use mathlib.Core.Path.{◌≡◌, refl, sym, ap, ap₂, subst, ◌∙◌}
 use mathlib.Core.Bool.{true}
 use mathlib.Core.List.{List}
-use Prim.Native.Nat.{ℕ, ◌-◌}
+use Prim.Native.Nat.{ℕ, ◌+◌, ◌-◌}
 use native.Mathlib.Omega.{arith}
 use borrow.Author.Rules.{rules}
 use borrow.Author.Tests.{not-true, not-false}
@@ -13,64 +13,74 @@ use Rattle.router.proofs.Going.{piece_bytes, block_goes_on}
 use Rattle.router.proofs.Onward.{goes_none, goes_over, goes_full, goes_more, piece_is}
 use Rattle.router.proofs.Rooms.{full, roomy}
 use Rattle.router.proofs.blocks.blocks.Goals as goal
-use Rattle.router.proofs.blocks.blocks.Goals.{At-loop-left}
+use Rattle.router.proofs.blocks.blocks.Goals.{At-each}
 
 -- the call so far
-abbrev sofar : At-loop-left → Call
+abbrev sofar : At-each → Call
 sofar c =
     record {
-      used = c.loop-left.from;
+      used = c.each.from;
       asks = 0;
-      writing = writing_of c.args.config c.loop-left.run c.loop-left.store c.loop-left.wire c.loop-left.home c.loop-left.out;
+      writing = writing_of c.args.config c.each.run c.each.store c.each.wire c.each.home c.each.out;
     }
 
-pub loop-left-init : goal.loop-left-init
-loop-left-init c = (c.requires.1, refl, c.requires.0, refl)
+pub each-init : goal.each-init
+each-init c =
+    let all : c.args.count - 0 ≡ c.args.count = omega arith in (
+      c.requires.1,
+      ap (λ (n : ℕ). going_on c.args.part.now n (record {
+        used = c.args.first;
+        asks = 0;
+        writing = writing_of c.args.config c.args.before c.args.store.now c.args.wire.now c.args.home.now c.args.out.now;
+      })) all,
+      c.requires.0,
+      refl,
+    )
 
 pub returns-then-run : goal.returns-then-run
 returns-then-run c =
-    sym (goes_over c.args.part.now c.loop-left.left
-    (sofar (goal.at.returns-then-run c).At-loop-left) c.if-run.true) ∙ c.loop-left.invariant.1
+    sym (goes_over c.args.part.now (c.args.count - c.each.counter)
+    (sofar (goal.at.returns-then-run c).At-each) c.if-run.true) ∙ c.each.invariant.1
 
 pub returns-then-not-has_room : goal.returns-then-not-has_room
 returns-then-not-has_room c =
-    sym (goes_full c.args.part.now c.loop-left.left (sofar (goal.at.returns-then-not-has_room c).At-loop-left) c.loop-left-test.true
+    sym (goes_full c.args.part.now (c.args.count - c.each.counter) (sofar (goal.at.returns-then-not-has_room c).At-each) (omega (arith, c.each-test.true))
     c.if-run.false
     (full _ _ (not-false _ (sym c.has_room.ensures ∙ c.if-not-has_room.true))))
-    ∙ c.loop-left.invariant.1
+    ∙ c.each.invariant.1
 
 pub block_end-end-requires : goal.block_end-end-requires
-block_end-end-requires c = c.loop-left.invariant.0
+block_end-end-requires c = c.each.invariant.0
 
 pub block-run-requires : goal.block-run-requires
 block-run-requires c =
-    let o = c.loop-left.invariant.2 c.if-run.false in
+    let o = c.each.invariant.2 c.if-run.false in
     (o.1, o.0)
 
 -- one block more
-pub loop-left-preserved : goal.loop-left-preserved
-loop-left-preserved c =
+pub each-preserved : goal.each-preserved
+each-preserved c =
     let part = c.args.part.now in
-    let w = (sofar (goal.at.loop-left-preserved c).At-loop-left).writing in
-    let o = c.loop-left.invariant.2 c.if-run.false in
+    let w = (sofar (goal.at.each-preserved c).At-each).writing in
+    let o = c.each.invariant.2 c.if-run.false in
     let f = c.block-run.ensures ∙ ap (λ (block : List ℕ). block_taken block w)
-    (piece_is part c.loop-left.from c.block_end-end.result c.block_end-end.ensures.after) in (
+    (piece_is part c.each.from c.block_end-end.result c.block_end-end.ensures.after) in (
       c.block_end-end.ensures.inside,
-      ap₂ (λ (used : ℕ) (v : Writing). going_on part (c.loop-left.left - 1)
-          (record { used = used; asks = 0; writing = v })) c.block_end-end.ensures.after f ∙ goes_more part c.loop-left.left (sofar
-          (goal.at.loop-left-preserved c).At-loop-left)
-          c.loop-left-test.true c.if-run.false (roomy _ _ (not-true _ (sym c.has_room.ensures ∙ c.if-not-has_room.false)))
-          ∙ c.loop-left.invariant.1,
+      ap₂ (λ (used : ℕ) (v : Writing). going_on part (c.args.count - (c.each.counter + 1))
+          (record { used = used; asks = 0; writing = v })) c.block_end-end.ensures.after f ∙ goes_more part (c.args.count - c.each.counter) (c.args.count - (c.each.counter + 1)) (sofar
+          (goal.at.each-preserved c).At-each)
+          (omega (arith, c.each-test.true)) c.if-run.false (roomy _ _ (not-true _ (sym c.has_room.ensures ∙ c.if-not-has_room.false)))
+          ∙ c.each.invariant.1,
       λ _. subst (λ (v : Writing). GoesOn v × (v.run.place.configured ≡ true)) (sym f)
-          (block_goes_on (block_at part c.loop-left.from) (piece_bytes 512 c.loop-left.from part
+          (block_goes_on (block_at part c.each.from) (piece_bytes 512 c.each.from part
           (λ i. (c.shared_slice_known-1.given i).fits)) w o.1 o.0),
       (search rules),
     )
 
 pub returns : goal.returns
 returns c =
-    sym (goes_none c.args.part.now c.loop-left.left (sofar (goal.at.returns c).At-loop-left) (omega arith))
-    ∙ c.loop-left.invariant.1
+    sym (goes_none c.args.part.now (c.args.count - c.each.counter) (sofar (goal.at.returns c).At-each) (omega arith))
+    ∙ c.each.invariant.1
 
 pub slice_bounds-block-count : goal.slice_bounds-block-count
 slice_bounds-block-count c =
@@ -83,7 +93,3 @@ slice_bounds-block-start c =
 pub slice_bounds-block-end : goal.slice_bounds-block-end
 slice_bounds-block-end c =
     search rules
-
-pub loop-left-smaller : goal.loop-left-smaller
-loop-left-smaller c =
-    omega arith

@@ -1,16 +1,13 @@
 -- `router::entry::go` meets its contract: the run taken apart, its blocks, and the run put together.
 -- Assumes nothing.
-use mathlib.Core.Path.{sym, ap, subst}
-use Prim.Native.Nat.{ℕ, ◌≤◌}
+use Rattle.std.proofs.Common.{ℕ, ◌≤◌, sym, ap, subst}
 use native.Mathlib.Nat.{le_trans}
-use Rattle.router.specs.Running.{Call}
+use Rattle.router.specs.Running.{Call, answered}
 use Rattle.router.proofs.Onward.{goes_on}
-use Rattle.router.proofs.Packing.{parts_ongoing, parts_answer}
 use Rattle.router.proofs.entry.go.Goals as goal
 
 pub blocks-through-requires : goal.blocks-through-requires
-blocks-through-requires c =
-    (parts_ongoing c.args.run c.unpack.result c.unpack.ensures _ _ c.requires.0, c.requires.1)
+blocks-through-requires c = (rw c.unpack.ensures c.requires.0, c.requires.1)
 
 pub overflow_sub-result : goal.overflow_sub-result
 overflow_sub-result c =
@@ -19,6 +16,4 @@ overflow_sub-result c =
     (goes_on c.args.part.now c.args.count _))
 
 pub returns : goal.returns
-returns c =
-    parts_answer c.args.run c.unpack.result c.unpack.ensures _ _ c.args.start _ _
-    c.args.count c.args.first c.args.part.now _ _ _ _ _ _ c.pack.ensures c.blocks-through.ensures
+returns c = rw c.pack.ensures (ap (answered c.args.start) (rw c.unpack.ensures at c.blocks-through.ensures))

@@ -134,7 +134,7 @@ returns c =
     (piece_is part 0 c.block_end-end.result c.block_end-end.ensures.after) in
     c.go-2.ensures ∙ ap₂ (λ (used : ℕ) (w : Writing). answered c.args.at
     (going_on part (c.blocks_in-count.result - 1) (record { used = used; asks = 0; writing = w }))) c.block_end-end.ensures.after f
-    ∙ ap (answered c.args.at) (goes_more part c.blocks_in-count.result (begins (handed (goal.at.returns c).Start)) (omega
+    ∙ ap (answered c.args.at) (goes_more part c.blocks_in-count.result (c.blocks_in-count.result - 1) (begins (handed (goal.at.returns c).Start)) (omega
     (arith, c.blocks_in-count.ensures))
     c.if-run.false (block_room (goal.at.returns c).Else-not-has_room-2)) ∙ run_goes c.args.run part c.args.buf.now c.args.at
     (sound (goal.at.returns c).Else-not-has_room) (room (goal.at.returns c).Else-not-has_room) c.blocks_in-count.result

@@ -1,12 +1,8 @@
 -- `router::judge::first_out_of_turn` meets its contract.
 -- Assumes nothing.
-use Prim.Native.Nat.{◌-◌, ◌≤◌}
+use Rattle.std.proofs.Common.{◌≡◌, ℕ, ◌<◌, false}
 use Rattle.rules.specs.Numbers.{out_of_turn}
-use Rattle.router.proofs.FirstPort.{Left}
 use Rattle.router.proofs.judge.first_out_of_turn.Given as goal
 
-abbrev pub invariant-loop-next : goal.invariant-loop-next
-invariant-loop-next l = (l.next ≤ l.config.ports) × Left (out_of_turn l.config l.inputs l.part) l.config.ports l.next
-
-abbrev pub decreases-loop-next : goal.decreases-loop-next
-decreases-loop-next l = l.config.ports - l.next
+abbrev pub invariant-loop-i : goal.invariant-loop-i
+invariant-loop-i l = (j : ℕ) → j < l.i → out_of_turn l.config l.inputs l.part j ≡ false

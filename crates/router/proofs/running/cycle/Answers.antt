@@ -15,12 +15,12 @@ inner_step-done-requires c = c.requires.sound
 pub refuse-requires : goal.refuse-requires
 refuse-requires c = c.requires.room
 
-pub returns-in-Refused : goal.returns-in-Refused
-returns-in-Refused c =
+pub returns-in-Err : goal.returns-in-Err
+returns-in-Err c =
     c.refuse.ensures c.args.config _ _ _
     ∙ refused_run c.args.config c.args.before c.args.store.now c.args.wire.now
     c.args.home.now c.args.out.now c.args.part.now _ _ _ _ _ _ _ c.inner_step-done.ensures _
-    c.in-Refused.is
+    c.in-Err.is
 
 pub overflow_add-result : goal.overflow_add-result
 overflow_add-result c =

@@ -1,11 +1,8 @@
--- `router::running::flits_of` meets its contract: the F lines of the outputs so far.
+-- `router::running::flits_of` meets its contract: of the outputs passed so many have a flit.
 -- Assumes nothing.
-use Prim.Native.Nat.{◌-◌, ◌≤◌}
+use Rattle.std.proofs.Common.{◌≤◌}
 use Rattle.router.proofs.FlitCount.{CountIs}
 use Rattle.router.proofs.running.flits_of.Given as goal
 
-abbrev pub invariant-loop-next : goal.invariant-loop-next
-invariant-loop-next l = (l.next ≤ 8) × (l.count ≤ l.next) × CountIs l.outputs l.next l.count
-
-abbrev pub decreases-loop-next : goal.decreases-loop-next
-decreases-loop-next l = 8 - l.next
+abbrev pub invariant-loop-left : goal.invariant-loop-left
+invariant-loop-left l = (l.count ≤ l.left-index) × CountIs l.fn.reply.outputs l.left-index l.count

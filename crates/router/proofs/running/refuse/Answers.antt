@@ -11,7 +11,7 @@ use Rattle.router.proofs.running.refuse.Goals as goal
 pub overflow_add-run : goal.overflow_add-run
 overflow_add-run c =
     let l = place_fits c.args.out.now c.args.before.at
-    (refusal c.args.number c.args.before.cycle c.args.place ∷ [])
+    (refusal c.args.refusal.number c.args.before.cycle c.args.refusal.place ∷ [])
     c.write_refusal.result _ c.size-bytes.result
     c.write_refusal.ensures c.size-bytes.ensures (refusal_fits _ _ _) c.requires in
     record { fits = omega arith }
@@ -20,6 +20,6 @@ pub returns : goal.returns
 unfolding ended_by
 returns c =
     λ config store wire home. wrote_is (on_run finished (writing_of config c.args.before store wire home c.args.out.now))
-    (refusal c.args.number c.args.before.cycle c.args.place ∷ [])
+    (refusal c.args.refusal.number c.args.before.cycle c.args.refusal.place ∷ [])
     c.write_refusal.result _ c.size-bytes.result
     c.write_refusal.ensures c.size-bytes.ensures

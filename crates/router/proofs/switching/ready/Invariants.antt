@@ -1,14 +1,10 @@
 -- `router::switching::ready` meets its contract.
 -- Assumes nothing.
-use mathlib.Core.Path.{◌≡◌}
-use Prim.Native.Nat.{◌-◌, ◌*◌, ◌≤◌}
+use Rattle.std.proofs.Common.{◌≡◌, ℕ, get_or}
 use Rattle.base.specs.Bits.{word_of}
-use Rattle.router.proofs.Readiness.{ready_at}
+use Rattle.state.specs.Fresh.{fresh_input}
+use Rattle.rules.specs.Allocation.{is_ready}
 use Rattle.router.proofs.switching.ready.Given as goal
 
-abbrev pub invariant-loop-next : goal.invariant-loop-next
-invariant-loop-next l = (l.next ≤ l.config.ports * l.config.vcs)
-    × (l.set ≡ word_of (ready_at l.config l.inputs l.outputs) l.next)
-
-abbrev pub decreases-loop-next : goal.decreases-loop-next
-decreases-loop-next l = l.config.ports * l.config.vcs - l.next
+abbrev pub invariant-loop-x : goal.invariant-loop-x
+invariant-loop-x l = l.set ≡ word_of (λ (x : ℕ). is_ready l.config l.outputs (get_or l.inputs x (fresh_input 0))) l.x
