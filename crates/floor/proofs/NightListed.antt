@@ -4,7 +4,8 @@ use mathlib.Core.Path.{◌≡◌, refl, sym, ap, subst, ◌∙◌}
 use mathlib.Core.Logic.{◌⊎◌, inl, inr}
 use mathlib.Core.Bool.{Bool, true, false, cond, true≢false}
 use mathlib.Core.List.{List, [], ◌∷◌, ◌++◌, append_assoc, append-nil}
-use mathlib.Core.Option.{some, none, none-ne-some, some-injective}
+use Rattle.std.specs.Prelude.{Some, None, Result, Ok, Err, is_ok}
+use Rattle.std.proofs.lemmas.Option.{none-some, same_Some}
 use Prim.Native.Nat.{ℕ, ◌-◌, ◌*◌, ◌/◌, ◌%◌, ◌≤◌, ◌<◌}
 use native.Mathlib.Omega.{arith}
 use lib.Dec.{eqb, ltb}
@@ -21,13 +22,10 @@ use Rattle.night.proofs.Answers.{Stopped, over, used_up, no_room, call_stopped, 
 use Rattle.night.proofs.Cuts.{drop_bytes, append_bytes}
 use Rattle.night.proofs.Kept.{started_sound, run_kept}
 use Rattle.night.proofs.Night.{file_listed}
-use Rattle.floor.specs.declared.passing.Stop.{Stop}
-use Rattle.floor.specs.declared.passing.Stop.TheVariants.{Whole, Refused, NoRoom}
-use Rattle.floor.specs.declared.whole.Ended.{Ended}
-use Rattle.floor.specs.declared.whole.Ended.TheVariants as ended
-use Rattle.floor.specs.declared.whole.Ended.TheVariants.{Over, Unread}
+use Rattle.floor.specs.declared.passing.Stop.TheVariants.{Refused, NoRoom}
+use Rattle.floor.specs.declared.whole.Unlisted.{Unlisted}
 use Rattle.floor.specs.Handing as handing
-use Rattle.floor.specs.Handing.{Handed, called, handed_by, stop_of, Passes, stops, fails, goes, is_whole_list, is_whole_blocks, Finishes}
+use Rattle.floor.specs.Handing.{Outcome, Handed, called, handed_by, stop_of, Passes, stops, fails, goes, is_whole_blocks, Finishes}
 use Rattle.floor.specs.Handing.{HandsOver, uneven, fills, last, Lists, unread, lines_of, last_lines, piece_lines, night_lines, joined}
 use Rattle.floor.specs.Handing.{AllButLastFill}
 use Rattle.floor.proofs.Calls.{none_told}
@@ -48,22 +46,22 @@ rest_fits part later u j e l (inl (k, a, f)) = inl (k - j, omega (arith, e, l, f
 rest_fits part later u j e l (inr f) = inr f
 
 -- a call after which there is none, all being handed over, was done and asked for nothing
-whole_told : (r : Ran) (s : Stop) → stop_of r ≡ some s → is_whole_list s ≡ true → (r.number ≡ 0) × (r.asks ≡ 0)
+whole_told : (r : Ran) (s : Outcome) → stop_of r ≡ Some s → is_ok s ≡ true → (r.number ≡ 0) × (r.asks ≡ 0)
 whole_told r s e w = go (eqb r.number 0) refl (eqb r.asks 0) refl (eqb r.used 0) e
   where
-    other : (t : Stop) → some t ≡ some s → is_whole_list t ≡ false → ⊥
-    other t f g = true≢false (sym w ∙ ap is_whole_list (sym (some-injective t s f)) ∙ g)
+    other : (t : Outcome) → Some t ≡ Some s → is_ok t ≡ false → ⊥
+    other t f g = true≢false (sym w ∙ ap is_ok (sym (same_Some t s f)) ∙ g)
 
     go : (a : Bool) → eqb r.number 0 ≡ a → (b : Bool) → eqb r.asks 0 ≡ b → (d : Bool)
-        → cond a (cond b (some Whole) (cond d (some (NoRoom r.asks)) none)) (some (Refused r.number)) ≡ some s
+        → cond a (cond b (Some (Ok (tt {0}))) (cond d (Some (Err (NoRoom r.asks))) None)) (Some (Err (Refused r.number))) ≡ Some s
         → (r.number ≡ 0) × (r.asks ≡ 0)
     go true a true b d f = (eqb-true r.number 0 a, eqb-true r.asks 0 b)
-    go true a false b true f = absurd (other (NoRoom r.asks) f refl)
-    go true a false b false f = absurd (none-ne-some s f)
-    go false a b x d f = absurd (other (Refused r.number) f refl)
+    go true a false b true f = absurd (other (Err (NoRoom r.asks)) f refl)
+    go true a false b false f = absurd (none-some s f)
+    go false a b x d f = absurd (other (Err (Refused r.number)) f refl)
 
 -- a run stays sound from call to call
-passes_sound : {part : List ℕ} {h : Handed} {k : ℕ} {s : Stop} {g : Handed} → Passes part h k s g → AreBytes part
+passes_sound : {part : List ℕ} {h : Handed} {k : ℕ} {s : Outcome} {g : Handed} → Passes part h k s g → AreBytes part
     → run_sound h.run ≡ true → run_sound g.run ≡ true
 passes_sound (stops part h s e) bytes sound = run_kept h.run part h.buffer 0 bytes sound
 passes_sound (fails part h e l) bytes sound = run_kept h.run part h.buffer 0 bytes sound
@@ -75,7 +73,7 @@ abbrev After : Handed → List ℕ → List ℕ → Type 0
 After g later out = (rest : List ℕ) → (g.run.over ≡ false → rest ≡ later) → Hands g.run rest out
 
 -- the calls of a part that was handed over whole are calls of the file
-passes_hands : {part : List ℕ} {h : Handed} {k : ℕ} {s : Stop} {g : Handed} (p : Passes part h k s g) → is_whole_list s ≡ true
+passes_hands : {part : List ℕ} {h : Handed} {k : ℕ} {s : Outcome} {g : Handed} (p : Passes part h k s g) → is_ok s ≡ true
     → run_sound h.run ≡ true → h.run.over ≡ false → AreBytes part → (later : List ℕ) → Fits part later → (out : List ℕ)
     → After g later out → Hands h.run (part ++ later) (lines_of p ++ out)
 unfolding lines_of
@@ -109,8 +107,8 @@ passes_hands (goes part h k s g e more) w sound going bytes later fits out after
     on told (no_room x a l u) (inr (y, z)) rest = absurd (true≢false (sym z ∙ x))
     on told (no_room x a l u) (inl (j, y)) rest =
         let most = used_most h.run part h.buffer 0 in
-        let some = told.2 in
-        let less = u (omega (arith, most, some)) in
+        let used = told.2 in
+        let less = u (omega (arith, most, used)) in
         subst (Hands h.run (part ++ later)) (sym (append_assoc (wrote_in 0 (called part h)) (lines_of more) out))
         (hand h.run (part ++ later) part h.buffer 0 (lines_of more ++ out) going (may_hand part later fits) told.0
         (subst (λ (l : List ℕ). Hands (called part h).ran.run l (lines_of more ++ out))
@@ -118,40 +116,40 @@ passes_hands (goes part h k s g e more) w sound going bytes later fits out after
         (rest x (rest_fits part later (called part h).ran.used j y less fits))))
 
 -- the end of the input ends the run
-none_over : {part : List ℕ} {h : Handed} {k : ℕ} {s : Stop} {g : Handed} → Passes part h k s g → length part ≡ 0 → is_whole_list s ≡ true
+none_over : {part : List ℕ} {h : Handed} {k : ℕ} {s : Outcome} {g : Handed} → Passes part h k s g → length part ≡ 0 → is_ok s ≡ true
     → run_sound h.run ≡ true → h.run.over ≡ false → g.run.over ≡ true
 none_over (stops part h s e) n w sound going = go part n e
   where
-    go : (part : List ℕ) → length part ≡ 0 → stop_of (called part h).ran ≡ some s → (called part h).ran.run.over ≡ true
+    go : (part : List ℕ) → length part ≡ 0 → stop_of (called part h).ran ≡ Some s → (called part h).ran.run.over ≡ true
     go [] n e = let told = whole_told (called [] h).ran s e w in end_over h.run h.buffer 0 sound going told.0 told.1
     go (b ∷ l) n e = absurd (omega (arith, n))
 none_over (fails part h e l) n w sound going = absurd (true≢false (sym w))
 none_over (goes part h k s g e more) n w sound going =
-    let some = (none_told (called part h).ran e).2 in absurd (omega (arith, used_most h.run part h.buffer 0, n, some))
+    let used = (none_told (called part h).ran e).2 in absurd (omega (arith, used_most h.run part h.buffer 0, n, used))
 
 -- a buffer of some whole blocks
 even_fits : (full : ℕ) → is_whole_blocks full ≡ true → (k : ℕ) × (1 ≤ k) × (full ≡ k * 512)
 even_fits full e =
     let b = both (ltb 0 full) (eqb (full % 512) 0) e in
-    let some = ltb-true 0 full b.0 in
-    let none = eqb-true (full % 512) 0 b.1 in
-    (full / 512, omega (arith, some, none), omega (arith, none))
+    let long = ltb-true 0 full b.0 in
+    let even = eqb-true (full % 512) 0 b.1 in
+    (full / 512, omega (arith, long, even), omega (arith, even))
 
 -- a piece after which the run goes on fills the buffer
-goes_fills : {full : ℕ} {piece : List ℕ} {h : Handed} {k : ℕ} {s : Stop} {g : Handed} → HandsOver full piece h k s g → is_whole_list s ≡ true
+goes_fills : {full : ℕ} {piece : List ℕ} {h : Handed} {k : ℕ} {s : Outcome} {g : Handed} → HandsOver full piece h k s g → is_ok s ≡ true
     → g.run.over ≡ false → run_sound h.run ≡ true → length piece ≡ full
 goes_fills (uneven f) w o sound = absurd (true≢false (sym w))
 goes_fills (fills k s g f b e p) w o sound = e
 goes_fills {h = h} (last k s g l t e v b f p q) w o sound = absurd (go q w o)
   where
-    go : {l : ℕ} {t : Stop} {e : Handed} → Finishes g k s l t e → is_whole_list t ≡ true → e.run.over ≡ false → ⊥
+    go : {l : ℕ} {t : Outcome} {e : Handed} → Finishes g k s l t e → is_ok t ≡ true → e.run.over ≡ false → ⊥
     go (handing.stopped x) w o = true≢false (sym w ∙ x)
     go (handing.over x y) w o = true≢false (sym y ∙ o)
     go (handing.ends l t e x y r) w o = true≢false (sym (none_over r refl w (passes_sound p b sound) y) ∙ o)
 
 -- a piece that was handed over whole: it fills the buffer, or it is the last
-piece_hands : {full : ℕ} {piece : List ℕ} {h : Handed} {k : ℕ} {s : Stop} {g : Handed} (p : HandsOver full piece h k s g)
-    → is_whole_list s ≡ true → run_sound h.run ≡ true → h.run.over ≡ false → (later : List ℕ) → (length piece ≡ full) ⊎ (later ≡ [])
+piece_hands : {full : ℕ} {piece : List ℕ} {h : Handed} {k : ℕ} {s : Outcome} {g : Handed} (p : HandsOver full piece h k s g)
+    → is_ok s ≡ true → run_sound h.run ≡ true → h.run.over ≡ false → (later : List ℕ) → (length piece ≡ full) ⊎ (later ≡ [])
     → (out : List ℕ) → After g later out → Hands h.run (piece ++ later) (piece_lines p ++ out)
 unfolding piece_lines last_lines
 piece_hands (uneven f) w sound going later fits out after = absurd (true≢false (sym w))
@@ -161,7 +159,7 @@ piece_hands {full = full} (fills k s g f b e p) w sound going later fits out aft
 piece_hands {piece = piece} {h = h} (last k s g l t e v b f p q) w sound going later (inl x) out after = absurd (omega (arith, x, f))
 piece_hands {piece = piece} {h = h} (last k s g l t e v b f p q) w sound going later (inr x) out after = go q w after
   where
-    go : {l : ℕ} {t : Stop} {e : Handed} (q : Finishes g k s l t e) → is_whole_list t ≡ true → After e later out
+    go : {l : ℕ} {t : Outcome} {e : Handed} (q : Finishes g k s l t e) → is_ok t ≡ true → After e later out
         → Hands h.run (piece ++ later) ((lines_of p ++ last_lines q) ++ out)
     go (handing.stopped y) w after = absurd (true≢false (sym w ∙ y))
     go (handing.over y z) w after =
@@ -173,34 +171,29 @@ piece_hands {piece = piece} {h = h} (last k s g l t e v b f p q) w sound going l
         (λ rest same. subst (λ (ls : List ℕ). Hands g.run ls (lines_of r ++ out)) (sym (same z))
         (passes_hands r w (passes_sound p b sound) z (λ i. omega arith) later (inr x) out after)))
 
-abbrev is_over : Ended → Bool
-is_over Over = true
-is_over Unread = false
-is_over (ended.Stopped s) = false
-
-piece_bytes : {full : ℕ} {piece : List ℕ} {h : Handed} {k : ℕ} {s : Stop} {g : Handed} → HandsOver full piece h k s g → is_whole_list s ≡ true
+piece_bytes : {full : ℕ} {piece : List ℕ} {h : Handed} {k : ℕ} {s : Outcome} {g : Handed} → HandsOver full piece h k s g → is_ok s ≡ true
     → AreBytes piece
 piece_bytes (uneven f) w = absurd (true≢false (sym w))
 piece_bytes (fills k s g f b e p) w = b
 piece_bytes (last k s g l t e v b f p q) w = b
 
 -- the run after a piece is sound
-piece_sound : {full : ℕ} {piece : List ℕ} {h : Handed} {k : ℕ} {s : Stop} {g : Handed} → HandsOver full piece h k s g
+piece_sound : {full : ℕ} {piece : List ℕ} {h : Handed} {k : ℕ} {s : Outcome} {g : Handed} → HandsOver full piece h k s g
     → run_sound h.run ≡ true → run_sound g.run ≡ true
 piece_sound (uneven f) sound = sound
 piece_sound (fills k s g f b e p) sound = passes_sound p b sound
 piece_sound (last k s g l t e v b f p q) sound = go q
   where
-    go : {l : ℕ} {t : Stop} {e : Handed} → Finishes g k s l t e → run_sound e.run ≡ true
+    go : {l : ℕ} {t : Outcome} {e : Handed} → Finishes g k s l t e → run_sound e.run ≡ true
     go (handing.stopped y) = passes_sound p b sound
     go (handing.over y z) = passes_sound p b sound
     go (handing.ends l t e y z r) = passes_sound r (λ i. omega arith) (passes_sound p b sound)
 
-lists_hands : {full : ℕ} {h : Handed} {pieces : List (List ℕ)} {r : Ended} {g : Handed} (l : Lists full h pieces r g) → is_over r ≡ true
+lists_hands : {full : ℕ} {h : Handed} {pieces : List (List ℕ)} {r : Result Unit Unlisted} {g : Handed} (l : Lists full h pieces r g) → is_ok r ≡ true
     → run_sound h.run ≡ true → h.run.over ≡ false → Hands h.run (joined pieces) (night_lines l)
 unfolding joined night_lines
 lists_hands (unread h) o sound going = absurd (true≢false (sym o))
-lists_hands (handing.stopped h piece k s g w p) o sound going = absurd (true≢false (sym o))
+lists_hands (handing.stopped h piece k t g p) o sound going = absurd (true≢false (sym o))
 lists_hands (handing.over h piece k s g w x p) o sound going =
     subst (Hands h.run (piece ++ [])) (append-nil (piece_lines p))
     (piece_hands p w sound going [] (inr refl) [] (λ rest same. done g.run rest x))
@@ -209,33 +202,33 @@ lists_hands (handing.goes h piece k s g pieces r e w x p more) o sound going =
     (λ rest same. subst (λ (l : List ℕ). Hands g.run l (night_lines more)) (sym (same x))
     (lists_hands more o (piece_sound p sound) x))
 
-lists_bytes : {full : ℕ} {h : Handed} {pieces : List (List ℕ)} {r : Ended} {g : Handed} → Lists full h pieces r g → is_over r ≡ true
+lists_bytes : {full : ℕ} {h : Handed} {pieces : List (List ℕ)} {r : Result Unit Unlisted} {g : Handed} → Lists full h pieces r g → is_ok r ≡ true
     → AreBytes (joined pieces)
 unfolding joined
 lists_bytes (unread h) o = λ i. omega arith
-lists_bytes (handing.stopped h piece k s g w p) o = absurd (true≢false (sym o))
+lists_bytes (handing.stopped h piece k t g p) o = absurd (true≢false (sym o))
 lists_bytes (handing.over h piece k s g w x p) o = append_bytes piece [] (piece_bytes p w) (λ i. omega arith)
 lists_bytes (handing.goes h piece k s g pieces r e w x p more) o =
     append_bytes piece (joined pieces) (piece_bytes p w) (lists_bytes more o)
 
 -- Of a night that came to its end: the lines of its calls, one after another, are the list of its pieces, joined.
 pub night_listed : {full : ℕ} {out : List ℕ} {pieces : List (List ℕ)} {g : Handed}
-    (l : Lists full (record { run = started; buffer = out }) pieces Over g) → night_lines l ≡ list_of (joined pieces)
+    (l : Lists full (record { run = started; buffer = out }) pieces (Ok (tt {0})) g) → night_lines l ≡ list_of (joined pieces)
 unfolding started
 night_listed {pieces = pieces} l =
     file_listed (joined pieces) (lists_bytes l refl) (night_lines l) (lists_hands l refl started_sound refl)
 
 -- a piece is no longer than the buffer
-piece_long : {full : ℕ} {piece : List ℕ} {h : Handed} {k : ℕ} {s : Stop} {g : Handed} → HandsOver full piece h k s g → is_whole_list s ≡ true
+piece_long : {full : ℕ} {piece : List ℕ} {h : Handed} {k : ℕ} {s : Outcome} {g : Handed} → HandsOver full piece h k s g → is_ok s ≡ true
     → length piece ≤ full
 piece_long (uneven f) w = absurd (true≢false (sym w))
 piece_long (fills k s g f b e p) w = omega (arith, e)
 piece_long (last k s g l t e v b f p q) w = omega (arith, f)
 
-lists_fill : {full : ℕ} {h : Handed} {pieces : List (List ℕ)} {r : Ended} {g : Handed} → Lists full h pieces r g → is_over r ≡ true
+lists_fill : {full : ℕ} {h : Handed} {pieces : List (List ℕ)} {r : Result Unit Unlisted} {g : Handed} → Lists full h pieces r g → is_ok r ≡ true
     → run_sound h.run ≡ true → AllButLastFill full pieces
 lists_fill (unread h) o sound = tt
-lists_fill (handing.stopped h piece k s g w p) o sound = absurd (true≢false (sym o))
+lists_fill (handing.stopped h piece k t g p) o sound = absurd (true≢false (sym o))
 lists_fill (handing.over h piece k s g w x p) o sound = piece_long p w
 lists_fill {full = full} (handing.goes h piece k s g pieces r e w x p more) o sound =
     go pieces (goes_fills p w x sound) (lists_fill more o (piece_sound p sound))
@@ -246,5 +239,5 @@ lists_fill {full = full} (handing.goes h piece k s g pieces r e w x p more) o so
 
 -- and all of them but the last fill the buffer
 pub pieces_fill : {full : ℕ} {out : List ℕ} {pieces : List (List ℕ)} {g : Handed}
-    → Lists full (record { run = started; buffer = out }) pieces Over g → AllButLastFill full pieces
+    → Lists full (record { run = started; buffer = out }) pieces (Ok (tt {0})) g → AllButLastFill full pieces
 pieces_fill l = lists_fill l refl started_sound

@@ -7,10 +7,10 @@ mod output;
 mod passing;
 mod whole;
 
-pub use input::{Filled, fill};
+pub use input::{Unread, fill};
 pub use output::put;
 pub use passing::{Passed, Stop, hand, pass};
-pub use whole::{Ended, Listed, list};
+pub use whole::{Listed, Unlisted, list};
 
 // How often a read or a write that moves nothing is tried again: a signal may have interrupted it.
 pub(crate) const TRIES: u32 = 100;

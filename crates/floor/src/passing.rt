@@ -1,17 +1,15 @@
 // Handing a part over to the run entry and writing its lines.
 ghost use Rattle.std.specs.Prelude.{◌≡◌, ◌+◌, ◌≤◌, length};
-ghost use Rattle.floor.specs.Handing.{Passes, is_whole_list, is_whole_blocks, Finishes, Handing};
+ghost use Rattle.floor.specs.Handing.{Passes, is_whole_blocks, Finishes, Handing};
 
 use crate::output;
 use base::DONE;
 use runs::Run;
 use std::io::Print;
 
-// Why no further call was made.
-#[derive(Clone, Copy)]
+// Why a part was not handed over whole.
+#[derive(Clone, Copy, PartialEq, Eq)]
 pub enum Stop {
-    // all of the part was used, or the run is over
-    Whole,
     // more bytes are named than the buffer has
     Beyond,
     // the buffer is not some whole blocks
@@ -24,17 +22,17 @@ pub enum Stop {
     NotWritten,
 }
 
-// The run after so many calls, and why they were no more.
-#[derive(Clone, Copy)]
+// The run after so many calls; all of the part was used or the run is over, or why there was no further call.
+#[derive(Clone, Copy, PartialEq, Eq)]
 pub struct Passed {
     pub run: Run,
     pub calls: usize,
-    pub stop: Stop,
+    pub outcome: Result<(), Stop>,
 }
 
 // Hands a part over until it is used up or the run is over. Each call but the last uses a block at least.
 pub fn pass<P: Print>(before: Run, part: &[u8], out: &mut [u8], to: &P) -> Passed
-    ensures { Passes part.now (record { run = before; buffer = out.old }) result.calls result.stop
+    ensures { Passes part.now (record { run = before; buffer = out.old }) result.calls result.outcome
         (record { run = result.run; buffer = out.new }) }
 {
     let mut run = before;
@@ -48,28 +46,28 @@ pub fn pass<P: Print>(before: Run, part: &[u8], out: &mut [u8], to: &P) -> Passe
             return Passed {
                 run,
                 calls,
-                stop: Stop::Refused(ran.number),
+                outcome: Err(Stop::Refused(ran.number)),
             };
         }
         if !output::put(to, out, ran.written) {
             return Passed {
                 run,
                 calls,
-                stop: Stop::NotWritten,
+                outcome: Err(Stop::NotWritten),
             };
         }
         if ran.asks == 0 {
             return Passed {
                 run,
                 calls,
-                stop: Stop::Whole,
+                outcome: Ok(()),
             };
         }
         if ran.used == 0 {
             return Passed {
                 run,
                 calls,
-                stop: Stop::NoRoom(ran.asks),
+                outcome: Err(Stop::NoRoom(ran.asks)),
             };
         }
         from += ran.used;
@@ -78,73 +76,50 @@ pub fn pass<P: Print>(before: Run, part: &[u8], out: &mut [u8], to: &P) -> Passe
     Passed {
         run,
         calls,
-        stop: Stop::Whole,
-    }
-}
-
-pub(crate) fn is_whole(stop: Stop) -> bool
-    ensures { result ≡ is_whole_list stop }
-{
-    match stop {
-        Stop::Whole => true,
-        Stop::Beyond => false,
-        Stop::Uneven => false,
-        Stop::Refused(_) => false,
-        Stop::NoRoom(_) => false,
-        Stop::NotWritten => false,
+        outcome: Ok(()),
     }
 }
 
 fn holds_blocks(bytes: usize) -> bool
     ensures { result ≡ is_whole_blocks bytes }
 {
-    if bytes == 0 {
-        return false;
-    }
-    bytes % 512 == 0
+    bytes != 0 && bytes % 512 == 0
 }
 
 // The end of the input: an empty part, where all before it was handed over and the run is not over.
 fn finish<P: Print>(passed: Passed, buf: &[u8], out: &mut [u8], to: &P) -> Passed
     requires { passed.calls ≤ 9223372036854775808 }
-    ensures { Finishes (record { run = passed.run; buffer = out.old }) passed.calls passed.stop result.calls result.stop
+    ensures { Finishes (record { run = passed.run; buffer = out.old }) passed.calls passed.outcome result.calls result.outcome
         (record { run = result.run; buffer = out.new }) }
 {
-    let stop = passed.stop;
-    if !is_whole(stop) {
-        return passed;
-    }
     let run = passed.run;
-    if run.over {
+    if passed.outcome.is_err() || run.over {
         return passed;
     }
     let last = pass(run, &buf[0..0], out, to);
-    let after = last.run;
-    let why = last.stop;
     Passed {
-        run: after,
         calls: passed.calls + last.calls,
-        stop: why,
+        ..last
     }
 }
 
 // Hands over what was read into a buffer of some whole blocks: its first bytes, and where they do not fill it, the end of the input.
 pub fn hand<P: Print>(run: Run, buf: &[u8], bytes: usize, out: &mut [u8], to: &P) -> Passed
-    ensures { Handing buf.now bytes (record { run = run; buffer = out.old }) result.calls result.stop
+    ensures { Handing buf.now bytes (record { run = run; buffer = out.old }) result.calls result.outcome
         (record { run = result.run; buffer = out.new }) }
 {
     if buf.len() < bytes {
         return Passed {
             run,
             calls: 0,
-            stop: Stop::Beyond,
+            outcome: Err(Stop::Beyond),
         };
     }
     if !holds_blocks(buf.len()) {
         return Passed {
             run,
             calls: 0,
-            stop: Stop::Uneven,
+            outcome: Err(Stop::Uneven),
         };
     }
     let passed = pass(run, &buf[0..bytes], out, to);

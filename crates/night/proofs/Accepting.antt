@@ -1,5 +1,6 @@
 -- The cycles that the E line and the R line name are the accepted cycles of the file.
 -- Assumes nothing.
+use Rattle.std.specs.Prelude.{Ok, Err}
 use mathlib.Core.Path.{◌≡◌, refl, sym, ◌∙◌}
 use mathlib.Core.Bool.{false, true≢false}
 use mathlib.Core.List.{List, [], ◌∷◌}
@@ -14,10 +15,10 @@ use Rattle.trace.specs.declared.place.Place.{Place}
 use Rattle.trace.specs.Blocks.{held_of, config_of, cycle_length, cycle_start, part_at}
 use Rattle.trace.specs.Bytes.{AreBytes}
 use Rattle.trace.specs.Place.{start}
-use Rattle.trace.specs.Judged.{BlockOutcome, next_place, judged}
+use Rattle.trace.specs.declared.judging.Answer.{Answer}
+use Rattle.trace.specs.Judged.{next_place, judged}
 use Rattle.trace.proofs.Findings.{FoundAs, refuses, configures, holds, ends, is_over, found_as}
-use Rattle.rules.specs.declared.Verdict.{Verdict}
-use Rattle.rules.specs.declared.Verdict.TheVariants.{Accepted, Refused}
+use Rattle.base.specs.Refusal.{Verdict}
 use Rattle.rules.specs.Step.{step_of}
 use Rattle.rules.proofs.ChosenStep.{cycle_steps}
 use Rattle.router.proofs.Going.{piece_bytes}
@@ -39,17 +40,17 @@ module _ (block : List ℕ) (bytes : AreBytes block) where
           → ((t : Router) → (cycles_then rest block (k + 1) n t).cycles ≡ t.cycle + accepted_in later block (k + 1) n t)
           → (cycle_then v (step_of s (part_at block k)) s (cycles_then rest block (k + 1) n)).cycles
           ≡ s.cycle + counted v (accepted_in later block (k + 1) n (step_of s (part_at block k)).router)
-      go Accepted e more =
+      go (Ok _) e more =
           let c = cycle_steps s (part_at block k) (piece_bytes cycle_length (cycle_start k) block bytes) e in
           let h = more (step_of s (part_at block k)).router in
           omega (arith, c, h)
-      go (Refused r) e more = sym (add-zero s.cycle)
+      go (Err r) e more = sym (add-zero s.cycle)
 
   -- a block counts its cycles; the configuration block comes before any
   block_counted : (rest : Place → Router → Printed) (later : Place → Router → ℕ)
       → ((p : Place) (s : Router) → (p.configured ≡ false → s.cycle ≡ 0) → (rest p s).cycles ≡ s.cycle + later p s)
-      → (p : Place) (s : Router) → (p.configured ≡ false → s.cycle ≡ 0) → (o : BlockOutcome) → FoundAs p s.cycle block o
-      → (block_then o.read o block s rest).cycles ≡ s.cycle + accepted_by o.read o block s later
+      → (p : Place) (s : Router) → (p.configured ≡ false → s.cycle ≡ 0) → (o : Answer) → FoundAs p s.cycle block o
+      → (block_then o.found o.place block s rest).cycles ≡ s.cycle + accepted_by o.found o.place block s later
   unfolding fresh_router
   block_counted rest later same p s z _ (refuses n k) = sym (add-zero s.cycle)
   block_counted rest later same p s z _ (configures a b _) =

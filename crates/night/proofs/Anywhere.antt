@@ -1,19 +1,24 @@
 -- What becomes of a run does not depend on the buffer that its lines go to, nor on the place in it.
 -- Assumes nothing.
+use Rattle.std.specs.Prelude.{Result}
+use Rattle.trace.specs.declared.place.Place.{Place}
+use Rattle.std.specs.Prelude.{Ok, Err}
 use mathlib.Core.Path.{◌≡◌, refl, sym, ap, subst, ◌∙◌}
 use mathlib.Core.Bool.{Bool, true, false, cond}
 use mathlib.Core.List.{List, []}
-use mathlib.Core.Option.{Option, some, none}
 use Prim.Native.Nat.{ℕ, zero, suc, ◌+◌}
 use native.Mathlib.Omega.{arith}
 use Rattle.trace.specs.Bytes.{AreBytes}
-use Rattle.trace.specs.Judged.{Read, a_configuration, some_cycles, the_end, no_more, BlockOutcome, judged}
+use Rattle.trace.specs.declared.judging.Answer.{Answer}
+use Rattle.trace.specs.declared.judging.Found.{Found}
+use Rattle.base.specs.declared.refusal.Refusal.{Refusal}
+use Rattle.trace.specs.declared.judging.Found.TheVariants as found
+use Rattle.trace.specs.Judged.{judged}
 use Rattle.trace.specs.Blocks.{part_at}
-use Rattle.rules.specs.declared.Verdict.{Verdict}
-use Rattle.rules.specs.declared.Verdict.TheVariants.{Accepted, Refused}
+use Rattle.base.specs.Refusal.{Verdict}
 use Rattle.rules.specs.Step.{step_of}
 use Rattle.runs.specs.declared.Run.{Run}
-use Rattle.router.specs.Running.{Writing, wrote, with_place, on_run, ended_by, by_verdict, cycled, cycles_from, by_outcome, block_taken}
+use Rattle.router.specs.Running.{Writing, wrote, with_place, on_run, ended_by, by_verdict, cycled, cycles_from, by_found, block_taken}
 use Rattle.router.specs.Inside.{Within, GoesOn}
 use Rattle.router.proofs.Going.{cycled_goes_on}
 
@@ -30,8 +35,8 @@ cycled_run part w = go (step_of w.run.router part).verdict
   where
     go : (v : Verdict) → (by_verdict v (step_of w.run.router part) w).run
         ≡ (by_verdict v (step_of w.run.router part) (anywhere w.run)).run
-    go Accepted = refl
-    go (Refused r) = refl
+    go (Ok _) = refl
+    go (Err r) = refl
 
 cycles_run : (block : List ℕ) (n k : ℕ) (w : Writing) → (cycles_from block k n w).run ≡ (cycles_from block k n (anywhere w.run)).run
 unfolding cycles_from
@@ -55,15 +60,15 @@ pub block_run : (block : List ℕ) (w : Writing) → (block_taken block w).run �
 unfolding block_taken ended_by wrote
 block_run block w = go (judged w.run.place w.run.router.cycle block)
   where
-    go : (o : BlockOutcome) → (by_outcome o.read o block w).run ≡ (by_outcome o.read o block (anywhere w.run)).run
-    go o = which o.read
+    go : (o : Answer) → (by_found o.found o.place block w).run ≡ (by_found o.found o.place block (anywhere w.run)).run
+    go o = which o.found o.place
       where
-        which : (r : Option Read) → (by_outcome r o block w).run ≡ (by_outcome r o block (anywhere w.run)).run
-        which none = refl
-        which (some (a_configuration c)) = refl
-        which (some (some_cycles n)) = cycles_run block n 0 (on_run (with_place o.place) w)
-        which (some the_end) = refl
-        which (some no_more) = refl
+        which : (r : Result Found Refusal) (q : Place) → (by_found r q block w).run ≡ (by_found r q block (anywhere w.run)).run
+        which (Err r) q = refl
+        which (Ok (found.Configuration c)) q = refl
+        which (Ok (found.Cycles n)) q = cycles_run block n 0 (on_run (with_place q) w)
+        which (Ok found.End) q = refl
+        which (Ok found.Done) q = refl
 
 -- a run that goes on, wherever it writes
 abbrev pub Goes : Run → Type 0

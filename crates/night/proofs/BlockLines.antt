@@ -1,9 +1,10 @@
 -- A block of a run prints what the list has for it, and leaves a run that can take another.
 -- Assumes nothing.
+use Rattle.base.specs.Refusal.{number_of, place_of}
+use Rattle.std.specs.Prelude.{is_err}
 use mathlib.Core.Path.{◌≡◌, refl, sym, ap, subst, ◌∙◌}
 use mathlib.Core.Bool.{Bool, true, false, cond, true≢false}
 use mathlib.Core.List.{List, [], ◌∷◌}
-use mathlib.Core.Option.{none}
 use Prim.Native.Nat.{ℕ, ◌+◌, ◌*◌, ◌≤◌}
 use native.Mathlib.Nat.{add-zero}
 use native.Mathlib.Omega.{arith}
@@ -14,11 +15,12 @@ use Rattle.state.specs.Sound.{Sound}
 use Rattle.trace.specs.declared.place.Place.{Place}
 use Rattle.trace.specs.Bytes.{AreBytes}
 use Rattle.trace.specs.Blocks.{held_of, config_of}
-use Rattle.trace.specs.Judged.{BlockOutcome, next_place, judged}
+use Rattle.trace.specs.declared.judging.Answer.{Answer}
+use Rattle.trace.specs.Judged.{next_place, judged}
 use Rattle.trace.proofs.Findings.{FoundAs, refuses, configures, holds, ends, is_over, found_as}
 use Rattle.listing.specs.Lines.{finish, refusal, flit_lines}
 use Rattle.runs.specs.declared.Run.{Run}
-use Rattle.router.specs.Running.{Writing, wrote, with_place, on_run, ended_by, cycles_from, by_outcome, block_taken, room_of_block}
+use Rattle.router.specs.Running.{Writing, wrote, with_place, on_run, ended_by, cycles_from, by_found, block_taken, room_of_block}
 use Rattle.state.proofs.Legal.{sound_cycle}
 use Rattle.router.proofs.Going.{block_goes_on}
 use Rattle.router.proofs.RunLaws.{begun_ongoing}
@@ -78,10 +80,10 @@ module _ (block : List ℕ) (bytes : AreBytes block) (w : Writing) (ready : Read
     abbrev moved : Place → Writing
     moved q = on_run (with_place q) w
 
-    abbrev Block : BlockOutcome → Type 0
+    abbrev Block : Answer → Type 0
     Block o =
-        Prints w (by_outcome o.read o block w) (left_of w.run.flits (block_then o.read o block s rest))
-        (left_in (by_outcome o.read o block w).run rest)
+        Prints w (by_found o.found o.place block w) (left_of w.run.flits (block_then o.found o.place block s rest))
+        (left_in (by_found o.found o.place block w).run rest)
 
     -- what is left of a run that is not over
     going_left : (x : Printed) → left_of w.run.flits x ≡ cond w.run.over [] (left_of w.run.flits x)
@@ -99,7 +101,7 @@ module _ (block : List ℕ) (bytes : AreBytes block) (w : Writing) (ready : Read
         (going_left (cycles_then (rest q) block 0 n s)) (ap (λ (x : Place). left_from v.run (rest x))
         (sym (cycles_place block n 0 (moved q))))
 
-    of_found : (o : BlockOutcome) → FoundAs p s.cycle block o → (o.read ≡ none → Named o.number o.field) → Block o
+    of_found : (o : Answer) → FoundAs p s.cycle block o → (is_err o.found ≡ true → Named (number_of o.found) (place_of o.found)) → Block o
     unfolding ended_by wrote flit_lines
     of_found _ (refuses n k) named =
         (ended_prints (refusal n s.cycle k) w (rest p) (refusal_prints n s.cycle k (named refl) ready.early)
@@ -118,7 +120,7 @@ module _ (block : List ℕ) (bytes : AreBytes block) (w : Writing) (ready : Read
         (ap (λ (n : ℕ). finish s.cycle n ∷ []) (add-zero f)) refl
 
     pub block_prints : Prints w (block_taken block w)
-        (left_of w.run.flits (block_then (judged p s.cycle block).read (judged p s.cycle block) block s rest))
+        (left_of w.run.flits (block_then (judged p s.cycle block).found (judged p s.cycle block).place block s rest))
         (left_in (block_taken block w).run rest)
     unfolding block_taken
     block_prints = of_found (judged p s.cycle block) (found_as p s.cycle block) (outcome_named p s.cycle block)

@@ -1,5 +1,6 @@
 -- A cycle of a run, and the cycles of a block, print what the list has for them.
 -- Assumes nothing.
+use Rattle.std.specs.Prelude.{Ok, Err}
 use mathlib.Core.Path.{◌≡◌, refl, sym, ap, ◌∙◌}
 use mathlib.Core.Bool.{Bool, true, false, cond}
 use mathlib.Core.List.{List, [], ◌∷◌, ◌++◌}
@@ -11,8 +12,7 @@ use Rattle.state.specs.declared.Router.{Router}
 use Rattle.trace.specs.Bytes.{AreBytes}
 use Rattle.trace.specs.Blocks.{cycle_length, cycle_start, part_at}
 use Rattle.listing.specs.Lines.{Line, refusal, printable, text, cycle_lines, flit_lines}
-use Rattle.rules.specs.declared.Verdict.{Verdict}
-use Rattle.rules.specs.declared.Verdict.TheVariants.{Accepted, Refused}
+use Rattle.base.specs.Refusal.{Verdict}
 use Rattle.rules.specs.declared.Stepped.{Stepped}
 use Rattle.rules.specs.Step.{step_of}
 use Rattle.router.specs.Running.{Writing, wrote, with_router, with_flits, finished, ended_by, by_verdict, cycled, cycles_from}
@@ -58,7 +58,7 @@ module _ (part : List ℕ) (bytes : AreBytes part) (w : Writing) (g : Goes w.run
 
   step : (v : Verdict) → x.verdict ≡ v → Step v
   unfolding wrote ended_by
-  step Accepted e =
+  step (Ok _) e =
       let fits = reply_fits s part bytes e in
       let a = wrote_adds w (λ n. with_router x.router (with_flits (flit_lines (cycle_lines n.router.cycle x.reply)) n)) lines
       (reply_printable s part bytes e) fits there in
@@ -73,10 +73,10 @@ module _ (part : List ℕ) (bytes : AreBytes part) (w : Writing) (g : Goes w.run
         };
         short = short_enough a fits;
       }
-  step (Refused r) e =
-      let line = refusal r.number s.cycle r.port in
-      let fine = refusal_prints r.number s.cycle r.port (refusal_named s part g.sound r e) (sound_cycle g.sound) in
-      ended_prints line w rest fine (refusal_fits r.number s.cycle r.port) there
+  step (Err r) e =
+      let line = refusal r.number s.cycle r.place in
+      let fine = refusal_prints r.number s.cycle r.place (refusal_named s part g.sound r e) (sound_cycle g.sound) in
+      ended_prints line w rest fine (refusal_fits r.number s.cycle r.place) there
 
   pub cycle_prints : Printing w (cycled part w) (left_of w.run.flits (cycle_then x.verdict x s rest))
       (left_from (cycled part w).run rest)

@@ -1,6 +1,7 @@
 -- The list of a file and its history are one: the lines are those of a run through the file's accepted cycles, the cycles that E and R name
 -- are the entries of its history, and the flits that E names are those that left in it.
 -- Assumes nothing.
+use Rattle.std.specs.Prelude.{Ok, Err}
 use mathlib.Core.Path.{◌≡◌, refl, sym, ap, subst, ◌∙◌}
 use mathlib.Core.Bool.{Bool, true, false, cond, true≢false}
 use mathlib.Core.List.{List, [], ◌∷◌, ◌++◌}
@@ -16,13 +17,13 @@ use Rattle.trace.specs.declared.place.Place.{Place}
 use Rattle.trace.specs.Blocks.{kind_of, held_of, config_of, cycle_length, cycle_start, part_at}
 use Rattle.trace.specs.Bytes.{AreBytes}
 use Rattle.trace.specs.Place.{start}
-use Rattle.trace.specs.Judged.{BlockOutcome, next_place, judged}
+use Rattle.trace.specs.declared.judging.Answer.{Answer}
+use Rattle.trace.specs.Judged.{next_place, judged}
 use Rattle.trace.proofs.Findings.{FoundAs, refuses, configures, holds, ends, is_over, found_as}
 use Rattle.listing.specs.Lines.{Line, finish, cycle_lines, flit_lines}
 use Rattle.model.specs.Lists.{All}
 use Rattle.model.proofs.Lists.{all_append}
-use Rattle.rules.specs.declared.Verdict.{Verdict}
-use Rattle.rules.specs.declared.Verdict.TheVariants.{Accepted, Refused}
+use Rattle.base.specs.Refusal.{Verdict}
 use Rattle.rules.specs.Step.{step_of}
 use Rattle.history.specs.Listed.{departed, lines_then, lines_from}
 use Rattle.history.specs.Run.{Ran, recorded, run_from, run_of}
@@ -47,9 +48,9 @@ module _ (c : Config) where
   stops r e = record { lines = refl; cycles = refl }
 
   -- an accepted cycle comes before those after it
-  goes_on : (r : Ran) (part : List ℕ) (parts : List (List ℕ)) (rest : Router → Printed) → (step_of r.router part).verdict ≡ Accepted
-      → Joins c (recorded c part r Accepted (step_of r.router part)) parts (rest (step_of r.router part).router)
-      → Joins c r (part ∷ parts) (cycle_then Accepted (step_of r.router part) r.router rest)
+  goes_on : (r : Ran) (part : List ℕ) (parts : List (List ℕ)) (rest : Router → Printed) → (step_of r.router part).verdict ≡ Ok tt
+      → Joins c (recorded c part r (Ok tt) (step_of r.router part)) parts (rest (step_of r.router part).router)
+      → Joins c r (part ∷ parts) (cycle_then (Ok tt) (step_of r.router part) r.router rest)
   unfolding lines_from run_from
   goes_on r part parts rest e more =
       let x = step_of r.router part in
@@ -75,23 +76,23 @@ module _ (c : Config) where
             → Joins c r (take (counted v (accepted_in later block (k + 1) n (step_of r.router (part_at block k)).router))
             (part_at block k ∷ (parts_from block (k + 1) n ++ more)))
             (cycle_then v (step_of r.router (part_at block k)) r.router (cycles_then rest block (k + 1) n))
-        go Accepted e after =
+        go (Ok _) e after =
             let part = part_at block k in
             let x = step_of r.router part in
             let m = accepted_in later block (k + 1) n x.router in
             let one : suc m ≡ 1 + m = omega arith in
             let rest_of = cycles_then rest block (k + 1) n in
             subst (λ (j : ℕ). Joins c r (take j (part ∷ (parts_from block (k + 1) n ++ more)))
-            (cycle_then Accepted x r.router rest_of)) one
-            (goes_on r part (take m (parts_from block (k + 1) n ++ more)) rest_of e (after (recorded c part r Accepted x)))
-        go (Refused f) e after = stops r _
+            (cycle_then (Ok tt) x r.router rest_of)) one
+            (goes_on r part (take m (parts_from block (k + 1) n ++ more)) rest_of e (after (recorded c part r (Ok tt) x)))
+        go (Err f) e after = stops r _
 
     -- a block after the configuration block, and then the rest
     block_joins : (rest : Place → Router → Printed) (later : Place → Router → ℕ) (more : List (List ℕ))
         → ((p : Place) (r : Ran) → p.configured ≡ true → Joins c r (take (later p r.router) more) (rest p r.router))
-        → (p : Place) (r : Ran) → p.configured ≡ true → (o : BlockOutcome) → FoundAs p r.router.cycle block o
-        → Joins c r (take (accepted_by o.read o block r.router later) (parts_in block ++ more))
-        (block_then o.read o block r.router rest)
+        → (p : Place) (r : Ran) → p.configured ≡ true → (o : Answer) → FoundAs p r.router.cycle block o
+        → Joins c r (take (accepted_by o.found o.place block r.router later) (parts_in block ++ more))
+        (block_then o.found o.place block r.router rest)
     unfolding parts_in
     block_joins rest later more same p r y _ (refuses n k) = stops r _
     block_joins rest later more same p r y _ (configures a b kind) = absurd (true≢false (sym y ∙ a))
@@ -122,10 +123,10 @@ abbrev fresh : Config → Ran
 fresh c = record { router = fresh_router c; history = [] }
 
 -- the first block of a file, and then the rest
-first_joins : (block : List ℕ) (blocks : List (List ℕ)) (o : BlockOutcome) → FoundAs start 0 block o
-    → Joins (config_of block) (fresh (config_of block)) (take (accepted_by o.read o block (fresh_router no_config) (accepted_from blocks))
+first_joins : (block : List ℕ) (blocks : List (List ℕ)) (o : Answer) → FoundAs start 0 block o
+    → Joins (config_of block) (fresh (config_of block)) (take (accepted_by o.found o.place block (fresh_router no_config) (accepted_from blocks))
     (parts_in block ++ parts_of blocks))
-    (block_then o.read o block (fresh_router no_config) (file_from blocks))
+    (block_then o.found o.place block (fresh_router no_config) (file_from blocks))
 unfolding parts_in fresh_router lines_from run_from
 first_joins block blocks _ (refuses n k) = record { lines = refl; cycles = refl }
 first_joins block blocks _ (configures a b kind) =

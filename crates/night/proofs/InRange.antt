@@ -1,9 +1,13 @@
 -- What a run prints is in the writer's ranges: no write of a run is refused with 12, and where a block's room was there, none with 11.
 -- Assumes nothing.
-use mathlib.Core.Path.{◌≡◌, refl}
-use mathlib.Core.Bool.{Bool, true, false, cond, not, ◌&&◌}
+use Rattle.base.specs.Refusal.{number_of, place_of}
+use Rattle.std.specs.Prelude.{is_err}
+use Rattle.std.specs.Prelude.{Ok, Err}
+use mathlib.Core.Path.{sym, ◌≡◌, refl}
+use mathlib.Core.Bool.{Bool, true, false, cond, true≢false, not, ◌&&◌}
 use mathlib.Core.List.{List, [], ◌∷◌}
-use mathlib.Core.Option.{Option, some, none, some-ne-none, none-ne-some}
+use Rattle.std.specs.Prelude.{Option, Some, None}
+use Rattle.std.proofs.lemmas.Option.{none-some}
 use Prim.Native.Nat.{ℕ, zero, suc, ◌+◌, ◌≤◌, ◌<◌, zero-le}
 use native.Mathlib.Omega.{arith}
 use lib.Dec.{eqb}
@@ -18,11 +22,12 @@ use Rattle.trace.specs.declared.place.Place.{Place}
 use Rattle.trace.specs.Bytes.{AreBytes}
 use Rattle.trace.specs.Blocks.{kind_of, config_of}
 use Rattle.trace.specs.Rules.{place_unsound, block_short, check_wrong, block_wrong, field_wrong}
-use Rattle.trace.specs.Judged.{BlockOutcome, accepted, refused, no_more, read_of, next_place, taken, judged_by_field, judged}
+use Rattle.trace.specs.declared.judging.Answer.{Answer}
+use Rattle.trace.specs.declared.judging.Found.TheVariants as found
+use Rattle.trace.specs.Judged.{accepted, refused, read_of, next_place, taken, judged_by_field, judged}
 use Rattle.listing.specs.Lines.{finish, refusal, values_of, all_in_range, printable, cycle_lines}
 use Rattle.listing.specs.Writing.{written}
-use Rattle.rules.specs.declared.Refusal.{Refusal}
-use Rattle.rules.specs.declared.Verdict.TheVariants.{Accepted, Refused}
+use Rattle.base.specs.declared.refusal.Refusal.{Refusal}
 use Rattle.rules.specs.Numbers.{rules_of}
 use Rattle.rules.specs.Step.{step_of}
 use Rattle.rules.proofs.Exactness.{refused_exactly}
@@ -50,9 +55,9 @@ unfolding printable values_of all_in_range
 finish_prints cycles flits c f = rw (in_range-law cycles 0 1000000000 zero-le c, in_range-law flits 0 8000000000 zero-le f)
 
 -- a sound router refuses a cycle with 2, 10, 3, 6, 4 or 5, at one of its ports
-pub refusal_named : (s : Router) (part : List ℕ) → Sound s → (r : Refusal) → (step_of s part).verdict ≡ Refused r
-    → Named r.number r.port
-refusal_named s part sound r e = go r.number r.port ((refused_exactly s part r.number r.port).0 e)
+pub refusal_named : (s : Router) (part : List ℕ) → Sound s → (r : Refusal) → (step_of s part).verdict ≡ Err r
+    → Named r.number r.place
+refusal_named s part sound r e = go r.number r.place ((refused_exactly s part r.number r.place).0 e)
   where
     ports : s.config.ports ≤ 8
     ports = (sound_legal s sound).ports.1
@@ -73,33 +78,33 @@ refusal_named s part sound r e = go r.number r.port ((refused_exactly s part r.n
     go n p (later _ (later _ (later _ (later _ (later _ (later _ (later _ x70))))))) = elim x70 [ ]
 
 -- the field that goes with 1 is one of seven
-field_few : (c : Config) (k : ℕ) → illegal_field c ≡ some k → k ≤ 7
+field_few : (c : Config) (k : ℕ) → illegal_field c ≡ Some k → k ≤ 7
 field_few c zero e = omega arith
 field_few c (suc m) e = let l = ((illegal_exact c m).0 e).there in omega (arith, l)
 
 -- where an outcome refuses, its number and field are in range
-record NamedIf (o : BlockOutcome) : Type 0 where
-  named : o.read ≡ none → Named o.number o.field
+record NamedIf (o : Answer) : Type 0 where
+  named : is_err o.found ≡ true → Named (number_of o.found) (place_of o.found)
 
 module _ (p : Place) (c : ℕ) (l : List ℕ) where
   number : (n : ℕ) → 1 ≤ n → n ≤ 10 → NamedIf (refused n 0 p)
   number n a b = record { named = λ e. record { least = a; most = b; port = omega arith } }
 
-  field_wrong-law : (k : ℕ) → field_wrong p l ≡ some k → k ≤ 7
+  field_wrong-law : (k : ℕ) → field_wrong p l ≡ Some k → k ≤ 7
   unfolding field_wrong
   field_wrong-law k = go (not p.ended && eqb (kind_of l) 1)
     where
-      go : (b : Bool) → cond b (illegal_field (config_of l)) none ≡ some k → k ≤ 7
+      go : (b : Bool) → cond b (illegal_field (config_of l)) None ≡ Some k → k ≤ 7
       go true e = field_few (config_of l) k e
-      go false e = absurd (none-ne-some k e)
+      go false e = absurd (none-some k e)
 
   taken_named : NamedIf (taken p l)
   unfolding taken
   taken_named = go p.ended
     where
-      go : (b : Bool) → NamedIf (cond b (accepted no_more p) (accepted (read_of l) (next_place p l)))
-      go true = record { named = λ e. absurd (some-ne-none no_more e) }
-      go false = record { named = λ e. absurd (some-ne-none (read_of l) e) }
+      go : (b : Bool) → NamedIf (cond b (accepted found.Done p) (accepted (read_of l) (next_place p l)))
+      go true = record { named = λ e. absurd (true≢false (sym e)) }
+      go false = record { named = λ e. absurd (true≢false (sym e)) }
 
   judged_named : NamedIf (judged p c l)
   unfolding judged judged_by_field
@@ -109,38 +114,38 @@ module _ (p : Place) (c : ℕ) (l : List ℕ) where
       (either (check_wrong p l) (number 7 (omega arith) (omega arith))
       (either (block_wrong p c l) (number 8 (omega arith) (omega arith)) (one (field_wrong p l) refl))))
     where
-      either : (b : Bool) {o q : BlockOutcome} → NamedIf o → NamedIf q → NamedIf (cond b o q)
+      either : (b : Bool) {o q : Answer} → NamedIf o → NamedIf q → NamedIf (cond b o q)
       either true x y = x
       either false x y = y
 
       one : (o : Option ℕ) → field_wrong p l ≡ o → NamedIf (judged_by_field o p l)
-      one (some k) e = record { named = λ f. record { least = omega arith; most = omega arith; port = field_wrong-law k e } }
-      one none e = taken_named
+      one (Some k) e = record { named = λ f. record { least = omega arith; most = omega arith; port = field_wrong-law k e } }
+      one None e = taken_named
 
   -- a block is refused with 2, 9, 7, 8 or 1, and a field of 7
-  pub outcome_named : (judged p c l).read ≡ none → Named (judged p c l).number (judged p c l).field
+  pub outcome_named : is_err (judged p c l).found ≡ true → Named (number_of (judged p c l).found) (place_of (judged p c l).found)
   outcome_named = judged_named.named
 
 -- No write of a run is refused. The lines of an accepted cycle:
-pub cycle_written : (s : Router) (part : List ℕ) → AreBytes part → (step_of s part).verdict ≡ Accepted
+pub cycle_written : (s : Router) (part : List ℕ) → AreBytes part → (step_of s part).verdict ≡ Ok tt
     → (b : List ℕ) (at : ℕ) → at + room ≤ length b → (written b at (cycle_lines s.cycle (step_of s part).reply)).number ≡ done
 cycle_written s part bytes e b at there = written_done b at (cycle_lines s.cycle (step_of s part).reply)
     (reply_printable s part bytes e) there
 
 -- the R line of a refused cycle:
-pub refusal_written : (s : Router) (part : List ℕ) → Sound s → (r : Refusal) → (step_of s part).verdict ≡ Refused r
-    → (b : List ℕ) (at : ℕ) → at + room ≤ length b → (written b at (refusal r.number s.cycle r.port ∷ [])).number ≡ done
+pub refusal_written : (s : Router) (part : List ℕ) → Sound s → (r : Refusal) → (step_of s part).verdict ≡ Err r
+    → (b : List ℕ) (at : ℕ) → at + room ≤ length b → (written b at (refusal r.number s.cycle r.place ∷ [])).number ≡ done
 refusal_written s part sound r e b at there =
-    written_done b at (refusal r.number s.cycle r.port ∷ [])
-    (refusal_prints r.number s.cycle r.port (refusal_named s part sound r e) (sound_cycle sound)) there
+    written_done b at (refusal r.number s.cycle r.place ∷ [])
+    (refusal_prints r.number s.cycle r.place (refusal_named s part sound r e) (sound_cycle sound)) there
 
 -- the R line of a refused block:
-pub block_refusal_written : (p : Place) (c : ℕ) (l : List ℕ) → c ≤ 1000000000 → (judged p c l).read ≡ none
-    → (b : List ℕ) (at : ℕ) → at + room ≤ length b → (written b at (refusal (judged p c l).number c (judged p c l).field ∷ [])).number
+pub block_refusal_written : (p : Place) (c : ℕ) (l : List ℕ) → c ≤ 1000000000 → is_err (judged p c l).found ≡ true
+    → (b : List ℕ) (at : ℕ) → at + room ≤ length b → (written b at (refusal (number_of (judged p c l).found) c (place_of (judged p c l).found) ∷ [])).number
     ≡ done
 block_refusal_written p c l early e b at there =
-    written_done b at (refusal (judged p c l).number c (judged p c l).field ∷ [])
-    (refusal_prints (judged p c l).number c (judged p c l).field (outcome_named p c l e) early) there
+    written_done b at (refusal (number_of (judged p c l).found) c (place_of (judged p c l).found) ∷ [])
+    (refusal_prints (number_of (judged p c l).found) c (place_of (judged p c l).found) (outcome_named p c l e) early) there
 
 -- and the E line of a run that goes on:
 pub finish_written : (w : Writing) → GoesOn w

@@ -1,9 +1,10 @@
 -- A call of the run entry hands a run that a file can lead to back as one, so that 2 never comes between calls.
 -- Assumes nothing.
+use Rattle.base.specs.Refusal.{number_of}
+use Rattle.std.specs.Prelude.{Result, Ok, Err}
 use mathlib.Core.Path.{◌≡◌, refl, sym, ap, ap₂, subst, ◌∙◌}
 use mathlib.Core.Bool.{Bool, true, false, cond, not, ◌&&◌, true≢false}
 use mathlib.Core.List.{List}
-use mathlib.Core.Option.{Option, some, none}
 use Prim.Native.Nat.{ℕ, zero, suc, ◌+◌, ◌-◌, ◌*◌, ◌≤◌}
 use native.Mathlib.Nat.{add-zero, zero-add, le_refl}
 use native.Mathlib.Omega.{arith}
@@ -23,7 +24,11 @@ use Rattle.trace.specs.Bytes.{AreBytes}
 use Rattle.trace.specs.declared.place.Place.{Place}
 use Rattle.trace.specs.Blocks.{kind_of, held_of, config_of, block_length}
 use Rattle.trace.specs.Place.{cycle_blocks, good_place}
-use Rattle.trace.specs.Judged.{Read, a_configuration, some_cycles, the_end, no_more, BlockOutcome, accepted, next_place, read_of, taken, judged}
+use Rattle.trace.specs.declared.judging.Answer.{Answer}
+use Rattle.trace.specs.declared.judging.Found.{Found}
+use Rattle.base.specs.declared.refusal.Refusal.{Refusal}
+use Rattle.trace.specs.declared.judging.Found.TheVariants as found
+use Rattle.trace.specs.Judged.{accepted, next_place, read_of, taken, judged}
 use Rattle.trace.specs.Way.{cycles_in}
 use Rattle.trace.proofs.Exactness.{accepted_taken}
 use Rattle.trace.proofs.Findings.{FoundAs, refuses, configures, holds, ends, is_over, found_as}
@@ -33,7 +38,7 @@ use Rattle.listing.specs.Writing.{lacks_room}
 use Rattle.runs.specs.declared.Run.{Run}
 use Rattle.runs.specs.Run.{started, between_blocks, before, stopped_inside, place_right, run_sound}
 use Rattle.runs.proofs.Places.{between_is, between_holds, between_right, right_between, going_good}
-use Rattle.router.specs.Running.{Writing, wrote, on_run, with_place, with_router, finished, ended_by, cycles_from, by_outcome, block_taken}
+use Rattle.router.specs.Running.{Writing, wrote, on_run, with_place, with_router, finished, ended_by, cycles_from, by_found, block_taken}
 use Rattle.router.specs.Running.{blocks_in, block_at, lacks_block_room, Call, begins, takes, stops, going_on, refused_with, answered, ran_of}
 use Rattle.state.proofs.Legal.{sound_cycle}
 use Rattle.router.proofs.Going.{piece_bytes}
@@ -105,22 +110,22 @@ led_stands n l k =
       cycle = refl;
     }
 
-abbrev holds_cycles : Option Read → Bool
-holds_cycles none = false
-holds_cycles (some (a_configuration k)) = false
-holds_cycles (some (some_cycles h)) = true
-holds_cycles (some the_end) = false
-holds_cycles (some no_more) = false
+abbrev holds_cycles : Result Found Refusal → Bool
+holds_cycles (Err r) = false
+holds_cycles (Ok (found.Configuration k)) = false
+holds_cycles (Ok (found.Cycles h)) = true
+holds_cycles (Ok found.End) = false
+holds_cycles (Ok found.Done) = false
 
 -- a block that holds cycles
 module _ (p : Place) (l : List ℕ) where
-  cycles_kind : holds_cycles (taken p l).read ≡ true → (p.ended ≡ false) × (kind_of l ≡ 2)
+  cycles_kind : holds_cycles (taken p l).found ≡ true → (p.ended ≡ false) × (kind_of l ≡ 2)
   unfolding taken read_of
   cycles_kind e = go p.ended refl (eqb (kind_of l) 1) (eqb (kind_of l) 2) refl e
     where
       go : (b : Bool) → p.ended ≡ b → (x y : Bool) → eqb (kind_of l) 2 ≡ y
-          → holds_cycles (cond b (accepted no_more p) (accepted
-          (cond x (a_configuration (config_of l)) (cond y (some_cycles (held_of l)) the_end)) (next_place p l))).read ≡ true
+          → holds_cycles (cond b (accepted found.Done p) (accepted
+          (cond x (found.Configuration (config_of l)) (cond y (found.Cycles (held_of l)) found.End)) (next_place p l))).found ≡ true
           → (p.ended ≡ false) × (kind_of l ≡ 2)
       go true f x y g e = absurd (true≢false (sym e))
       go false f true y g e = absurd (true≢false (sym e))
@@ -166,16 +171,16 @@ module _ (block : List ℕ) (bytes : AreBytes block) (w : Writing) (o : w.run.ov
   finished_led = record { right = between_right p c true between; rest = led.rest }
 
   -- the place after an accepted block, with the cycles that it holds added
-  leads : (r : BlockOutcome) → judged p c block ≡ r → r.number ≡ numbers.done → c + cycles_in r.read ≤ cycle_limit
-      → between_blocks r.place (c + cycles_in r.read) ≡ true
+  leads : (r : Answer) → judged p c block ≡ r → (number_of r.found) ≡ numbers.done → c + cycles_in r.found ≤ cycle_limit
+      → between_blocks r.place (c + cycles_in r.found) ≡ true
   leads r e d =
-      subst (λ (r : BlockOutcome). c + cycles_in r.read ≤ cycle_limit → between_blocks r.place (c + cycles_in r.read) ≡ true) e
+      subst (λ (r : Answer). c + cycles_in r.found ≤ cycle_limit → between_blocks r.place (c + cycles_in r.found) ≡ true) e
       (λ limit.
       let b = between_is p c between in
       let s = accepted_leads_on false p c block bytes (record { good = b.0; each = λ q. b.1 })
-      (ap (λ (r : BlockOutcome). r.number) e ∙ d)
-      (cycles_in (judged p c block).read) (record { most = le_refl (cycles_in (judged p c block).read); all = λ q. refl }) limit in
-      between_holds (judged p c block).place (c + cycles_in (judged p c block).read) s.good (s.each refl))
+      (ap (λ (r : Answer). (number_of r.found)) e ∙ d)
+      (cycles_in (judged p c block).found) (record { most = le_refl (cycles_in (judged p c block).found); all = λ q. refl }) limit in
+      between_holds (judged p c block).place (c + cycles_in (judged p c block).found) s.good (s.each refl))
 
   -- before the configuration block
   none_yet : p.configured ≡ false → (c ≡ 0) × (n.flits ≡ 0)
@@ -193,15 +198,15 @@ module _ (block : List ℕ) (bytes : AreBytes block) (w : Writing) (o : w.run.ov
   q = next_place p block
 
   -- a block with cycles, whether all were accepted or one was refused
-  module _ (h : ℕ) (k : p.configured ≡ true) (e : judged p c block ≡ accepted (some_cycles h) q) where
+  module _ (h : ℕ) (k : p.configured ≡ true) (e : judged p c block ≡ accepted (found.Cycles h) q) where
     ran_led : (m : Run) → Ran q c h m → Led m
     ran_led m (through f s) =
         let y = sound_cycle s.sound in
         let x = s.cycle in
-        stands_led q (c + h) m s refl (between_right q (c + h) m.over (leads (accepted (some_cycles h) q) e refl (omega (arith, x, y))))
+        stands_led q (c + h) m s refl (between_right q (c + h) m.over (leads (accepted (found.Cycles h) q) e refl (omega (arith, x, y))))
     ran_led m (stopped j l f s) =
-        let is = ap (λ (r : BlockOutcome). r.number) e in
-        let kind = cycles_kind p block (ap (λ (r : BlockOutcome). holds_cycles r.read) (sym (accepted_taken p c block is) ∙ e)) in
+        let is = ap (λ (r : Answer). (number_of r.found)) e in
+        let kind = cycles_kind p block (ap (λ (r : Answer). holds_cycles r.found) (sym (accepted_taken p c block is) ∙ e)) in
         stands_led q (c + j) m s refl
         (ap (λ (b : Bool). place_right q (c + j) b) f ∙ stopped_right p block k kind.0 kind.1 c j between l)
 
@@ -213,7 +218,7 @@ module _ (block : List ℕ) (bytes : AreBytes block) (w : Writing) (o : w.run.ov
         (cycles_ran block bytes q c h 0 (on_run (with_place q) w) (omega arith) o
         (record { place = refl; sound = s.sound; few = s.few; cycle = sym (add-zero c) })))
 
-  found_led : (r : BlockOutcome) → judged p c block ≡ r → FoundAs p c block r → Led (by_outcome r.read r block w).run
+  found_led : (r : Answer) → judged p c block ≡ r → FoundAs p c block r → Led (by_found r.found r.place block w).run
   unfolding ended_by wrote fresh_router
   found_led _ e (refuses m k) = finished_led
   found_led _ e (configures a b _) =
@@ -228,14 +233,14 @@ module _ (block : List ℕ) (bytes : AreBytes block) (w : Writing) (o : w.run.ov
             omega (arith, y);
         cycle = refl;
       }) refl
-      (between_right q 0 n.over (ap (between_blocks q) (sym same) ∙ leads (accepted (a_configuration (config_of block)) q) e refl limit))
+      (between_right q 0 n.over (ap (between_blocks q) (sym same) ∙ leads (accepted (found.Configuration (config_of block)) q) e refl limit))
   found_led _ e (holds a l h _) = held_led (held_of block) a e h
   found_led _ e (ends a _) =
       let s = led_stands n led a in
       let limit : c + 0 ≤ cycle_limit = let y = sound_cycle s.sound in omega (arith, y) in
       stands_led q (c + 0) (with_place q n)
       (record { place = refl; sound = s.sound; few = s.few; cycle = sym (add-zero c) }) refl
-      (between_right q (c + 0) n.over (leads (accepted the_end q) e refl limit))
+      (between_right q (c + 0) n.over (leads (accepted found.End q) e refl limit))
   found_led _ e (is_over a) = finished_led
 
   pub block_led : Led (block_taken block w).run

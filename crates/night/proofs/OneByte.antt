@@ -1,10 +1,12 @@
 -- "Any one byte changed, in a block whose check holds, must be noticed." (01, blocks), of a whole file: where its list ends in E, the list
 -- of the file with one byte changed has the lines of the blocks before that byte's, and ends there in R 7.
 -- Assumes nothing.
+use Rattle.base.specs.Refusal.{number_of}
+use Rattle.std.specs.Prelude.{Result}
+use Rattle.std.specs.Prelude.{Ok, Err}
 use mathlib.Core.Path.{◌≡◌, refl, sym, ap, ap₂, subst, ◌∙◌}
 use mathlib.Core.Bool.{Bool, true, false, cond, true≢false}
 use mathlib.Core.List.{List, [], ◌∷◌, ◌++◌}
-use mathlib.Core.Option.{Option, some, none}
 use Prim.Native.Nat.{ℕ, zero, suc, ◌+◌, ◌*◌, ◌/◌, ◌%◌, ◌≤◌, ◌<◌}
 use native.Mathlib.Omega.{arith}
 use lib.ListN.{length, take, drop, length-take, length-drop}
@@ -19,15 +21,18 @@ use Rattle.trace.specs.Bytes.{AreBytes}
 use Rattle.trace.specs.Blocks.{part_at}
 use Rattle.trace.specs.Changed.{ChangedAt}
 use Rattle.trace.specs.Place.{start, good_place}
-use Rattle.trace.specs.Judged.{BlockOutcome, Read, a_configuration, some_cycles, the_end, no_more, accepted, refused, read_of}
+use Rattle.trace.specs.declared.judging.Answer.{Answer}
+use Rattle.trace.specs.declared.judging.Found.{Found}
+use Rattle.base.specs.declared.refusal.Refusal.{Refusal}
+use Rattle.trace.specs.declared.judging.Found.TheVariants as found
+use Rattle.trace.specs.Judged.{accepted, refused, read_of}
 use Rattle.trace.specs.Judged.{next_place, taken, judged}
 use Rattle.trace.proofs.Exactness.{accepted_taken}
 use Rattle.trace.proofs.Findings.{FoundAs, refuses, configures, holds, ends, is_over, found_as}
 use Rattle.trace.proofs.Order.{judged_unsound, judged_follows}
 use Rattle.trace.proofs.OneByte as block
 use Rattle.listing.specs.Lines.{refusal, text, cycle_lines}
-use Rattle.rules.specs.declared.Verdict.{Verdict}
-use Rattle.rules.specs.declared.Verdict.TheVariants.{Accepted, Refused}
+use Rattle.base.specs.Refusal.{Verdict}
 use Rattle.rules.specs.Step.{step_of}
 use Rattle.router.proofs.Going.{piece_bytes}
 use Rattle.night.specs.File.{Ending, finishes, Printed, ends_at, after, cycle_then, cycles_then, block_then, file_from, cut_into}
@@ -59,38 +64,38 @@ module _ (f g h : Router → Printed) (rest : (s : Router) → (f s).ending ≡ 
           → cycles_then g b (k + 1) n (step_of s (part_at b k)).router ≡ then_wrong (cycles_then h b (k + 1) n (step_of s (part_at b k)).router))
           → cycle_then v (step_of s (part_at b k)) s (cycles_then g b (k + 1) n)
           ≡ then_wrong (cycle_then v (step_of s (part_at b k)) s (cycles_then h b (k + 1) n))
-      go Accepted d more = ap (after (cycle_lines s.cycle (step_of s (part_at b k)).reply)) (more d)
-      go (Refused r) d more = absurd (not_whole d)
+      go (Ok _) d more = ap (after (cycle_lines s.cycle (step_of s (part_at b k)).reply)) (more d)
+      go (Err r) d more = absurd (not_whole d)
 
 -- whether what was read is not the end of the input after the end block
-abbrev is_more : Option Read → Bool
-is_more none = true
-is_more (some (a_configuration c)) = true
-is_more (some (some_cycles n)) = true
-is_more (some the_end) = true
-is_more (some no_more) = false
+abbrev is_more : Result Found Refusal → Bool
+is_more (Err r) = true
+is_more (Ok (found.Configuration c)) = true
+is_more (Ok (found.Cycles n)) = true
+is_more (Ok found.End) = true
+is_more (Ok found.Done) = false
 
 module _ (f g h : Place → Router → Printed) (rest : (p : Place) (s : Router) → (f p s).ending ≡ finishes → g p s ≡ then_wrong (h p s)) where
-  block_before : (r : Option Read) (o : BlockOutcome) (b : List ℕ) (s : Router) → is_more r ≡ true
-      → (block_then r o b s f).ending ≡ finishes → block_then r o b s g ≡ then_wrong (block_then r o b s h)
-  block_before none o b s more e = absurd (not_whole e)
-  block_before (some (a_configuration c)) o b s more e = rest o.place (fresh_router c) e
-  block_before (some (some_cycles n)) o b s more e = cycles_before (f o.place) (g o.place) (h o.place) (rest o.place) b n 0 s e
-  block_before (some the_end) o b s more e = rest o.place s e
-  block_before (some no_more) o b s more e = absurd (true≢false (sym more))
+  block_before : (r : Result Found Refusal) (q : Place) (b : List ℕ) (s : Router) → is_more r ≡ true
+      → (block_then r q b s f).ending ≡ finishes → block_then r q b s g ≡ then_wrong (block_then r q b s h)
+  block_before (Err r) q b s more e = absurd (not_whole e)
+  block_before (Ok (found.Configuration c)) q b s more e = rest q (fresh_router c) e
+  block_before (Ok (found.Cycles n)) q b s more e = cycles_before (f q) (g q) (h q) (rest q) b n 0 s e
+  block_before (Ok found.End) q b s more e = rest q s e
+  block_before (Ok found.Done) q b s more e = absurd (true≢false (sym more))
 
 -- ---- a block of a file whose list ends in E
 
 module _ (b : List ℕ) (p : Place) (s : Router) (rest : Place → Router → Printed)
-    (whole : (block_then (judged p s.cycle b).read (judged p s.cycle b) b s rest).ending ≡ finishes) where
-  abbrev is : BlockOutcome
+    (whole : (block_then (judged p s.cycle b).found (judged p s.cycle b).place b s rest).ending ≡ finishes) where
+  abbrev is : Answer
   is = judged p s.cycle b
 
   -- it is accepted
-  taken_there : is.number ≡ numbers.done
+  taken_there : number_of is.found ≡ numbers.done
   taken_there = go is (found_as p s.cycle b) whole
     where
-      go : (o : BlockOutcome) → FoundAs p s.cycle b o → (block_then o.read o b s rest).ending ≡ finishes → o.number ≡ numbers.done
+      go : (o : Answer) → FoundAs p s.cycle b o → (block_then o.found o.place b s rest).ending ≡ finishes → (number_of o.found) ≡ numbers.done
       go _ (refuses n k) e = absurd (not_whole e)
       go _ (configures _ _ _) e = refl
       go _ (holds _ _ _ _) e = refl
@@ -101,27 +106,27 @@ module _ (b : List ℕ) (p : Place) (s : Router) (rest : Place → Router → Pr
   before_end : 1 ≤ length b → p.ended ≡ false
   before_end long = go p.ended refl (good_place p s.cycle) refl
     where
-      off : (n : ℕ) → is.number ≡ n → (n ≡ 0 → ⊥) → ⊥
+      off : (n : ℕ) → number_of is.found ≡ n → (n ≡ 0 → ⊥) → ⊥
       off n e other = other (sym e ∙ taken_there)
 
       go : (d : Bool) → p.ended ≡ d → (g : Bool) → good_place p s.cycle ≡ g → d ≡ false
       go false d g q = refl
       go true d true q =
-          absurd (off 8 (ap (λ (o : BlockOutcome). o.number) (judged_follows p s.cycle b q d long)) (λ z. absurd (omega arith)))
+          absurd (off 8 (ap (λ (o : Answer). (number_of o.found)) (judged_follows p s.cycle b q d long)) (λ z. absurd (omega arith)))
       go true d false q =
-          absurd (off 2 (ap (λ (o : BlockOutcome). o.number) (judged_unsound p s.cycle b q)) (λ z. absurd (omega arith)))
+          absurd (off 2 (ap (λ (o : Answer). (number_of o.found)) (judged_unsound p s.cycle b q)) (λ z. absurd (omega arith)))
 
   -- so that the place moves on
   moves_on : 1 ≤ length b → is.place ≡ next_place p b
   unfolding taken
   moves_on long =
-      ap (λ (o : BlockOutcome). o.place) (accepted_taken p s.cycle b taken_there)
-      ∙ ap (λ (d : Bool). (cond d (accepted no_more p) (accepted (read_of b) (next_place p b))).place) (before_end long)
+      ap (λ (o : Answer). o.place) (accepted_taken p s.cycle b taken_there)
+      ∙ ap (λ (d : Bool). (cond d (accepted found.Done p) (accepted (read_of b) (next_place p b))).place) (before_end long)
 
-  goes_on : 1 ≤ length b → is_more is.read ≡ true
+  goes_on : 1 ≤ length b → is_more is.found ≡ true
   goes_on long = go is (found_as p s.cycle b) (ap (λ (q : Place). q.number) (moves_on long))
     where
-      go : (o : BlockOutcome) → FoundAs p s.cycle b o → o.place.number ≡ p.number + 1 → is_more o.read ≡ true
+      go : (o : Answer) → FoundAs p s.cycle b o → o.place.number ≡ p.number + 1 → is_more o.found ≡ true
       go _ (refuses n k) d = refl
       go _ (configures _ _ _) d = refl
       go _ (holds _ _ _ _) d = refl
@@ -131,7 +136,7 @@ module _ (b : List ℕ) (p : Place) (s : Router) (rest : Place → Router → Pr
 -- the block in which a byte is changed is refused with 7
 module _ (x y : List ℕ) (r : ℕ) (xs : AreBytes x) (ys : AreBytes y) (change : ChangedAt r x y) (long : length y ≡ length x)
     (p : Place) (s : Router) (rest other : Place → Router → Printed)
-    (whole : (block_then (judged p s.cycle x).read (judged p s.cycle x) x s rest).ending ≡ finishes) (some_bytes : 1 ≤ length x) where
+    (whole : (block_then (judged p s.cycle x).found (judged p s.cycle x).place x s rest).ending ≡ finishes) (some_bytes : 1 ≤ length x) where
   check_wrong-law : judged p s.cycle y ≡ refused numbers.check_wrong 0 p
   check_wrong-law =
       let e = taken_there x p s rest whole in
@@ -142,8 +147,8 @@ module _ (x y : List ℕ) (r : ℕ) (xs : AreBytes x) (ys : AreBytes y) (change 
         not_check_wrong = λ q. absurd (omega arith);
       }) long
 
-  changed_block : block_then (judged p s.cycle y).read (judged p s.cycle y) y s other ≡ ends_at s (file.refuses numbers.check_wrong 0)
-  changed_block = ap (λ (o : BlockOutcome). block_then o.read o y s other) check_wrong-law
+  changed_block : block_then (judged p s.cycle y).found (judged p s.cycle y).place y s other ≡ ends_at s (file.refuses numbers.check_wrong 0)
+  changed_block = ap (λ (o : Answer). block_then o.found o.place y s other) check_wrong-law
 
 -- ---- block by block
 
@@ -185,7 +190,7 @@ first_same k x y c =
 
 -- a block, and then the blocks of the rest
 abbrev block_first : Place → Router → List ℕ → List ℕ → Printed
-block_first p s b rest = block_then (judged p s.cycle b).read (judged p s.cycle b) b s (file_from (blocks_of rest))
+block_first p s b rest = block_then (judged p s.cycle b).found (judged p s.cycle b).place b s (file_from (blocks_of rest))
 
 file_cut : (l : List ℕ) → 1 ≤ length l → (p : Place) (s : Router) → file_from (blocks_of l) p s ≡ block_first p s (take 512 l) (drop 512 l)
 unfolding file_from
@@ -224,7 +229,7 @@ module _ (x y : List ℕ) (xs : AreBytes x) (ys : AreBytes y) (p : Place) (s : R
       ∙ ap₂ (block_first p s) (take-take 512 (512 + n) x (omega arith)) (drop_before n x) in
       file_cut y some-y p s ∙ ap (λ (a : List ℕ). block_first p s a (drop 512 y)) (sym (first_same k x y c))
       ∙ block_before (file_from (blocks_of (drop 512 x))) (file_from (blocks_of (drop 512 y))) (file_from (blocks_of (take n (drop 512 x)))) rest
-      (judged p s.cycle b).read (judged p s.cycle b) b s
+      (judged p s.cycle b).found (judged p s.cycle b).place b s
       (goes_on b p s (file_from (blocks_of (drop 512 x))) there (omega (arith, length-take 512 x))) there
       ∙ sym (ap then_wrong before)
 

@@ -14,7 +14,8 @@ use Rattle.trace.specs.declared.place.Place.{Place}
 use Rattle.trace.specs.Bytes.{AreBytes}
 use Rattle.trace.specs.Place.{good_place}
 use Rattle.trace.specs.Rules.{place_unsound, block_short, check_wrong, bytes_follow, block_wrong, field_wrong}
-use Rattle.trace.specs.Judged.{no_more, accepted, refused, taken, judged_by_field, judged}
+use Rattle.trace.specs.declared.judging.Found.TheVariants as found
+use Rattle.trace.specs.Judged.{accepted, refused, taken, judged_by_field, judged}
 use Rattle.listing.proofs.Outcomes.{room_there}
 use Rattle.router.specs.Running.{Writing, block_taken, block_at, room_of_block, lacks_block_room, Call, takes, stops, going_on}
 use Rattle.router.proofs.Onward.{used_on}
@@ -32,21 +33,21 @@ block_room b at e = room_there room_of_block b at (ap not e)
 
 -- the end of the input is judged as an empty block: 9 before the end block, the E line after it
 pub end_judged : (p : Place) (c : ℕ) → good_place p c ≡ true → judged p c []
-    ≡ cond p.ended (accepted no_more p) (refused numbers.block_short 0 p)
+    ≡ cond p.ended (accepted found.Done p) (refused numbers.block_short 0 p)
 unfolding judged place_unsound block_short check_wrong bytes_follow block_wrong field_wrong judged_by_field taken
 end_judged p c g = go p.ended refl
   where
-    go : (b : Bool) → p.ended ≡ b → judged p c [] ≡ cond b (accepted no_more p) (refused numbers.block_short 0 p)
+    go : (b : Bool) → p.ended ≡ b → judged p c [] ≡ cond b (accepted found.Done p) (refused numbers.block_short 0 p)
     go true e = rw (g, e)
     go false e = rw (g, e)
 
 pub file_end : (p : Place) (s : Router) → good_place p s.cycle ≡ true
-    → file_from [] p s ≡ block_then (judged p s.cycle []).read (judged p s.cycle []) [] s (file_from [])
+    → file_from [] p s ≡ block_then (judged p s.cycle []).found (judged p s.cycle []).place [] s (file_from [])
 unfolding file_from
 file_end p s g = rw (end_judged p s.cycle g) (go p.ended)
   where
     go : (b : Bool) → ends_at s (cond b finishes (refuses 9 0))
-        ≡ block_then (cond b (accepted no_more p) (refused 9 0 p)).read (cond b (accepted no_more p) (refused 9 0 p)) [] s (file_from [])
+        ≡ block_then (cond b (accepted found.Done p) (refused 9 0 p)).found (cond b (accepted found.Done p) (refused 9 0 p)).place [] s (file_from [])
     go true = refl
     go false = refl
 

@@ -1,5 +1,6 @@
 -- The cycles of a block, one after another: where the run stands when all are accepted, and where it stops at one that is refused.
 -- Assumes nothing.
+use Rattle.std.specs.Prelude.{Ok, Err}
 use mathlib.Core.Path.{◌≡◌, refl, sym, ap, ap₂, subst, ◌∙◌}
 use mathlib.Core.Bool.{Bool, true, false, cond}
 use mathlib.Core.List.{List}
@@ -13,9 +14,8 @@ use Rattle.trace.specs.Bytes.{AreBytes}
 use Rattle.trace.specs.declared.place.Place.{Place}
 use Rattle.trace.specs.Blocks.{cycle_length, cycle_start, part_at}
 use Rattle.listing.specs.Lines.{cycle_lines, flit_lines}
-use Rattle.rules.specs.declared.Refusal.{Refusal}
-use Rattle.rules.specs.declared.Verdict.{Verdict}
-use Rattle.rules.specs.declared.Verdict.TheVariants.{Accepted, Refused}
+use Rattle.base.specs.declared.refusal.Refusal.{Refusal}
+use Rattle.base.specs.Refusal.{Verdict}
 use Rattle.rules.specs.declared.Stepped.{Stepped}
 use Rattle.rules.specs.Step.{step_of}
 use Rattle.rules.proofs.ChosenStep.{config_stays, cycle_steps}
@@ -35,7 +35,7 @@ pub record Stands (q : Place) (c : ℕ) (n : Run) : Type 0 where
 
 -- one accepted cycle
 module _ (q : Place) (c : ℕ) (n : Run) (part : List ℕ) (bytes : AreBytes part) (at : Stands q c n)
-    (e : (step_of n.router part).verdict ≡ Accepted) where
+    (e : (step_of n.router part).verdict ≡ Ok tt) where
   abbrev s : Router
   s = n.router
 
@@ -63,13 +63,13 @@ module _ (q : Place) (c : ℕ) (n : Run) (part : List ℕ) (bytes : AreBytes par
 
 -- the run after a cycle
 module _ (part : List ℕ) (w : Writing) where
-  cycled_on : (e : (step_of w.run.router part).verdict ≡ Accepted) (q : Place) (c : ℕ) (bytes : AreBytes part)
+  cycled_on : (e : (step_of w.run.router part).verdict ≡ Ok tt) (q : Place) (c : ℕ) (bytes : AreBytes part)
       (at : Stands q c w.run)
       → (cycled part w).run ≡ next q c w.run part bytes at e
   unfolding cycled wrote
   cycled_on e q c bytes at = ap (λ (v : Verdict). (by_verdict v (step_of w.run.router part) w).run) e
 
-  cycled_off : (r : Refusal) → (step_of w.run.router part).verdict ≡ Refused r → (cycled part w).run ≡ finished w.run
+  cycled_off : (r : Refusal) → (step_of w.run.router part).verdict ≡ Err r → (cycled part w).run ≡ finished w.run
   unfolding cycled wrote ended_by
   cycled_off r e = ap (λ (v : Verdict). (by_verdict v (step_of w.run.router part) w).run) e
 
@@ -94,14 +94,14 @@ module _ (block : List ℕ) (bytes : AreBytes block) (q : Place) (c : ℕ) where
         → (later.run.over ≡ false → Stands q (c + (k + 1)) later.run
         → Ran q c (k + 1 + n) (cycles_from block (k + 1) n later).run)
         → Ran q c (k + suc n) (cycles_from block (k + 1) n later).run
-    one_ran Accepted e rest =
+    one_ran (Ok _) e rest =
         let is = cycled_on part w e q (c + k) part_bytes s in
         subst (λ (m : ℕ). Ran q c m (cycles_from block (k + 1) n later).run) (omega arith)
         (rest (ap (λ (m : Run). m.over) is ∙ o)
         (subst (λ (m : Run). Stands q (c + (k + 1)) m) (sym is)
         (subst (λ (m : ℕ). Stands q m (next q (c + k) w.run part part_bytes s e)) (omega arith)
         (accepted_stands q (c + k) w.run part part_bytes s e))))
-    one_ran (Refused r) e rest =
+    one_ran (Err r) e rest =
         let is = cycled_off part w r e in
         subst (λ (v : Writing). Ran q c (k + suc n) v.run) (sym (cycles_over block (k + 1) n later (ap (λ (m : Run). m.over) is)))
         (subst (Ran q c (k + suc n)) (sym is) (stopped k (omega arith) refl

@@ -16,10 +16,11 @@ use Rattle.trace.specs.Bytes.{AreBytes}
 use Rattle.trace.specs.Blocks.{held_of}
 use Rattle.trace.specs.Place.{good_place}
 use Rattle.trace.specs.Rules.{place_unsound, block_short, check_wrong, bytes_follow, block_wrong, field_wrong}
-use Rattle.trace.specs.Judged.{BlockOutcome, next_place, taken, judged_by_field, judged}
+use Rattle.trace.specs.declared.judging.Answer.{Answer}
+use Rattle.trace.specs.Judged.{next_place, taken, judged_by_field, judged}
 use Rattle.trace.proofs.Findings.{FoundAs, refuses, configures, holds, ends, is_over, found_as}
 use Rattle.runs.proofs.Places.{between_is, right_between}
-use Rattle.router.specs.Running.{Writing, wrote, on_run, with_place, ended_by, by_outcome, block_taken, block_at, lacks_block_room, Call}
+use Rattle.router.specs.Running.{Writing, wrote, on_run, with_place, ended_by, by_found, block_taken, block_at, lacks_block_room, Call}
 use Rattle.router.specs.Running.{takes, stops, going_on}
 use Rattle.router.proofs.Going.{piece_bytes}
 use Rattle.router.proofs.Onward.{goes_over}
@@ -48,8 +49,8 @@ module _ (block : List ℕ) (w : Writing) where
   unfolding block_taken ended_by wrote
   block_counts o going = go (judged p c block) (found_as p c block) o
     where
-      go : (r : BlockOutcome) → FoundAs p c block r → (by_outcome r.read r block w).run.over ≡ false
-          → (by_outcome r.read r block w).run.place.number ≡ p.number + 1
+      go : (r : Answer) → FoundAs p c block r → (by_found r.found r.place block w).run.over ≡ false
+          → (by_found r.found r.place block w).run.place.number ≡ p.number + 1
       go _ (refuses n k) e = absurd (true≢false e)
       go _ (configures a b _) e = refl
       go _ (holds a l h _) e =

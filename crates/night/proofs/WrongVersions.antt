@@ -1,9 +1,10 @@
 -- What each edit under must-fail makes of its definition, kept alone under a wrong name, and by value an argument where the two differ.
 -- Assumes nothing.
+use Rattle.std.specs.Prelude.{Result}
+use Rattle.std.specs.Prelude.{Ok, Err}
 use mathlib.Core.Path.{refl, ap}
 use mathlib.Core.Bool.{true, false, cond, xor}
 use mathlib.Core.List.{List, [], ◌∷◌, ◌++◌}
-use mathlib.Core.Option.{Option, some, none}
 use Prim.Native.Nat.{ℕ, ◌+◌}
 use lib.Dec.{eqb}
 use lib.ListN.{length, set, replicate, take}
@@ -28,17 +29,19 @@ use Rattle.trace.specs.declared.place.Place.{Place}
 use Rattle.trace.specs.Bytes.{big_endian, zeros}
 use Rattle.trace.specs.Place.{can_hold, good_place}
 use Rattle.trace.specs.Rules.{place_unsound, bytes_follow, block_short, check_wrong, block_wrong, field_wrong}
-use Rattle.trace.specs.Judged.{Read, a_configuration, some_cycles, the_end, no_more, BlockOutcome, accepted, taken, judged_by_field}
+use Rattle.trace.specs.declared.judging.Found.{Found}
+use Rattle.base.specs.declared.refusal.Refusal.{Refusal}
+use Rattle.trace.specs.declared.judging.Found.TheVariants as found
+use Rattle.trace.specs.Judged.{accepted, taken, judged_by_field}
 use Rattle.trace.specs.Judged as trace
 use Rattle.listing.specs.Lines.{Line, credit, flit, finish, refusal, by_port, credit_line, flit_line, cycle_lines, flit_lines}
-use Rattle.rules.specs.declared.Verdict.{Verdict}
-use Rattle.rules.specs.declared.Verdict.TheVariants.{Accepted, Refused}
+use Rattle.base.specs.Refusal.{Verdict}
 use Rattle.rules.specs.declared.Stepped.{Stepped}
 use Rattle.rules.specs.Ports.{over_ports}
 use Rattle.rules.specs.Rows.{row_zero, no_offer, legal_offer, row_legal}
 use Rattle.rules.specs.Intake.{advanced, senders_paid, reported, credits_reached, outputs_paid, credits_returned, landings, landed, offers}
 use Rattle.rules.specs.Intake.{offers_taken}
-use Rattle.rules.specs.Allocation.{asks, lowest_free_vc, grant_of, bindings, wide_moved, narrow_moved, allocated, is_ready, input_pick, request}
+use Rattle.rules.specs.Allocation.{asks, lowest_free_vc, grant_of, bindings, arbiters_moved, allocated, is_ready, input_pick, request}
 use Rattle.rules.specs.Allocation.{output_pick, switched, winner}
 use Rattle.rules.specs.Departures.{departures, leaving_of}
 use Rattle.rules.specs.Numbers.{run_full, part_wrong, row_wrong, credit_past_room, out_of_turn, no_sender_credit, first_of, judged}
@@ -58,27 +61,27 @@ wrong_flits_of_the_first_line_only p finishes = finish p.cycles (flit_lines (tak
 wrong_flits_of_the_first_line_only p (refuses n k) = refusal n p.cycles k
 
 -- of a block
-abbrev wrong_ends_before_the_input_does : Option Read → BlockOutcome → List ℕ → Router → (Place → Router → Printed) → Printed
-wrong_ends_before_the_input_does none o block s rest = ends_at s (refuses o.number o.field)
-wrong_ends_before_the_input_does (some (a_configuration c)) o block s rest = rest o.place (fresh_router c)
-wrong_ends_before_the_input_does (some (some_cycles n)) o block s rest = cycles_then (rest o.place) block 0 n s
-wrong_ends_before_the_input_does (some the_end) o block s rest = ends_at s finishes
-wrong_ends_before_the_input_does (some no_more) o block s rest = ends_at s finishes
+abbrev wrong_ends_before_the_input_does : Result Found Refusal → Place → List ℕ → Router → (Place → Router → Printed) → Printed
+wrong_ends_before_the_input_does (Err r) q block s rest = ends_at s (refuses r.number r.place)
+wrong_ends_before_the_input_does (Ok (found.Configuration c)) q block s rest = rest q (fresh_router c)
+wrong_ends_before_the_input_does (Ok (found.Cycles n)) q block s rest = cycles_then (rest q) block 0 n s
+wrong_ends_before_the_input_does (Ok found.End) q block s rest = ends_at s finishes
+wrong_ends_before_the_input_does (Ok found.Done) q block s rest = ends_at s finishes
 
 -- of a cycle
 abbrev wrong_goes_on_after_a_refusal : Verdict → Stepped → Router → (Router → Printed) → Printed
-wrong_goes_on_after_a_refusal Accepted x s rest = after (cycle_lines s.cycle x.reply) (rest x.router)
-wrong_goes_on_after_a_refusal (Refused r) x s rest = rest x.router
+wrong_goes_on_after_a_refusal (Ok _) x s rest = after (cycle_lines s.cycle x.reply) (rest x.router)
+wrong_goes_on_after_a_refusal (Err r) x s rest = rest x.router
 
 abbrev wrong_lines_of_a_cycle_twice : Verdict → Stepped → Router → (Router → Printed) → Printed
-wrong_lines_of_a_cycle_twice Accepted x s rest =
+wrong_lines_of_a_cycle_twice (Ok _) x s rest =
     after (cycle_lines s.cycle x.reply ++ cycle_lines s.cycle x.reply) (rest x.router)
-wrong_lines_of_a_cycle_twice (Refused r) x s rest = ends_at s (refuses r.number r.port)
+wrong_lines_of_a_cycle_twice (Err r) x s rest = ends_at s (refuses r.number r.place)
 
 abbrev wrong_works_in_cycle_0_and_only_counts_afterwards : Verdict → Stepped → Router → (Router → Printed) → Printed
-wrong_works_in_cycle_0_and_only_counts_afterwards Accepted x s rest =
+wrong_works_in_cycle_0_and_only_counts_afterwards (Ok _) x s rest =
     after (cycle_lines s.cycle x.reply) (rest (cond (eqb s.cycle 0) x.router (with_cycle (s.cycle + 1) s)))
-wrong_works_in_cycle_0_and_only_counts_afterwards (Refused r) x s rest = ends_at s (refuses r.number r.port)
+wrong_works_in_cycle_0_and_only_counts_afterwards (Err r) x s rest = ends_at s (refuses r.number r.place)
 
 -- BY VALUE.
 
@@ -107,9 +110,9 @@ abbrev one_more : Router → Printed
 one_more s = cycles_then ends (replicate 512 0) 0 1 s
 
 -- the end block of a file with one byte after it, by one version of `block_then`
-abbrev at_the_end : (Option Read → BlockOutcome → List ℕ → Router → (Place → Router → Printed) → Printed) → Printed
+abbrev at_the_end : (Result Found Refusal → Place → List ℕ → Router → (Place → Router → Printed) → Printed) → Printed
 at_the_end version =
-    version (some the_end) (accepted the_end (record { number = 2; configured = true; ended = true })) [] turns (file_from ((7 ∷ []) ∷ []))
+    version (Ok found.End) (record { number = 2; configured = true; ended = true }) [] turns (file_from ((7 ∷ []) ∷ []))
 
 abbrev flits_in : Line → ℕ
 flits_in (credit n i v) = 0
@@ -147,7 +150,7 @@ unfolding with_input with_home_place config turns unbound fresh_router xor first
     cycles_fit credits_whole credits_add_up legal_flit wire_place_legal wire_legal home_legal queues_legal output_credits_fit names_agree arbiters_sound
     reading reads packets_read channels_unused slots_empty line_unused arbiters_unused shaped sound front_of pushed moved_up popped big_endian
     over_ports row_zero no_offer legal_offer row_legal advanced senders_paid reported credits_reached outputs_paid credits_returned landings landed
-    offers offers_taken asks lowest_free_vc grant_of bindings wide_moved narrow_moved allocated is_ready input_pick request output_pick switched winner
+    offers offers_taken asks lowest_free_vc grant_of bindings arbiters_moved allocated is_ready input_pick request output_pick switched winner
     departures leaving_of run_full part_wrong row_wrong credit_past_room out_of_turn no_sender_credit first_of judged taken_in sent_out router_after
     reply_of step_of zeros can_hold good_place place_unsound bytes_follow block_short check_wrong block_wrong field_wrong taken judged_by_field trace.judged
     by_port credit_line flit_line cycle_lines flit_lines cycles_then file_from

@@ -1,7 +1,7 @@
 -- The list of a file (01, "Blocks", "Numbers given back" and "The list"): from a file's bytes to the list's bytes.
 -- Assumes nothing.
+use Rattle.std.specs.Prelude.{Result, Ok, Err}
 use Rattle.std.specs.Prelude.{cond, List, [], ◌∷◌, ◌++◌, ℕ, zero, suc, ◌+◌, length, take, drop}
-use Rattle.std.proofs.Math.Option.{Option, some, none}
 use Rattle.base.specs.Numbers.{block_short}
 use Rattle.base.specs.Sizes.{no_config}
 use Rattle.state.specs.declared.Router.{Router}
@@ -9,10 +9,12 @@ use Rattle.state.specs.Fresh.{fresh_router}
 use Rattle.trace.specs.declared.place.Place.{Place}
 use Rattle.trace.specs.Blocks.{block_length, part_at}
 use Rattle.trace.specs.Place.{start}
-use Rattle.trace.specs.Judged.{Read, a_configuration, some_cycles, the_end, no_more, BlockOutcome, judged}
+use Rattle.trace.specs.declared.judging.Found.{Found}
+use Rattle.base.specs.declared.refusal.Refusal.{Refusal}
+use Rattle.trace.specs.declared.judging.Found.TheVariants as found
+use Rattle.trace.specs.Judged.{judged}
 use Rattle.listing.specs.Lines.{Line, finish, refusal, text, cycle_lines, flit_lines}
-use Rattle.rules.specs.declared.Verdict.{Verdict}
-use Rattle.rules.specs.declared.Verdict.TheVariants.{Accepted, Refused}
+use Rattle.base.specs.Refusal.{Verdict}
 use Rattle.rules.specs.declared.Stepped.{Stepped}
 use Rattle.rules.specs.Step.{step_of}
 
@@ -36,8 +38,8 @@ after lines p = record { lines = lines ++ p.lines; cycles = p.cycles; ending = p
 
 -- "per accepted cycle, first `C ..`; then `F ..`"; a refused cycle ends the list
 abbrev pub cycle_then : Verdict → Stepped → Router → (Router → Printed) → Printed
-cycle_then Accepted x s rest = after (cycle_lines s.cycle x.reply) (rest x.router)
-cycle_then (Refused r) x s rest = ends_at s (refuses r.number r.port)
+cycle_then (Ok _) x s rest = after (cycle_lines s.cycle x.reply) (rest x.router)
+cycle_then (Err r) x s rest = ends_at s (refuses r.number r.place)
 
 -- n cycles of a block, from cycle k on, and then the rest
 unfoldable pub cycles_then : (Router → Printed) → List ℕ → ℕ → ℕ → Router → Printed
@@ -46,17 +48,17 @@ cycles_then rest block k (suc n) s =
     cycle_then (step_of s (part_at block k)).verdict (step_of s (part_at block k)) s (cycles_then rest block (k + 1) n)
 
 -- a block, by what it was judged to be, and then the rest of the file
-abbrev pub block_then : Option Read → BlockOutcome → List ℕ → Router → (Place → Router → Printed) → Printed
-block_then none o block s rest = ends_at s (refuses o.number o.field)
-block_then (some (a_configuration c)) o block s rest = rest o.place (fresh_router c)
-block_then (some (some_cycles n)) o block s rest = cycles_then (rest o.place) block 0 n s
-block_then (some the_end) o block s rest = rest o.place s
-block_then (some no_more) o block s rest = ends_at s finishes
+abbrev pub block_then : Result Found Refusal → Place → List ℕ → Router → (Place → Router → Printed) → Printed
+block_then (Err r) q block s rest = ends_at s (refuses r.number r.place)
+block_then (Ok (found.Configuration c)) q block s rest = rest q (fresh_router c)
+block_then (Ok (found.Cycles n)) q block s rest = cycles_then (rest q) block 0 n s
+block_then (Ok found.End) q block s rest = rest q s
+block_then (Ok found.Done) q block s rest = ends_at s finishes
 
 -- the blocks of a file from a place on; where they are at an end: "input ends before the end block" is 9
 unfoldable pub file_from : List (List ℕ) → Place → Router → Printed
 file_from [] p s = ends_at s (cond p.ended finishes (refuses block_short 0))
-file_from (block ∷ blocks) p s = block_then (judged p s.cycle block).read (judged p s.cycle block) block s (file_from blocks)
+file_from (block ∷ blocks) p s = block_then (judged p s.cycle block).found (judged p s.cycle block).place block s (file_from blocks)
 
 -- "512 bytes": at most n blocks of some bytes, the last perhaps shorter
 unfoldable pub cut_into : ℕ → List ℕ → List (List ℕ)

@@ -4,19 +4,18 @@
 
 mod messages;
 
-use floor::Ended;
+use floor::Unlisted;
 
 fn main(rt: HostRuntime) {
     let mut buf = io::large_buffer();
     let mut out = io::large_buffer();
     let listed = floor::list(&mut rt.stdin(), &mut buf, &mut out, &rt.stdout());
-    let ended = listed.ended;
-    match ended {
-        Ended::Over => {}
-        Ended::Unread => {
+    match listed.outcome {
+        Ok(()) => {}
+        Err(Unlisted::Unread) => {
             messages::read_failed(&rt.stderr());
         }
-        Ended::Stopped(_) => {
+        Err(Unlisted::Stopped(_)) => {
             messages::write_failed(&rt.stderr());
         }
     }

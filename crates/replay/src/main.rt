@@ -3,16 +3,15 @@
 // standard output one after another. Traces and lists are the second model's (docs/FORMATS.md says how they are made).
 #![tactic(auto)]
 
-use floor::Stop;
 use runs::Run;
 use std::io::{Print, Read};
 
 // A part's length, from the two bytes before it.
 fn length(high: u8, low: u8) -> usize {
-    256 * (high as usize) + (low as usize)
+    usize::from(u16::from_be_bytes([high, low]))
 }
 
-// A proved loop has to end, so the parts are counted down.
+// A proved loop has to end, so there are at most so many parts.
 fn replay<R: Read, P: Print>(
     from: &mut R,
     head: &mut [u8],
@@ -21,31 +20,23 @@ fn replay<R: Read, P: Print>(
     to: &P,
 ) {
     let mut run = Run::start();
-    let mut parts = u64::MAX;
-    while 0 < parts {
-        parts -= 1;
-        let before = floor::fill(from, head);
-        if before.bytes < 2 {
+    'each: for _ in 0..u64::MAX {
+        let Ok(2) = floor::fill(from, head) else {
             return;
-        }
+        };
         let bytes = length(head[0], head[1]);
         if buf.len() < bytes {
             return;
         }
-        let filled = floor::fill(from, &mut buf[0..bytes]);
-        if filled.bytes < bytes {
+        let part = &mut buf[0..bytes];
+        if floor::fill(from, part) != Ok(bytes) {
             return;
         }
-        let passed = floor::pass(run, &buf[0..bytes], out, to);
-        let stop = passed.stop;
-        let Stop::Whole = stop else {
+        let passed = floor::pass(run, part, out, to);
+        if passed.outcome.is_err() {
             return;
-        };
-        if bytes == 0 {
-            run = Run::start();
-            continue;
         }
-        run = passed.run;
+        run = if bytes == 0 { Run::start() } else { passed.run };
     }
 }
 

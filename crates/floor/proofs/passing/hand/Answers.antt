@@ -36,11 +36,11 @@ short g c = search rules
 -- it is the part that is handed over
 passed : (g : Over) (c : After-pass-passed g) → Passes (piece g (goal.at.After-pass-passed g c).Else-not-holds_blocks)
     (record { run = c.args.run; buffer = c.args.out.now })
-    c.pass-passed.result.calls c.pass-passed.result.stop (record { run = c.pass-passed.result.run; buffer = c.pass-passed.new.out })
+    c.pass-passed.result.calls c.pass-passed.result.outcome (record { run = c.pass-passed.result.run; buffer = c.pass-passed.new.out })
 passed g c =
     let e : c.args.bytes - 0 ≡ c.args.bytes = omega arith in
     subst (λ (n : ℕ). Passes (take n c.args.buf.now) (record { run = c.args.run; buffer = c.args.out.now })
-    c.pass-passed.result.calls c.pass-passed.result.stop (record { run = c.pass-passed.result.run; buffer = c.pass-passed.new.out })) e
+    c.pass-passed.result.calls c.pass-passed.result.outcome (record { run = c.pass-passed.result.run; buffer = c.pass-passed.new.out })) e
     c.pass-passed.ensures
 
 pub returns-then-buf-bytes : goal.returns-then-buf-bytes
