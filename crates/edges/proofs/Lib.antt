@@ -1,6 +1,4 @@
-pub mod Telling
-pub mod Variants
-pub mod Structs
+pub mod Same
 pub mod Unsound
 pub mod Refusals
 pub mod Depths

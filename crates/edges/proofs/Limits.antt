@@ -1,9 +1,10 @@
 -- The end of a run, parts of a wrong length, and offers that are refused, by value.
 -- Assumes nothing.
+use Rattle.std.specs.Prelude.{Ok}
 use mathlib.Core.Path.{◌≡◌, refl, sym, ap, ◌∙◌}
 use mathlib.Core.Bool.{true, false, not, xor}
 use mathlib.Core.List.{List}
-use mathlib.Core.Option.{some}
+use Rattle.std.specs.Prelude.{Some}
 use Prim.Native.Nat.{ℕ}
 use native.Mathlib.Omega.{arith}
 use lib.Dec.{eqb}
@@ -29,15 +30,15 @@ use Rattle.state.proofs.SoundStates.{held, head, single, body, on}
 use Rattle.trace.specs.Bytes.{big_endian}
 use Rattle.state.specs.Setters.{with_cycle}
 use Rattle.rules.specs.declared.Stepped.{Stepped}
-use Rattle.rules.specs.declared.Verdict.TheVariants.{Accepted}
 use Rattle.rules.specs.Ports.{over_ports}
 use Rattle.rules.specs.Rows.{row_zero, no_offer, legal_offer, row_legal}
 use Rattle.rules.specs.Intake.{advanced, senders_paid, reported, credits_reached, outputs_paid, credits_returned, landings, landed, offers}
 use Rattle.rules.specs.Intake.{offers_taken}
-use Rattle.rules.specs.Allocation.{asks, lowest_free_vc, grant_of, bindings, wide_moved, narrow_moved, allocated, is_ready, input_pick, request}
+use Rattle.rules.specs.Allocation.{asks, lowest_free_vc, grant_of, bindings, arbiters_moved, allocated, is_ready, input_pick, request}
 use Rattle.rules.specs.Allocation.{output_pick, switched, winner}
 use Rattle.rules.specs.Departures.{departures, leaving_of}
-use Rattle.rules.specs.Numbers.{refusing, run_full, part_wrong, row_wrong, rule3, credit_past_room, out_of_turn, no_sender_credit, first_of}
+use Rattle.base.specs.Refusal.{refusing}
+use Rattle.rules.specs.Numbers.{run_full, part_wrong, row_wrong, rule3, credit_past_room, out_of_turn, no_sender_credit, first_of}
 use Rattle.rules.specs.Numbers.{judged}
 use Rattle.rules.specs.Step.{taken_in, sent_out, router_after, reply_of, step_of}
 use Rattle.rules.proofs.FirstRule.{also, done, found}
@@ -49,22 +50,22 @@ idle = replicate 64 0
 
 -- the last cycle of a run
 pub last_accepted : step_of (with_cycle 999999999 turns) idle ≡ record
-    { verdict = Accepted; router = with_cycle 1000000000 turns; reply = empty_reply }
+    { verdict = Ok tt; router = with_cycle 1000000000 turns; reply = empty_reply }
 unfolding config turns xor first_from every or_else in_range first_illegal illegal_field flit_of kind_of destination_of payload_of starts_kind
     ends_kind next_in_turn pointer_after blank_from arbiter.known arbiter.usable arbiter.choice arbiter.moved arbiter.after arbiter.fresh
     arbiter.sound queue_at places wire_of home_of flat total is_none all configuration_legal cycles_fit credits_whole credits_add_up legal_flit
     wire_place_legal wire_legal home_legal queues_legal output_credits_fit names_agree arbiters_sound reading reads packets_read channels_unused
     slots_empty line_unused arbiters_unused shaped sound front_of pushed moved_up popped big_endian over_ports row_zero no_offer legal_offer
     row_legal advanced senders_paid reported credits_reached outputs_paid credits_returned landings landed offers offers_taken asks lowest_free_vc
-    grant_of bindings wide_moved narrow_moved allocated is_ready input_pick request output_pick switched winner departures leaving_of run_full
+    grant_of bindings arbiters_moved allocated is_ready input_pick request output_pick switched winner departures leaving_of run_full
     part_wrong row_wrong credit_past_room out_of_turn no_sender_credit first_of judged taken_in sent_out router_after reply_of step_of fresh_router
 last_accepted = refl
 
 module _ (t : Router) (e : t ≡ turns) (x : Stepped) (f : x ≡ step_of (with_cycle 999999999 t) idle) where
-  last_is : x ≡ record { verdict = Accepted; router = with_cycle 1000000000 turns; reply = empty_reply }
+  last_is : x ≡ record { verdict = Ok tt; router = with_cycle 1000000000 turns; reply = empty_reply }
   last_is = f ∙ ap (λ (s : Router). step_of (with_cycle 999999999 s) idle) e ∙ last_accepted
 
-  pub last_verdict : x.verdict ≡ Accepted
+  pub last_verdict : x.verdict ≡ Ok tt
   last_verdict = ap (λ (y : Stepped). y.verdict) last_is
 
   pub last_router : (r : Router) → r ≡ turns → x.router ≡ with_cycle 1000000000 r
@@ -114,7 +115,7 @@ length_refused s e part h = (part_exactly s part (eqb-false (length part) 64 h) 
 
 -- 3 with port p where row p is the first that is wrong
 row_refused : (s : Router) → s ≡ busy → (part : List ℕ) → length part ≡ 64 → (p : ℕ)
-    → first_from (row_wrong busy.config part) 8 0 ≡ some p → (step_of s part).verdict ≡ refusing numbers.row_wrong p
+    → first_from (row_wrong busy.config part) 8 0 ≡ Some p → (step_of s part).verdict ≡ refusing numbers.row_wrong p
 row_refused s e part long p f =
     (row_exactly s part long p).1
     (busy_passes s e part, found (rule3 s.config part) p (ap (λ (x : Router). first_from (row_wrong x.config part) 8 0) e ∙ f))

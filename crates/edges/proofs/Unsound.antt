@@ -19,10 +19,10 @@ use Rattle.state.specs.Sound.{is_none, all, configuration_legal, cycles_fit, cre
 use Rattle.state.specs.Sound.{wire_legal, home_legal, queues_legal, output_credits_fit, names_agree, arbiters_sound, reading, reads}
 use Rattle.state.specs.Sound.{packets_read, channels_unused, slots_empty, line_unused, arbiters_unused, shaped, sound}
 use Rattle.state.proofs.SoundStates.{with_input, with_output, with_slot, with_wire_place, with_home_place, with_vc_arbiter}
-use Rattle.state.proofs.SoundStates.{with_input_arbiter, config, turns, unbound, held, single, on, pointer_wide, pointer_narrow}
+use Rattle.state.proofs.SoundStates.{with_input_arbiter, config, turns, unbound, held, single, on, pointer_at}
 use Rattle.state.specs.Sound.{the_configuration, the_cycles, the_wire, the_home, the_wire_rest, the_home_rest, the_shape, the_credits}
 use Rattle.state.specs.Sound.{the_queues, the_output_credits, the_channels, the_slots, the_names, the_packets, the_arbiters, the_other_arbiters}
-use Rattle.rules.specs.Numbers.{refusing}
+use Rattle.base.specs.Refusal.{refusing}
 use Rattle.rules.specs.Step.{step_of}
 use Rattle.rules.proofs.Exactness.{two_exactly}
 use Rattle.edges.specs.States.{broken}
@@ -30,7 +30,7 @@ use Rattle.edges.specs.States.{broken}
 -- each router that breaks a clause is not sound, by value
 pub unsound : (k : Clause) → sound (broken k) ≡ false
 unfolding every xor all sound with_input with_output with_slot with_wire_place with_home_place with_vc_arbiter with_input_arbiter config turns
-    unbound held single on pointer_wide pointer_narrow configuration_legal is_none illegal_field first_illegal in_range cycles_fit credits_add_up
+    unbound held single on pointer_at configuration_legal is_none illegal_field first_illegal in_range cycles_fit credits_add_up
     credits_whole legal_flit wire_place_legal wire_legal home_legal queues_legal output_credits_fit names_agree arbiters_sound reading reads
     packets_read channels_unused slots_empty line_unused arbiters_unused shaped fresh_router queue_at wire_of home_of places flat total flit_of
     kind_of destination_of starts_kind ends_kind bit word_of with_bit arbiter.sound arbiter.known arbiter.fresh list_of blank_from

@@ -1,3 +1,2 @@
-pub mod Same
 pub mod States
 pub mod Answers

@@ -11,7 +11,7 @@ use Rattle.state.specs.Sound.{the_queues, the_output_credits, the_channels, the_
 use Rattle.state.specs.Sound.{the_other_arbiters}
 use Rattle.state.proofs.SoundStates.{with_input, with_output, with_slot, with_wire_place, with_home_place, with_vc_arbiter}
 use Rattle.state.proofs.SoundStates.{with_input_arbiter}
-use Rattle.state.proofs.SoundStates.{config, turns, unbound, bound, held, head, single, body, on, pointer_wide, pointer_narrow}
+use Rattle.state.proofs.SoundStates.{config, turns, unbound, bound, held, head, single, body, on, pointer_at}
 
 -- for each clause of soundness a router that breaks this clause alone
 abbrev pub broken : Clause → Router
@@ -29,8 +29,8 @@ broken the_channels = with_output 4 (fresh_output 1) turns
 broken the_slots = with_slot 511 1 turns
 broken the_names = with_output 2 (held 0 0 2) turns
 broken the_packets = with_input 0 (unbound 3 true 0) turns
-broken the_arbiters = with_vc_arbiter 0 (pointer_wide 4) turns
-broken the_other_arbiters = with_input_arbiter 2 (pointer_narrow 1) turns
+broken the_arbiters = with_vc_arbiter 0 (pointer_at 32 4) turns
+broken the_other_arbiters = with_input_arbiter 2 (pointer_at 8 1) turns
 
 -- a router in which each phase has something to do: a packet that is bound, with its head and two bodies queued, a flit that lands, and a
 -- credit that reaches its sender

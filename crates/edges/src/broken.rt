@@ -9,9 +9,10 @@ ghost use Rattle.edges.specs.States.{broken};
 use crate::building::{SINGLE_TO_1, config, output, turns, unbound};
 use crate::refusing;
 use base::NOT_SOUND;
-use state::{Holder, InVc, Router};
+use state::{InVc, Router};
 
 // E 17
+#[tactic(auto, unfolding(state::proofs::SoundStates::config))]
 fn configuration() -> Router
     ensures { result ≡ broken the_configuration }
 {
@@ -31,6 +32,7 @@ fn cycles() -> Router
 }
 
 // a wire place on a VC that there is not
+#[tactic(auto, unfolding(state::proofs::SoundStates::with_wire_place, state::proofs::SoundStates::on, state::proofs::SoundStates::single, base::specs::Flit::flit_of))]
 fn wire() -> Router
     ensures { result ≡ broken the_wire }
 {
@@ -40,6 +42,7 @@ fn wire() -> Router
 }
 
 // a home place of a VC that there is not
+#[tactic(auto, unfolding(state::proofs::SoundStates::with_home_place))]
 fn home() -> Router
     ensures { result ≡ broken the_home }
 {
@@ -49,6 +52,7 @@ fn home() -> Router
 }
 
 // the wire's stage at F
+#[tactic(auto, unfolding(state::proofs::SoundStates::with_wire_place, state::proofs::SoundStates::on, state::proofs::SoundStates::single, base::specs::Flit::flit_of))]
 fn wire_rest() -> Router
     ensures { result ≡ broken the_wire_rest }
 {
@@ -58,6 +62,7 @@ fn wire_rest() -> Router
 }
 
 // the home line at port P
+#[tactic(auto, unfolding(state::proofs::SoundStates::with_home_place))]
 fn home_rest() -> Router
     ensures { result ≡ broken the_home_rest }
 {
@@ -67,6 +72,7 @@ fn home_rest() -> Router
 }
 
 // one credit less than D
+#[tactic(auto, unfolding(state::proofs::SoundStates::with_input))]
 fn credits() -> Router
     ensures { result ≡ broken the_credits }
 {
@@ -76,6 +82,7 @@ fn credits() -> Router
 }
 
 // queued to a port that there is not
+#[tactic(auto, unfolding(state::proofs::SoundStates::with_input, state::proofs::SoundStates::with_slot, state::proofs::SoundStates::single, base::specs::Flit::flit_of))]
 fn queues() -> Router
     ensures { result ≡ broken the_queues }
 {
@@ -86,6 +93,7 @@ fn queues() -> Router
 }
 
 // an output credit above E
+#[tactic(auto, unfolding(state::proofs::SoundStates::with_output))]
 fn output_credits() -> Router
     ensures { result ≡ broken the_output_credits }
 {
@@ -95,6 +103,7 @@ fn output_credits() -> Router
 }
 
 // a credit of a channel beyond P and V
+#[tactic(auto, unfolding(state::proofs::SoundStates::with_output))]
 fn channels() -> Router
     ensures { result ≡ broken the_channels }
 {
@@ -104,6 +113,7 @@ fn channels() -> Router
 }
 
 // a slot of a channel that there is not
+#[tactic(auto, unfolding(state::proofs::SoundStates::with_slot))]
 fn slots() -> Router
     ensures { result ≡ broken the_slots }
 {
@@ -113,16 +123,18 @@ fn slots() -> Router
 }
 
 // held and not bound
+#[tactic(auto, unfolding(state::proofs::SoundStates::with_output, state::proofs::SoundStates::held))]
 fn names() -> Router
     ensures { result ≡ broken the_names }
 {
     let mut router = turns();
     let free = output(2);
-    router.outputs[2] = free.with_holder(Holder::Held(InVc { input: 0, vc: 0 }));
+    router.outputs[2] = free.with_holder(Some(InVc { input: 0, vc: 0 }));
     router
 }
 
 // a packet open that nothing has begun
+#[tactic(auto, unfolding(state::proofs::SoundStates::with_input))]
 fn packets() -> Router
     ensures { result ≡ broken the_packets }
 {
@@ -159,6 +171,7 @@ fn other_arbiters() -> Router
     router
 }
 
+#[tactic(auto, using(crate::proofs::Unsound::refused_unsound))]
 fn refuse(router: Router)
     requires { sound router ≡ false }
 {

@@ -6,7 +6,7 @@ ghost use Rattle.state.proofs.SoundStates.{turns, unbound};
 ghost use Rattle.edges.specs.States.{busy};
 
 use base::Config;
-use state::{Binding, Holder, InVc, InputVc, OutVc, OutputVc, Router};
+use state::{Binding, InVc, InputVc, OutVc, OutputVc, Router};
 
 // Words of flits with payload 7: S and H to output 1, B. On the wire a flit's VC stands above it.
 pub(crate) const SINGLE_TO_1: u64 = 4 * 34359738368 + 4294967296 + 7;
@@ -41,6 +41,7 @@ pub(crate) fn turns() -> Router
 }
 
 // An input VC that is not bound, with these counts.
+#[tactic(auto, unfolding(state::proofs::SoundStates::turns, state::proofs::SoundStates::config, state::proofs::SoundStates::unbound, state::specs::Fresh::fresh_router))]
 pub(crate) fn unbound(credit: u8, opened: bool, queued: u8) -> InputVc
     ensures { result ≡ unbound credit opened queued }
 {
@@ -54,6 +55,7 @@ pub(crate) fn unbound(credit: u8, opened: bool, queued: u8) -> InputVc
 }
 
 // An output VC that nobody holds, with this credit.
+#[tactic(auto, unfolding(state::proofs::SoundStates::turns, state::proofs::SoundStates::config, state::specs::Fresh::fresh_router))]
 pub(crate) fn output(credit: u8) -> OutputVc
     ensures { result ≡ fresh_output credit }
 {
@@ -75,7 +77,7 @@ pub(crate) fn busy() -> Router
     router.store[1] = BODY;
     router.store[2] = BODY;
     let free = output(2);
-    router.outputs[2] = free.with_holder(Holder::Held(InVc { input: 0, vc: 0 }));
+    router.outputs[2] = free.with_holder(Some(InVc { input: 0, vc: 0 }));
     router.inputs[1] = unbound(2, false, 0);
     router.wire[0] = ON_VC_1 + SINGLE_TO_1;
     router.inputs[3] = unbound(2, false, 0);

@@ -1,55 +1,40 @@
 // "D 16 is legal, 17 and 0 give 1 with field 3."
-ghost use Rattle.std.specs.Prelude.{◌≡◌};
-ghost use Rattle.std.proofs.Math.Option.{some, none};
-ghost use Rattle.base.specs.Sizes.{sized, field_of, illegal_field};
-ghost use Rattle.edges.specs.Same.{Tells};
+ghost use Rattle.std.specs.Prelude.{◌≡◌, Some};
+ghost use Rattle.base.specs.Sizes.{sized, illegal_field};
 
 use crate::building::config;
-use base::Judged;
+use base::{CONFIGURATION_WRONG, Refusal};
 use check::expect;
 
-fn is_legal(judged: Judged) -> bool
-    ensures { Tells result (field_of judged) none }
-{
-    let Judged::Legal = judged else {
-        return false;
-    };
-    true
-}
+// The third field is out of its range.
+const DEPTH_WRONG: Result<(), Refusal> = Err(Refusal {
+    number: CONFIGURATION_WRONG,
+    place: 3,
+});
 
-fn is_field(judged: Judged, field: u8) -> bool
-    ensures { Tells result (field_of judged) (some field) }
-{
-    let Judged::Illegal(k) = judged else {
-        return false;
-    };
-    k == field
-}
-
+#[tactic(auto, using(crate::proofs::Depths::depths))]
 pub(crate) fn depths() {
-    expect(is_legal(config(16, 2).judged()));
-    expect(is_field(config(17, 2).judged(), 3));
-    expect(is_field(config(0, 2).judged(), 3));
+    expect(config(16, 2).judged() == Ok(()));
+    expect(config(17, 2).judged() == DEPTH_WRONG);
+    expect(config(0, 2).judged() == DEPTH_WRONG);
 }
 
 // A fresh router is sound; a refused construction is all zero, and not sound.
+#[tactic(auto, unfolding(state::specs::Fresh::built_of), using(crate::proofs::Depths::depths))]
 pub(crate) fn constructions() {
     let legal = state::fresh(config(16, 2));
-    let judged = legal.judged;
-    expect(is_legal(judged));
-    let made = legal.router;
-    expect(state::is_sound(made));
+    expect(legal.judged == Ok(()));
+    expect(state::is_sound(legal.router));
     refused_construction(17);
     refused_construction(0);
 }
 
+#[tactic(auto, unfolding(state::specs::Fresh::built_of), using(crate::proofs::Depths::zero_unsound, state::proofs::Blank::blank_exactly))]
 fn refused_construction(depth: u8)
-    requires { illegal_field (sized 2 2 depth 2 2 2 1) ≡ some 3 }
+    requires { illegal_field (sized 2 2 depth 2 2 2 1) ≡ Some 3 }
 {
     let built = state::fresh(config(depth, 2));
-    let judged = built.judged;
-    expect(is_field(judged, 3));
-    let router = built.router;
-    expect(state::is_blank(router));
-    expect(!state::is_sound(router));
+    expect(built.judged == DEPTH_WRONG);
+    expect(state::is_blank(built.router));
+    expect(!state::is_sound(built.router));
 }

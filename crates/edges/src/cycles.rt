@@ -1,9 +1,7 @@
 // The end of a run, parts of a wrong length, and offers that are refused.
 use crate::building::{busy, turns};
 use crate::refusing::refused;
-use crate::replies::{is_accepted, is_empty};
-use crate::routers::same_router;
-use base::{CREDIT_PAST_ROOM, NO_SENDER_CREDIT, OUT_OF_TURN, ROW_WRONG, RUN_FULL};
+use base::{CREDIT_PAST_ROOM, NO_SENDER_CREDIT, OUT_OF_TURN, ROW_WRONG, RUN_FULL, Reply};
 use check::expect;
 
 // Cycle 999,999,999 is accepted and is the last; an empty one alters the count alone.
@@ -11,15 +9,12 @@ pub(crate) fn last_cycle() {
     let part = [0u8; 64];
     let mut before = turns();
     before.cycle = 999_999_999;
-    let stepped = router::step(before, &part);
-    let verdict = stepped.verdict;
-    expect(is_accepted(verdict));
     let mut end = turns();
     end.cycle = 1_000_000_000;
-    let after = stepped.router;
-    expect(same_router(after, end));
-    let reply = stepped.reply;
-    expect(is_empty(reply));
+    let stepped = router::step(before, &part);
+    expect(stepped.verdict == Ok(()));
+    expect(stepped.router == end);
+    expect(stepped.reply == Reply::empty());
 }
 
 // 10, and before 3: whatever the part.

@@ -2,17 +2,12 @@
 #![tactic(auto)]
 
 mod answers;
-mod arbiters;
 mod broken;
 mod building;
-mod channels;
 mod configurations;
 mod cycles;
 mod reading;
 mod refusing;
-mod replies;
-mod routers;
-mod same;
 mod writer;
 
 fn main() {

@@ -13,6 +13,7 @@ fn shows(block: &[u8], cycle: usize, bytes: usize, next: usize)
 }
 
 // "After the last cycle held, or over a lent part that is under 512 bytes or has byte 1 above 7, it shows an empty part and stays."
+#[tactic(auto, unfolding(trace::specs::Cycles::shows, trace::specs::Cycles::part_of_cycle, reader::specs::Reader::following_cycle))]
 pub(crate) fn walks() {
     let mut block = [0u8; 513];
     block[1] = 7;

@@ -5,7 +5,7 @@ ghost use Rattle.listing.specs.Writing.{written};
 ghost use Rattle.edges.specs.Answers.{Answers, with_one_credit, full_reply};
 
 use crate::answers::{answered, bytes_of, number_of};
-use base::{Departure, Left, Output, Reached, Reply, Sender};
+use base::{Departure, Reply};
 use check::expect;
 
 fn end_line(cycles: u64, flits: u64, number: u8, line: &[u8])
@@ -53,9 +53,7 @@ fn one_credit(vc: u8) -> Reply
     ensures { result ≡ with_one_credit vc }
 {
     let mut reply = Reply::empty();
-    reply.senders[7] = Sender {
-        reached: Reached::Vc(vc),
-    };
+    reply.senders[7] = Some(vc);
     reply
 }
 
@@ -79,19 +77,16 @@ pub(crate) fn credits() {
 fn full() -> Reply
     ensures { result ≡ full_reply }
 {
+    let flit = Departure {
+        out_vc: 3,
+        input: 7,
+        vc: 3,
+        kind: 1,
+        payload: 0xffff_ffff,
+    };
     Reply {
-        senders: [Sender {
-            reached: Reached::Vc(3),
-        }; 8],
-        outputs: [Output {
-            left: Left::Flit(Departure {
-                out_vc: 3,
-                input: 7,
-                vc: 3,
-                kind: 1,
-                payload: 0xffff_ffff,
-            }),
-        }; 8],
+        senders: [Some(3); 8],
+        outputs: [Some(flit); 8],
     }
 }
 

@@ -33,15 +33,16 @@ use Rattle.state.specs.Sound.{packets_read, channels_unused, slots_empty, line_u
 use Rattle.store.specs.Store.{front_of, pushed, moved_up, popped}
 use Rattle.trace.specs.Bytes.{big_endian}
 use Rattle.state.specs.Setters.{set_binding, with_opened}
-use Rattle.rules.specs.declared.Verdict.{Verdict}
+use Rattle.base.specs.Refusal.{Verdict}
 use Rattle.rules.specs.Ports.{over_ports}
 use Rattle.rules.specs.Rows.{row_zero, no_offer, legal_offer, row_legal}
 use Rattle.rules.specs.Intake.{advanced, senders_paid, reported, credits_reached, outputs_paid, credits_returned, landings, landed, offers}
 use Rattle.rules.specs.Intake.{offers_taken}
-use Rattle.rules.specs.Allocation.{asks, lowest_free_vc, grant_of, bindings, wide_moved, narrow_moved, allocated, is_ready, input_pick, request}
+use Rattle.rules.specs.Allocation.{asks, lowest_free_vc, grant_of, bindings, arbiters_moved, allocated, is_ready, input_pick, request}
 use Rattle.rules.specs.Allocation.{output_pick, switched, winner}
 use Rattle.rules.specs.Departures.{departures, leaving_of}
-use Rattle.rules.specs.Numbers.{number_of, port_of, refusing, run_full, part_wrong, row_wrong, credit_past_room, out_of_turn, no_sender_credit}
+use Rattle.base.specs.Refusal.{number_of, place_of, refusing}
+use Rattle.rules.specs.Numbers.{run_full, part_wrong, row_wrong, credit_past_room, out_of_turn, no_sender_credit}
 use Rattle.rules.specs.Numbers.{first_of, judged}
 use Rattle.rules.specs.Step.{taken_in, sent_out, router_after, reply_of, step_of}
 use Rattle.history.specs.Run.{entry_of, Ran, run_from, run_of}
@@ -196,7 +197,7 @@ line_numbers (l ∷ ls) = letter_of_line l ∷ (map (λ (f : Field). f.value) (v
 
 abbrev numbers_of : Seen → List ℕ
 numbers_of x =
-    x.cycles ∷ number_of x.unpaid ∷ port_of x.unpaid ∷ number_of x.overpaid ∷ port_of x.overpaid
+    x.cycles ∷ number_of x.unpaid ∷ place_of x.unpaid ∷ number_of x.overpaid ∷ place_of x.overpaid
     ∷ (binding_numbers x.waiting.binding
     ++ (x.waiting.credit ∷ cond x.waiting.opened 1 0 ∷ x.waiting.queued ∷ (x.zero_zero ++ (x.two_one ++ line_numbers x.lines))))
 
@@ -211,7 +212,7 @@ unfolding xor first_from every or_else in_range first_illegal illegal_field flit
     home_legal queues_legal output_credits_fit names_agree arbiters_sound reading reads packets_read channels_unused slots_empty line_unused
     arbiters_unused shaped sound front_of pushed moved_up popped big_endian over_ports part_wrong row_zero no_offer legal_offer row_legal advanced
     senders_paid reported credits_reached outputs_paid credits_returned landings landed offers offers_taken asks lowest_free_vc grant_of bindings
-    wide_moved narrow_moved allocated is_ready input_pick request output_pick switched winner departures leaving_of run_full row_wrong
+    arbiters_moved allocated is_ready input_pick request output_pick switched winner departures leaving_of run_full row_wrong
     credit_past_room out_of_turn no_sender_credit first_of judged taken_in sent_out router_after reply_of step_of fresh_router entry_of run_from run_of
     values_of
 computed = refl

@@ -19,7 +19,7 @@ use Rattle.rules.specs.Ports.{over_ports}
 use Rattle.rules.specs.Rows.{row_zero, no_offer, legal_offer, row_legal}
 use Rattle.rules.specs.Intake.{advanced, senders_paid, reported, credits_reached, outputs_paid, credits_returned, landings, landed, offers}
 use Rattle.rules.specs.Intake.{offers_taken}
-use Rattle.rules.specs.Allocation.{asks, lowest_free_vc, grant_of, bindings, wide_moved, narrow_moved, allocated, is_ready, input_pick, request}
+use Rattle.rules.specs.Allocation.{asks, lowest_free_vc, grant_of, bindings, arbiters_moved, allocated, is_ready, input_pick, request}
 use Rattle.rules.specs.Allocation.{output_pick, switched, winner}
 use Rattle.rules.specs.Departures.{departures, leaving_of}
 use Rattle.rules.specs.Numbers.{run_full, part_wrong, row_wrong, credit_past_room, out_of_turn, no_sender_credit, first_of, judged}
@@ -44,7 +44,7 @@ use Rattle.state.specs.Blank.{no_sizes, arbiters_shaped, blank}
 use Rattle.runs.specs.Run.{started, between_blocks, stopped_inside, place_right, run_sound}
 use Rattle.router.specs.Running.{wrote, ended_by, cycled, cycles_from, block_taken, lacks_block_room, going_on, ran_of}
 use Rattle.trace.proofs.Sealed.{known_bytes}
-use Rattle.floor.specs.declared.passing.Stop.TheVariants.{Whole}
+use Rattle.std.specs.Prelude.{Ok}
 use Rattle.floor.specs.Handing.{Handed, stops, goes, calls, ends, HandsOver, last}
 
 abbrev started_with : Handed
@@ -52,14 +52,14 @@ started_with = record { run = started; buffer = replicate 3100 0 }
 
 -- 1,536 bytes, read into a buffer of 2,048, so that the input has ended: behind the first call's lines there is too little room for the end
 -- block, so it is handed over again, and a third call ends the run
-pub listing_handed : HandsOver 2048 file started_with 3 Whole (calls 1 [] (calls 2 file started_with))
+pub listing_handed : HandsOver 2048 file started_with 3 (Ok (tt {0})) (calls 1 [] (calls 2 file started_with))
 unfolding xor first_from every or_else in_range first_illegal illegal_field flit_of kind_of destination_of payload_of starts_kind ends_kind
     next_in_turn pointer_after blank_from arbiter.known arbiter.usable arbiter.choice arbiter.moved arbiter.after arbiter.fresh
     arbiter.sound queue_at places wire_of home_of flat total is_none all configuration_legal cycles_fit credits_whole credits_add_up legal_flit
     wire_place_legal wire_legal home_legal queues_legal output_credits_fit names_agree arbiters_sound reading reads packets_read channels_unused
     slots_empty line_unused arbiters_unused shaped sound front_of pushed moved_up popped over_ports part_wrong row_zero no_offer legal_offer
     row_legal advanced senders_paid reported credits_reached outputs_paid credits_returned landings landed offers offers_taken asks lowest_free_vc
-    grant_of bindings wide_moved narrow_moved allocated is_ready input_pick request output_pick switched winner departures leaving_of run_full
+    grant_of bindings arbiters_moved allocated is_ready input_pick request output_pick switched winner departures leaving_of run_full
     row_wrong credit_past_room out_of_turn no_sender_credit first_of judged taken_in sent_out router_after reply_of step_of fresh_router big_endian
     zeros sum check_value check_holds end_of_body can_hold good_place place_unsound block_short check_wrong has_wrong_kind has_wrong_number has_wrong_count
     has_wrong_unused has_wrong_order has_wrong_total form_wrong bytes_follow block_wrong field_wrong read_of taken judged_by_field trace.judged cycles_then file_from
@@ -67,6 +67,6 @@ unfolding xor first_from every or_else in_range first_illegal illegal_field flit
     flit_lines letter_of values_of all_in_range printable put lacks_room written no_sizes arbiters_shaped blank started any
     between_blocks stopped_inside place_right run_sound wrote ended_by cycled cycles_from block_taken lacks_block_room going_on ran_of calls
 listing_handed =
-    last 2 Whole (calls 2 file started_with) 3 Whole (calls 1 [] (calls 2 file started_with)) refl (known_bytes file refl) (omega arith)
-    (goes file started_with 1 Whole (calls 2 file started_with) refl (stops (drop 1024 file) (calls 1 file started_with) Whole refl))
-    (ends 1 Whole (calls 1 [] (calls 2 file started_with)) refl refl (stops [] (calls 2 file started_with) Whole refl))
+    last 2 (Ok (tt {0})) (calls 2 file started_with) 3 (Ok (tt {0})) (calls 1 [] (calls 2 file started_with)) refl (known_bytes file refl) (omega arith)
+    (goes file started_with 1 (Ok (tt {0})) (calls 2 file started_with) refl (stops (drop 1024 file) (calls 1 file started_with) (Ok (tt {0})) refl))
+    (ends 1 (Ok (tt {0})) (calls 1 [] (calls 2 file started_with)) refl refl (stops [] (calls 2 file started_with) (Ok (tt {0})) refl))

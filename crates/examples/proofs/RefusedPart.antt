@@ -25,7 +25,7 @@ use Rattle.rules.specs.Ports.{over_ports}
 use Rattle.rules.specs.Rows.{row_zero, no_offer, legal_offer, row_legal}
 use Rattle.rules.specs.Intake.{advanced, senders_paid, reported, credits_reached, outputs_paid, credits_returned, landings, landed, offers}
 use Rattle.rules.specs.Intake.{offers_taken}
-use Rattle.rules.specs.Allocation.{asks, lowest_free_vc, grant_of, bindings, wide_moved, narrow_moved, allocated, is_ready, input_pick, request}
+use Rattle.rules.specs.Allocation.{asks, lowest_free_vc, grant_of, bindings, arbiters_moved, allocated, is_ready, input_pick, request}
 use Rattle.rules.specs.Allocation.{output_pick, switched, winner}
 use Rattle.rules.specs.Departures.{departures, leaving_of}
 use Rattle.rules.specs.Numbers.{run_full, part_wrong, row_wrong, credit_past_room, out_of_turn, no_sender_credit, first_of, judged}
@@ -72,7 +72,7 @@ unfolding xor first_from every or_else in_range first_illegal illegal_field flit
     wire_place_legal wire_legal home_legal queues_legal output_credits_fit names_agree arbiters_sound reading reads packets_read channels_unused
     slots_empty line_unused arbiters_unused shaped sound front_of pushed moved_up popped big_endian over_ports part_wrong row_zero no_offer
     legal_offer row_legal advanced senders_paid reported credits_reached outputs_paid credits_returned landings landed offers offers_taken asks
-    lowest_free_vc grant_of bindings wide_moved narrow_moved allocated is_ready input_pick request output_pick switched winner departures leaving_of
+    lowest_free_vc grant_of bindings arbiters_moved allocated is_ready input_pick request output_pick switched winner departures leaving_of
     run_full row_wrong credit_past_room out_of_turn no_sender_credit first_of judged taken_in sent_out router_after reply_of step_of fresh_router
     entry_of run_from run_of
 example = refl

@@ -1,11 +1,10 @@
 -- Room for a cycle's lines: the longest cycle, and what is asked for on either side.
 -- Assumes nothing.
+use Rattle.std.specs.Prelude.{Some}
 use mathlib.Core.Path.{◌≡◌, refl, sym}
 use mathlib.Core.List.{List, []}
 use Prim.Native.Nat.{ℕ}
 use lib.ListN.{length, replicate}
-use Rattle.base.specs.declared.reply.Left.TheVariants as left
-use Rattle.base.specs.declared.reply.Reached.TheVariants as reached
 use Rattle.base.specs.declared.reply.Reply.{Reply}
 use Rattle.base.specs.Flit.{head, letter_of}
 use Rattle.base.specs.Numbers.{done, no_room, room}
@@ -22,8 +21,8 @@ use Rattle.night.proofs.Kept.{started_sound}
 abbrev full : Reply
 full =
     record {
-      senders = replicate 8 (record { reached = reached.Vc 3 });
-      outputs = replicate 8 (record { left = left.Flit (record { out_vc = 3; input = 7; vc = 3; kind = head; payload = 0xffffffff }) });
+      senders = replicate 8 (Some 3);
+      outputs = replicate 8 (Some (record { out_vc = 3; input = 7; vc = 3; kind = head; payload = 0xffffffff }));
     }
 
 -- "Longest cycle: 8·31 + 8·16 = 376 bytes."

@@ -8,7 +8,7 @@ use mathlib.Core.Logic.{inr}
 use Prim.Native.Nat.{ℕ, suc, ◌+◌, ◌^◌, ◌≤◌}
 use native.Mathlib.Omega.{arith}
 use lib.ListN.{set, get_or-replicate}
-use mathlib.Core.Option.{Option, some, none}
+use Rattle.std.specs.Prelude.{Option, Some, None}
 use lib.Dec.{eqb}
 use borrow.Author.Tests.{eqb-true, ne_eqb}
 use Rattle.base.specs.Bits.{bit, word_of, with_bit}
@@ -17,13 +17,13 @@ use Rattle.base.specs.Search.{every}
 use Rattle.base.specs.Sizes.{illegal_field, first_illegal, in_range, with_downstream}
 use Rattle.base.proofs.Search.{all_every, both}
 use Rattle.arbiter.specs.Arbiter as arbiter
-use Rattle.arbiter.specs.Arbiter.{of_narrow, of_wide, as_narrow, as_wide, arbiter_of}
+use Rattle.arbiter.specs.Arbiter.{arbiter_of}
 use Rattle.arbiter.proofs.ByKind.{Known}
 use Rattle.arbiter.proofs.Soundness as arbiters
 use Rattle.arbiter.specs.RoundRobin.{pointer_after}
 use Rattle.arbiter.specs.Matrix.{beats, raised, defeated, list_of, fresh_row, fresh_rows, total_order, within, blank_from}
 use Rattle.state.specs.declared.Router.{Router}
-use Rattle.state.specs.Fresh.{fresh_output, past_narrow, past_wide, fresh_router}
+use Rattle.state.specs.Fresh.{fresh_output, past_arbiter, fresh_router}
 use Rattle.state.specs.Views.{queue_at, wire_of, home_of, places, flat, total}
 use Rattle.state.specs.Sound
 use Rattle.state.specs.Sound.{is_none, all, configuration_legal, cycles_fit, credits_whole, credits_add_up, legal_flit, wire_place_legal}
@@ -34,7 +34,7 @@ use Rattle.state.specs.Sound.{the_queues, the_output_credits, the_channels, the_
 use Rattle.state.proofs.Exact.{sound_passes}
 use Rattle.state.proofs.SoundStates.{with_input, with_output, with_slot, with_wire_place, with_home_place, with_vc_arbiter}
 use Rattle.state.proofs.SoundStates.{with_input_arbiter, with_output_arbiter, config, turns, orders, unbound}
-use Rattle.state.proofs.SoundStates.{bound, held, head, single, body, tail, on, pointer_wide, pointer_narrow, order_wide, stored, queue}
+use Rattle.state.proofs.SoundStates.{bound, held, head, single, body, tail, on, pointer_at, ordered, stored, queue}
 use Rattle.state.proofs.SoundStates.{middle, fronted, full_wire, homing, deep, picked, picked_arbiters, large}
 use Rattle.state.specs.Setters.{with_config, with_cycle}
 
@@ -49,15 +49,15 @@ pub record Row : Type 0 where
   pub breaks : Option Clause
 
 sound_row : Router → Row
-sound_row s = record { state = s; breaks = none }
+sound_row s = record { state = s; breaks = None }
 
 row : Router → Clause → Row
-row s k = record { state = s; breaks = some k }
+row s k = record { state = s; breaks = Some k }
 
 -- it breaks this clause and no other, or none
 abbrev rightly : Router → Option Clause → Bool
-rightly s none = eqb (failing s clauses) 0
-rightly s (some k) = not (passes s k) && eqb (failing s clauses) 1
+rightly s None = eqb (failing s clauses) 0
+rightly s (Some k) = not (passes s k) && eqb (failing s clauses) 1
 
 pub right : Row → Bool
 right r = rightly r.state r.breaks
@@ -94,18 +94,18 @@ others =
     row (with_output 2 (held 2 0 2) turns) the_names ∷
     row (with_input 1 (bound 1 0 3 true 0) middle) the_names ∷
     -- a pointer equal to its width, rows under round robin, a pointer under a matrix
-    row (with_vc_arbiter 0 (pointer_wide 4) turns) the_arbiters ∷
-    row (with_input_arbiter 0 (pointer_narrow 2) turns) the_arbiters ∷
-    row (with_output_arbiter 0 (pointer_narrow 2) turns) the_arbiters ∷
-    row (with_vc_arbiter 0 (order_wide 0 0 14) turns) the_arbiters ∷
-    row (with_vc_arbiter 0 (order_wide 1 0 14) orders) the_arbiters ∷
+    row (with_vc_arbiter 0 (pointer_at 32 4) turns) the_arbiters ∷
+    row (with_input_arbiter 0 (pointer_at 8 2) turns) the_arbiters ∷
+    row (with_output_arbiter 0 (pointer_at 8 2) turns) the_arbiters ∷
+    row (with_vc_arbiter 0 (ordered 0 0 14) turns) the_arbiters ∷
+    row (with_vc_arbiter 0 (ordered 1 0 14) orders) the_arbiters ∷
     -- a bit beyond the width, a row beyond it, two equals, one that beats itself
-    row (with_vc_arbiter 0 (order_wide 0 0 30) orders) the_arbiters ∷
-    row (with_vc_arbiter 0 (order_wide 0 4 1) orders) the_arbiters ∷
-    row (with_vc_arbiter 0 (order_wide 0 0 12) orders) the_arbiters ∷
-    row (with_vc_arbiter 0 (order_wide 0 0 15) orders) the_arbiters ∷
+    row (with_vc_arbiter 0 (ordered 0 0 30) orders) the_arbiters ∷
+    row (with_vc_arbiter 0 (ordered 0 4 1) orders) the_arbiters ∷
+    row (with_vc_arbiter 0 (ordered 0 0 12) orders) the_arbiters ∷
+    row (with_vc_arbiter 0 (ordered 0 0 15) orders) the_arbiters ∷
     -- 0 beats 1, 1 beats 2, 2 beats 0
-    row (with_vc_arbiter 0 (as_wide (arbiter_of 0 (set (set (fresh_rows 32 4) 0 0b1010) 2 0b1001))) orders) the_arbiters ∷
+    row (with_vc_arbiter 0 (arbiter_of 0 (set (set (fresh_rows 32 4) 0 0b1010) 2 0b1001)) orders) the_arbiters ∷
     -- a front for another output, the open mark wrong (three times), a reading from inside a packet that is not bound, H first on the
     -- wire of a bound VC with an empty queue
     row (with_output 2 (held 0 0 2) (queue (head 0 ∷ body ∷ []) (with_input 0 (bound 1 0 1 true 2) turns))) the_packets ∷
@@ -128,14 +128,14 @@ others =
     row (with_home_place 2 0 1 turns) the_home_rest ∷
     row (with_home_place 0 2 1 turns) the_home_rest ∷
     -- arbiters beyond P
-    row (with_vc_arbiter 2 (pointer_wide 1) turns) the_other_arbiters ∷
-    row (with_input_arbiter 2 (pointer_narrow 1) turns) the_other_arbiters ∷
-    row (with_output_arbiter 7 (pointer_narrow 1) orders) the_other_arbiters ∷ []
+    row (with_vc_arbiter 2 (pointer_at 32 1) turns) the_other_arbiters ∷
+    row (with_input_arbiter 2 (pointer_at 8 1) turns) the_other_arbiters ∷
+    row (with_output_arbiter 7 (pointer_at 8 1) orders) the_other_arbiters ∷ []
 
 others_right : all right others ≡ true
 unfolding xor all right failing others row sound_row with_input with_output with_slot with_wire_place with_home_place
     with_vc_arbiter with_input_arbiter with_output_arbiter config turns orders unbound bound held head single body
-    tail on pointer_wide pointer_narrow order_wide stored queue middle fronted full_wire homing deep configuration_legal is_none illegal_field
+    tail on pointer_at ordered stored queue middle fronted full_wire homing deep configuration_legal is_none illegal_field
     first_illegal in_range cycles_fit credits_add_up credits_whole legal_flit wire_place_legal wire_legal home_legal queues_legal output_credits_fit
     names_agree arbiters_sound reading reads packets_read channels_unused slots_empty line_unused arbiters_unused shaped every fresh_router
     queue_at wire_of home_of places flat total flit_of kind_of destination_of starts_kind ends_kind bit word_of with_bit arbiter.sound
@@ -144,8 +144,8 @@ others_right = refl
 
 -- so the test of soundness accepts just the rows that break none
 pub is_nothing : Option Clause → Bool
-is_nothing none = true
-is_nothing (some k) = false
+is_nothing None = true
+is_nothing (Some k) = false
 
 all_none : (s : Router) (ks : List Clause) → all (passes s) ks ≡ eqb (failing s ks) 0
 unfolding all failing
@@ -162,8 +162,8 @@ unfolding right sound is_nothing
 right_sound r e = all_none r.state clauses ∙ go r.breaks e
   where
     go : (b : Option Clause) → rightly r.state b ≡ true → eqb (failing r.state clauses) 0 ≡ is_nothing b
-    go none q = q
-    go (some k) q =
+    go None q = q
+    go (Some k) q =
         ap (λ (n : ℕ). eqb n 0) (eqb-true (failing r.state clauses) 1 (both (not (passes r.state k)) _ q).1)
 
 -- picks keep a matrix sound
@@ -183,16 +183,16 @@ large_arbiters =
     all_every 8 _ (λ i h.
     ap₂ ◌&&◌
     (ap₂ ◌&&◌
-    (ap (λ a. arbiter.sound 32 2 32 (of_wide a)) (get_or-replicate 8 i (as_wide (picked 32 32 (9 ∷ 0 ∷ 31 ∷ []))) past_wide h)
+    (ap (λ a. arbiter.sound 32 2 32 a) (get_or-replicate 8 i (picked 32 32 (9 ∷ 0 ∷ 31 ∷ [])) past_arbiter h)
     ∙ picks_sound 32 32 (9 ∷ 0 ∷ 31 ∷ []) (omega arith) (omega arith))
-    (ap (λ a. arbiter.sound 8 2 4 (of_narrow a)) (get_or-replicate 8 i (as_narrow (picked 8 4 (2 ∷ 0 ∷ 3 ∷ []))) past_narrow h)
+    (ap (λ a. arbiter.sound 8 2 4 a) (get_or-replicate 8 i (picked 8 4 (2 ∷ 0 ∷ 3 ∷ [])) past_arbiter h)
     ∙ picks_sound 8 4 (2 ∷ 0 ∷ 3 ∷ []) (omega arith) (omega arith)))
-    (ap (λ a. arbiter.sound 8 2 8 (of_narrow a)) (get_or-replicate 8 i (as_narrow (picked 8 8 (5 ∷ 0 ∷ 7 ∷ []))) past_narrow h)
+    (ap (λ a. arbiter.sound 8 2 8 a) (get_or-replicate 8 i (picked 8 8 (5 ∷ 0 ∷ 7 ∷ [])) past_arbiter h)
     ∙ picks_sound 8 8 (5 ∷ 0 ∷ 7 ∷ []) (omega arith) (omega arith)))
 
 large_sound : Sound.Sound large
 unfolding all picked_arbiters xor with_input with_output with_slot with_wire_place with_home_place with_vc_arbiter with_input_arbiter
-    with_output_arbiter config unbound bound held head single body tail on pointer_wide pointer_narrow order_wide
+    with_output_arbiter config unbound bound held head single body tail on pointer_at ordered
     stored queue large configuration_legal is_none illegal_field first_illegal in_range cycles_fit credits_add_up credits_whole legal_flit
     wire_place_legal wire_legal home_legal queues_legal output_credits_fit names_agree reading reads packets_read channels_unused slots_empty
     line_unused arbiters_unused shaped every fresh_router queue_at wire_of home_of places flat total flit_of kind_of destination_of starts_kind

@@ -1,12 +1,6 @@
 -- base: no second outcome satisfies the contract of a public function.
 -- Assumes nothing.
-use mathlib.Core.Path.{◌≡◌, refl, sym, ◌∙◌}
-use mathlib.Core.Bool.{cond}
-use lib.Dec.{eqb}
-use Rattle.base.specs.Numbers.{done}
-use Rattle.base.specs.Sizes.{ConfigOutcome, config_outcome}
-use Rattle.base.specs.declared.config.Judged.{Judged}
-use Rattle.base.specs.declared.config.Judged.TheVariants.{Legal, Illegal}
+use mathlib.Core.Path.{refl, sym, ◌∙◌}
 use Rattle.base.proofs.config.Config.judged as judged
 use Rattle.base.specs.contracts.config.Config.judged as judged_contract
 use Rattle.base.proofs.config.Config.none as nothing
@@ -28,18 +22,9 @@ use Rattle.base.specs.contracts.letter as letter_contract
 use Rattle.base.proofs.reply.Reply.empty as empty
 use Rattle.base.specs.contracts.reply.Reply.empty as empty_contract
 use Rattle.outcomes.specs.Once.{Once}
-use Rattle.outcomes.proofs.Seen.{seen_once}
-
--- the way back from number and field to the answer that stands for them
-abbrev judged_of : ConfigOutcome → Judged
-judged_of o = cond (eqb o.number done) Legal (Illegal o.field)
-
-judged_back : (j : Judged) → judged_of (config_outcome j) ≡ j
-judged_back Legal = refl
-judged_back (Illegal k) = refl
 
 pub judged_once : Once judged_contract.ended judged.Reads.Asked judged.Reads.Learnt
-judged_once κs a = (tt, λ r s u v p q. (seen_once config_outcome judged_of judged_back r s p q, refl))
+judged_once κs a = (tt, λ r s u v p q. (p ∙ sym q, refl))
 
 pub none_once : Once nothing_contract.ended nothing.Reads.Asked nothing.Reads.Learnt
 none_once κs a = (tt, λ r s u v p q. (p ∙ sym q, refl))

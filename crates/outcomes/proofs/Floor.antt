@@ -19,17 +19,17 @@ use Rattle.std.specs.declared.io.Print.{Ghosts}
 
 -- whatever the stream is that the lines are written to, and whatever lifetimes its type names
 module _ (P : RattleType) (L : Laws P) (G : Ghosts P.Denot) (d : Dict) where
-  pub pass_same : SameWhere (pass_contract.ended P G d) (λ κs r. is_written r.stop ≡ true) (pass.Reads.Learnt P L G d)
+  pub pass_same : SameWhere (pass_contract.ended P G d) (λ κs r. is_written r.outcome ≡ true) (pass.Reads.Learnt P L G d)
   pass_same κs a r s u v p q e f =
       let same = passes_once p q e f in (
-        λ i. record { run = (same.after i).run; calls = same.calls i; stop = same.stop i },
+        λ i. record { run = (same.after i).run; calls = same.calls i; outcome = same.stop i },
         λ i. (tt, (tt, ((same.after i).buffer, (tt, tt)))),
       )
 
-  pub hand_same : SameWhere (hand_contract.ended P G d) (λ κs r. is_written r.stop ≡ true) (hand.Reads.Learnt P L G d)
+  pub hand_same : SameWhere (hand_contract.ended P G d) (λ κs r. is_written r.outcome ≡ true) (hand.Reads.Learnt P L G d)
   hand_same κs a r s u v p q e f =
       let same = handing_once p q e f in (
-        λ i. record { run = (same.after i).run; calls = same.calls i; stop = same.stop i },
+        λ i. record { run = (same.after i).run; calls = same.calls i; outcome = same.stop i },
         λ i. (tt, (tt, (tt, ((same.after i).buffer, (tt, tt))))),
       )
 
@@ -39,10 +39,10 @@ lent P κ owned l m = absurd (not-mem-nil (subst (λ (ls : List ℕ). Mem l ls) 
 
 -- and where that type names none, nothing is asked of a caller either
 module _ (P : RattleType) (L : Laws P) (G : Ghosts P.Denot) (d : Dict) (owned : P.lives ≡ []) where
-  pub pass_once : OnceWhere (pass_contract.ended P G d) (λ κs r. is_written r.stop ≡ true) (pass.Reads.Asked P L G d)
+  pub pass_once : OnceWhere (pass_contract.ended P G d) (λ κs r. is_written r.outcome ≡ true) (pass.Reads.Asked P L G d)
       (pass.Reads.Learnt P L G d)
   pass_once κs a = (lent P _ owned, pass_same P L G d κs a)
 
-  pub hand_once : OnceWhere (hand_contract.ended P G d) (λ κs r. is_written r.stop ≡ true) (hand.Reads.Asked P L G d)
+  pub hand_once : OnceWhere (hand_contract.ended P G d) (λ κs r. is_written r.outcome ≡ true) (hand.Reads.Asked P L G d)
       (hand.Reads.Learnt P L G d)
   hand_once κs a = (lent P _ owned, hand_same P L G d κs a)

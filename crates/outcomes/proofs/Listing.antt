@@ -6,8 +6,9 @@ use mathlib.Core.List.{List}
 use Prim.Native.Nat.{ℕ}
 use lib.Dec.{eqb}
 use Rattle.base.specs.Numbers.{done, no_room}
-use Rattle.listing.specs.declared.Written.{Written}
-use Rattle.listing.specs.declared.Written.TheVariants.{Lines, NoRoom, OutOfRange}
+use Rattle.std.specs.Prelude.{Result, Ok, Err}
+use Rattle.listing.specs.declared.Unwritten.{Unwritten}
+use Rattle.listing.specs.declared.Unwritten.TheVariants.{NoRoom, OutOfRange}
 use Rattle.listing.specs.Writing.{WriteOutcome, write_outcome}
 use Rattle.listing.proofs.has_room as room
 use Rattle.listing.specs.contracts.has_room as room_contract
@@ -21,22 +22,22 @@ use Rattle.outcomes.specs.Once.{Once}
 use Rattle.outcomes.proofs.Seen.{seen_once}
 
 -- an answer beside the buffer
-abbrev said_by : Written × List ℕ → WriteOutcome
+abbrev said_by : Result ℕ Unwritten × List ℕ → WriteOutcome
 said_by x = write_outcome x.0 x.1
 
 -- the answer that a number and its bytes stand for
-abbrev written_of : WriteOutcome → Written × List ℕ
-written_of o = (cond (eqb o.number done) (Lines o.bytes) (cond (eqb o.number no_room) NoRoom OutOfRange), o.buffer)
+abbrev written_of : WriteOutcome → Result ℕ Unwritten × List ℕ
+written_of o = (cond (eqb o.number done) (Ok o.bytes) (Err (cond (eqb o.number no_room) NoRoom OutOfRange)), o.buffer)
 
-written_back : (x : Written × List ℕ) → written_of (said_by x) ≡ x
-written_back (Lines n, b) = refl
-written_back (NoRoom, b) = refl
-written_back (OutOfRange, b) = refl
+written_back : (x : Result ℕ Unwritten × List ℕ) → written_of (said_by x) ≡ x
+written_back (Ok n, b) = refl
+written_back (Err NoRoom, b) = refl
+written_back (Err OutOfRange, b) = refl
 
-write_once : {o : WriteOutcome} (r s : Written) (b d : List ℕ) → write_outcome r b ≡ o → write_outcome s d ≡ o → (r ≡ s) × (b ≡ d)
+write_once : {o : WriteOutcome} (r s : Result ℕ Unwritten) (b d : List ℕ) → write_outcome r b ≡ o → write_outcome s d ≡ o → (r ≡ s) × (b ≡ d)
 write_once r s b d p q =
     let e = seen_once said_by written_of written_back (r, b) (s, d) p q in
-    (ap (λ (x : Written × List ℕ). x.0) e, ap (λ (x : Written × List ℕ). x.1) e)
+    (ap (λ (x : Result ℕ Unwritten × List ℕ). x.0) e, ap (λ (x : Result ℕ Unwritten × List ℕ). x.1) e)
 
 pub write_cycle_once : Once cycle_contract.ended cycle.Reads.Asked cycle.Reads.Learnt
 write_cycle_once κs a = (tt, λ r s u v p q. let e = write_once r s u.0 v.0 p q in (e.0, λ i. (e.1 i, v.1)))

@@ -1,18 +1,12 @@
 -- trace: no second outcome satisfies the contract of a public function.
 -- Assumes nothing.
-use mathlib.Core.Path.{◌≡◌, refl, sym, ◌∙◌}
-use mathlib.Core.Option.{Option, some, none}
+use mathlib.Core.Path.{refl, sym, ◌∙◌}
 use mathlib.Core.List.{List}
 use Prim.Native.Nat.{ℕ}
 use contract.Lifetimes.{Lfts}
 use denote.Ref.{Bor}
 use denote.Triple.Entry.{Args}
 use denote.Triple.Clauses.{Lasts, at_exit}
-use Rattle.trace.specs.declared.place.Place.{Place}
-use Rattle.trace.specs.declared.judging.Found.{Found}
-use Rattle.trace.specs.declared.judging.Found.TheVariants as found
-use Rattle.trace.specs.declared.judging.Answer.{Answer}
-use Rattle.trace.specs.Judged.{Read, a_configuration, some_cycles, the_end, no_more, BlockOutcome, meaning, block_outcome}
 use Rattle.trace.specs.Cycles.{slice_of}
 use Rattle.trace.proofs.judge as judge
 use Rattle.trace.specs.contracts.judge as judge_contract
@@ -23,29 +17,10 @@ use Rattle.trace.specs.contracts.place.Place.start as start_contract
 use Rattle.trace.proofs.is_good as good
 use Rattle.trace.specs.contracts.is_good as good_contract
 use Rattle.outcomes.specs.Once.{Once, OnceSeen}
-use Rattle.outcomes.proofs.Seen.{seen_once, slice_whole}
-
--- the answer that stands for an outcome
-abbrev found_of : Option Read → ℕ → ℕ → Found
-found_of none n k = found.Refused n k
-found_of (some (a_configuration c)) n k = found.Configuration c
-found_of (some (some_cycles h)) n k = found.Cycles h
-found_of (some the_end) n k = found.End
-found_of (some no_more) n k = found.Done
-
-answer_of : BlockOutcome → Answer
-answer_of o = record { place = o.place; found = found_of o.read o.number o.field }
-
-found_back : (f : Found) (p : Place) → answer_of (meaning f p) ≡ record { place = p; found = f }
-unfolding answer_of
-found_back (found.Configuration c) p = refl
-found_back (found.Cycles n) p = refl
-found_back found.End p = refl
-found_back found.Done p = refl
-found_back (found.Refused n k) p = refl
+use Rattle.outcomes.proofs.Seen.{slice_whole}
 
 pub judge_once : Once judge_contract.ended judge.Reads.Asked judge.Reads.Learnt
-judge_once κs a = (tt, λ r s u v p q. (seen_once block_outcome answer_of (λ x. found_back x.found x.place) r s p q, refl))
+judge_once κs a = (tt, λ r s u v p q. (p ∙ sym q, refl))
 
 -- Of the slice handed back the contract determines memory, start and bytes, all that a program has of it, ..
 pub cycle_part_once : OnceSeen part_contract.ended (λ κs. slice_of) part.Reads.Asked part.Reads.Learnt

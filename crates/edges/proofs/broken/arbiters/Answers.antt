@@ -1,16 +1,11 @@
--- `edges::broken::arbiters` meets its contract: the fresh router with one part changed.
+-- `edges::broken::arbiters` meets its contract.
 -- Assumes nothing.
-use mathlib.Core.Path.{ap}
-use Rattle.arbiter.specs.Arbiter as arbiter
-use Rattle.arbiter.specs.Arbiter.{as_wide, of_wide, with_pointer}
-use Rattle.state.specs.declared.Router.{Router}
+use Rattle.std.proofs.Common.{rules}
+use Rattle.state.proofs.SoundStates.{with_vc_arbiter, pointer_at, turns, config}
 use Rattle.state.specs.Fresh.{fresh_router}
-use Rattle.state.specs.Views.{vc_arbiter}
-use Rattle.state.proofs.SoundStates.{with_vc_arbiter, pointer_wide, turns, config}
+use Rattle.arbiter.specs.Arbiter as arbiter
 use Rattle.edges.proofs.broken.arbiters.Goals as goal
 
 pub returns : goal.returns
-unfolding with_vc_arbiter pointer_wide turns config fresh_router arbiter.fresh arbiter.known
-returns c =
-    ap (λ (s : Router). with_vc_arbiter 0 (as_wide (with_pointer 4 (of_wide (vc_arbiter s.arbiters 0)))) s)
-    c.turns-router.ensures
+unfolding with_vc_arbiter pointer_at turns config fresh_router arbiter.fresh arbiter.known
+returns c = search rules

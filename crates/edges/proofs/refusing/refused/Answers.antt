@@ -1,21 +1,12 @@
 -- `edges::refusing::refused` meets its contract.
 -- Assumes nothing.
-use Rattle.edges.proofs.Refusals.{verdict_is, router_is, reply_is}
+use mathlib.Core.Path.{◌∙◌}
+use Rattle.edges.proofs.Refusals.{router_is}
+use Rattle.edges.proofs.Same.{same_router}
 use Rattle.edges.proofs.refusing.refused.Goals as goal
-
-pub expect-requires : goal.expect-requires
-expect-requires c =
-    c.is_refusal.ensures.1
-    (verdict_is c.args.before c.args.part.now c.args.number c.args.port c.requires c.step-stepped.result
-    c.step-stepped.ensures)
 
 pub expect-requires-2 : goal.expect-requires-2
 expect-requires-2 c =
-    c.same_router.ensures.1
-    (router_is c.args.before c.args.part.now c.args.number c.args.port c.requires
-    c.step-stepped.result c.step-stepped.ensures)
-
-pub expect-requires-3 : goal.expect-requires-3
-expect-requires-3 c =
-    c.is_empty.ensures.1 (reply_is c.args.before c.args.part.now c.args.number c.args.port c.requires
-    c.step-stepped.result c.step-stepped.ensures)
+    let a = c.args in
+    c.eq-2.ensures ∙ (same_router c.step-stepped.result.router a.before).1
+    (router_is a.before a.part.now a.number a.port c.requires c.step-stepped.result c.step-stepped.ensures)

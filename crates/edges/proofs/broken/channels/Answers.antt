@@ -1,8 +1,0 @@
--- `edges::broken::channels` meets its contract: the fresh router with one part changed.
--- Assumes nothing.
-use Rattle.state.proofs.SoundStates.{with_output}
-use Rattle.edges.proofs.broken.channels.Goals as goal
-
-pub returns : goal.returns
-unfolding with_output
-returns c = λ t. with_output 4 (c.output.ensures t) (c.turns-router.ensures t)
