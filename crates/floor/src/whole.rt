@@ -24,7 +24,7 @@ pub struct Listed {
 }
 
 // Reads until the buffer is full or the input ends, hands over what was read, and so on until the run is over. A proved loop has to end, so
-// there are at most more pieces than there can be.
+// that at most 2^64 - 1 pieces are read, more than there can be.
 pub fn list<R: Read, P: Print>(from: &mut R, buf: &mut [u8], out: &mut [u8], to: &P) -> Listed
     ensures { (pieces : List (List ℕ)) × Lists (length buf.old) (record { run = started; buffer = out.old })
         pieces result.outcome (record { run = result.run; buffer = out.new }) }
