@@ -32,7 +32,11 @@ fn cycles() -> Router
 }
 
 // a wire place on a VC that there is not
-#[tactic(auto, unfolding(state::proofs::SoundStates::with_wire_place, state::proofs::SoundStates::on, state::proofs::SoundStates::single, base::specs::Flit::flit_of))]
+#[tactic(auto, unfolding(
+// the place on the wire
+state::proofs::SoundStates::with_wire_place, state::proofs::SoundStates::on,
+// and the flit in it
+state::proofs::SoundStates::single, base::specs::Flit::flit_of))]
 fn wire() -> Router
     ensures { result ≡ broken the_wire }
 {
@@ -52,7 +56,11 @@ fn home() -> Router
 }
 
 // the wire's stage at F
-#[tactic(auto, unfolding(state::proofs::SoundStates::with_wire_place, state::proofs::SoundStates::on, state::proofs::SoundStates::single, base::specs::Flit::flit_of))]
+#[tactic(auto, unfolding(
+// the place on the wire
+state::proofs::SoundStates::with_wire_place, state::proofs::SoundStates::on,
+// and the flit in it
+state::proofs::SoundStates::single, base::specs::Flit::flit_of))]
 fn wire_rest() -> Router
     ensures { result ≡ broken the_wire_rest }
 {
@@ -82,7 +90,11 @@ fn credits() -> Router
 }
 
 // queued to a port that there is not
-#[tactic(auto, unfolding(state::proofs::SoundStates::with_input, state::proofs::SoundStates::with_slot, state::proofs::SoundStates::single, base::specs::Flit::flit_of))]
+#[tactic(auto, unfolding(
+// the queue's place
+state::proofs::SoundStates::with_input, state::proofs::SoundStates::with_slot,
+// and the flit in it
+state::proofs::SoundStates::single, base::specs::Flit::flit_of))]
 fn queues() -> Router
     ensures { result ≡ broken the_queues }
 {

@@ -41,7 +41,11 @@ pub(crate) fn turns() -> Router
 }
 
 // An input VC that is not bound, with these counts.
-#[tactic(auto, unfolding(state::proofs::SoundStates::turns, state::proofs::SoundStates::config, state::proofs::SoundStates::unbound, state::specs::Fresh::fresh_router))]
+#[tactic(auto, unfolding(
+// the router that it is taken from
+state::proofs::SoundStates::turns, state::proofs::SoundStates::config, state::specs::Fresh::fresh_router,
+// and the input VC
+state::proofs::SoundStates::unbound))]
 pub(crate) fn unbound(credit: u8, opened: bool, queued: u8) -> InputVc
     ensures { result ≡ unbound credit opened queued }
 {

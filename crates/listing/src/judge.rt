@@ -1,5 +1,9 @@
 // What a write tests before its first byte: 12, that each value of its lines is in its range; 11, that there is room.
-#![tactic(auto, unfolding(crate::specs::Lines::printable, crate::specs::Lines::values_of, crate::specs::Lines::all_in_range, base::specs::Sizes::in_range))]
+#![tactic(auto, unfolding(
+// a line's values
+crate::specs::Lines::printable, crate::specs::Lines::values_of,
+// and their ranges
+crate::specs::Lines::all_in_range, base::specs::Sizes::in_range))]
 
 ghost use Rattle.std.specs.Prelude.{◌≡◌, not, [], ◌∷◌};
 ghost use Rattle.base.specs.Sizes.{most_ports};
