@@ -40,10 +40,15 @@ pub(crate) fn is_usable(places: usize, code: u8, n: u32, pointer: u32) -> bool
     is_known(places, code, n) && (code != ROUND_ROBIN || pointer < n)
 }
 
+// One test at the end, so that the rows are taken many at a time.
 fn are_zero(rows: &[u32]) -> bool
     ensures { result ≡ list_all (λ (row : ℕ). row == 0) rows.now }
 {
-    rows.iter().all(|row| *row == 0)
+    let mut any = 0;
+    for row in rows {
+        any |= *row;
+    }
+    any == 0
 }
 
 // Whether all rows from `from` on are zero.

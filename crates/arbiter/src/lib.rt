@@ -63,19 +63,21 @@ impl<const PLACES: usize> Arbiter<PLACES> {
         ensures { result ≡ moved PLACES code (width PLACES n) w self.entry }
     {
         let n = given::width(PLACES, n);
-        let mut moved = self;
         if !given::is_usable(PLACES, code, n, self.pointer) {
-            return moved;
+            return self;
         }
         if n <= w {
-            return moved;
+            return self;
         }
         if code == ROUND_ROBIN {
-            moved.pointer = round_robin::next(n, w);
-            return moved;
+            return Arbiter {
+                pointer: round_robin::next(n, w),
+                ..self
+            };
         }
-        matrix::defeat(n, w, &mut moved.rows);
-        moved
+        let mut rows = self.rows;
+        matrix::defeat(n, w, &mut rows);
+        Arbiter { rows, ..self }
     }
 
     // Whether this is a sound arbiter of this kind and width.
