@@ -35,7 +35,7 @@ pub fn push(channel: usize, queued: u8, flit: Flit, store: &mut [u64; 512])
 }
 
 // Phase 7: the front leaves its queue. All sixteen slots move, so that it need not be told how many are queued.
-#[tactic(auto, unfolding(crate::specs::Store::popped), using(crate::proofs::Slots::pop_copied, crate::proofs::Slots::pop_beyond))]
+#[tactic(auto, using(crate::proofs::Slots::pop_beyond))]
 pub fn pop(channel: usize, store: &mut [u64; 512])
     ensures { store.new ≡ popped store.old channel }
 {
