@@ -2,10 +2,11 @@
 ghost use Rattle.std.specs.Prelude.{◌≡◌};
 ghost use Rattle.state.specs.Fresh.{fresh_output};
 ghost use Rattle.base.specs.Sizes.{sized};
+ghost use Rattle.base.specs.Reply.{empty_reply};
 ghost use Rattle.state.proofs.SoundStates.{turns, unbound};
 ghost use Rattle.edges.specs.States.{busy};
 
-use base::Config;
+use base::{Config, Reply};
 use state::{Binding, InVc, InputVc, OutVc, OutputVc, Router};
 
 // Words of flits with payload 7: S and H to output 1, B. On the wire a flit's VC stands above it.
@@ -38,6 +39,16 @@ pub(crate) fn turns() -> Router
 {
     let built = state::fresh(config(3, 2));
     built.router
+}
+
+// An empty reply, field by field, so that what a step answers is not compared with what it may be made of.
+pub(crate) fn no_reply() -> Reply
+    ensures { result ≡ empty_reply }
+{
+    Reply {
+        senders: [None; 8],
+        outputs: [None; 8],
+    }
 }
 
 // An input VC that is not bound, with these counts.

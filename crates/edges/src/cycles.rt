@@ -1,7 +1,7 @@
 // The end of a run, parts of a wrong length, and offers that are refused.
-use crate::building::{busy, turns};
+use crate::building::{busy, no_reply, turns};
 use crate::refusing::refused;
-use base::{CREDIT_PAST_ROOM, NO_SENDER_CREDIT, OUT_OF_TURN, ROW_WRONG, RUN_FULL, Reply};
+use base::{CREDIT_PAST_ROOM, NO_SENDER_CREDIT, OUT_OF_TURN, ROW_WRONG, RUN_FULL};
 use check::expect;
 
 // Cycle 999,999,999 is accepted and is the last; an empty one alters the count alone.
@@ -14,7 +14,7 @@ pub(crate) fn last_cycle() {
     let stepped = router::step(before, &part);
     expect(stepped.verdict == Ok(()));
     expect(stepped.router == end);
-    expect(stepped.reply == Reply::empty());
+    expect(stepped.reply == no_reply());
 }
 
 // 10, and before 3: whatever the part.

@@ -3,7 +3,8 @@ ghost use Rattle.std.specs.Prelude.{◌≡◌};
 ghost use Rattle.base.specs.Refusal.{refusing};
 ghost use Rattle.rules.specs.Step.{step_of};
 
-use base::{Refusal, Reply};
+use crate::building::no_reply;
+use base::Refusal;
 use check::expect;
 use state::Router;
 
@@ -18,5 +19,5 @@ pub(crate) fn refused(before: Router, part: &[u8], number: u8, port: u8)
     };
     expect(stepped.verdict == Err(refusal));
     expect(stepped.router == before);
-    expect(stepped.reply == Reply::empty());
+    expect(stepped.reply == no_reply());
 }
