@@ -33,7 +33,7 @@ pub(crate) fn is_matrix(places: usize, code: u8, n: u32) -> bool
 }
 
 // A matrix has no pointer to be asked for.
-#[tactic(auto, unfolding(crate::specs::Arbiter::usable))]
+#[tactic(auto, unfolding(crate::specs::Arbiter::usable, crate::specs::Arbiter::known))]
 pub(crate) fn is_usable(places: usize, code: u8, n: u32, pointer: u32) -> bool
     ensures { result ≡ usable places code n pointer }
 {
